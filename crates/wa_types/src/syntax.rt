@@ -1,0 +1,117 @@
+use crate::instrs::Instr;
+use crate::names::Name;
+use crate::values::ValType;
+
+/// A function type (standard, section 2.3.3).
+#[derive(Debug, Drop)]
+pub struct FuncType {
+    pub params: Vec<ValType>,
+    pub results: Vec<ValType>,
+}
+
+/// So many locals of one type, one behind another (standard, section 5.5.13).
+#[derive(Clone, Copy, Debug, PartialEq, Eq)]
+pub struct Run {
+    pub count: u32,
+    pub ty: ValType,
+}
+
+/// A defined function (standard, section 2.5.3): the index of its type, its declared locals in runs, its
+/// body without the end.
+#[derive(Debug, Drop)]
+pub struct Func {
+    pub sort: u32,
+    pub locals: Vec<Run>,
+    pub body: Vec<Instr>,
+}
+
+/// The limits of a table in entries, or of a memory in pages of 65,536 bytes (standard, section 2.3.4).
+#[derive(Clone, Copy, Debug, PartialEq, Eq)]
+pub struct Limits {
+    pub min: u32,
+    pub max: Option<u32>,
+}
+
+/// A defined global (standard, section 2.5.6); `init` is its initialiser without the end.
+#[derive(Debug, Drop)]
+pub struct GlobalDef {
+    pub ty: ValType,
+    pub mutable: bool,
+    pub init: Vec<Instr>,
+}
+
+/// What is imported (standard, section 2.5.11): a function by the index of its type, a table, a memory, or
+/// a global by its type and whether it is mutable.
+#[derive(Clone, Copy, Debug, PartialEq, Eq)]
+pub enum ImportKind {
+    Func(u32),
+    Table(Limits),
+    Memory(Limits),
+    Global(ValType, bool),
+}
+
+/// An import under its two names (standard, section 2.5.11).
+#[derive(Debug, Drop)]
+pub struct Import {
+    pub module: Name,
+    pub base: Name,
+    pub kind: ImportKind,
+}
+
+/// The index space of an export (standard, section 2.5.1).
+#[derive(Clone, Copy, Debug, PartialEq, Eq)]
+pub enum Space {
+    Func,
+    Table,
+    Memory,
+    Global,
+}
+
+/// An export (standard, section 2.5.10).
+#[derive(Debug, Drop)]
+pub struct Export {
+    pub name: Name,
+    pub space: Space,
+    pub index: u32,
+}
+
+/// An element segment (standard, section 2.5.7); `offset` is an expression without its end.
+#[derive(Debug, Drop)]
+pub struct Elem {
+    pub table: u32,
+    pub offset: Vec<Instr>,
+    pub funcs: Vec<u32>,
+}
+
+/// A data segment (standard, section 2.5.8); `offset` is an expression without its end.
+#[derive(Debug, Drop)]
+pub struct Segment {
+    pub memory: u32,
+    pub offset: Vec<Instr>,
+    pub bytes: Vec<u8>,
+}
+
+/// A custom section (standard, section 5.5.3). It stands behind all known sections of an id up to `after`;
+/// 0 is before all of them.
+#[derive(Debug, Drop)]
+pub struct Custom {
+    pub after: u8,
+    pub name: Name,
+    pub bytes: Vec<u8>,
+}
+
+/// A module (standard, section 2.5). Its lists are in index order, imports before what is defined.
+#[derive(Debug, Drop)]
+pub struct Module {
+    pub types: Vec<FuncType>,
+    pub imports: Vec<Import>,
+    pub funcs: Vec<Func>,
+    pub tables: Vec<Limits>,
+    pub memories: Vec<Limits>,
+    pub globals: Vec<GlobalDef>,
+    pub exports: Vec<Export>,
+    pub start: Option<u32>,
+    pub elems: Vec<Elem>,
+    pub segments: Vec<Segment>,
+    pub customs: Vec<Custom>,
+}
