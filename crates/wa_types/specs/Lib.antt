@@ -1,1 +1,5 @@
+pub mod Encoding
+pub mod Leb
 pub mod Operators
+pub mod Syntax
+pub mod View

@@ -8,12 +8,14 @@
 #![tactic(auto)]
 
 mod instrs;
+mod leb;
 mod names;
 mod operators;
 mod syntax;
 mod values;
 
 pub use instrs::Instr;
+pub use leb::LebFault;
 pub use names::Name;
 pub use operators::NumOp;
 pub use syntax::{
