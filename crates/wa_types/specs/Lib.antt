@@ -1,5 +1,6 @@
 pub mod Encoding
 pub mod Leb
 pub mod Operators
+pub mod Runtime
 pub mod Syntax
 pub mod View
