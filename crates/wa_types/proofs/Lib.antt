@@ -1,1 +1,4 @@
+pub mod LebLemmas
+pub mod SignedSpelling
+pub mod UnsignedSpelling
 pub mod ViewLemmas
