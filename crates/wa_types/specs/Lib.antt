@@ -1,5 +1,6 @@
 pub mod Encoding
 pub mod Leb
 pub mod Operators
+pub mod Pruned
 pub mod Syntax
 pub mod View
