@@ -1,8 +1,11 @@
 pub mod Accesses
 pub mod Encoding
+pub mod FirstFault
 pub mod Leb
+pub mod Modules
 pub mod Operators
 pub mod Pruned
 pub mod Syntax
 pub mod Typing
+pub mod Validity
 pub mod View
