@@ -1,6 +1,12 @@
+pub mod Accesses
 pub mod Encoding
+pub mod FirstFault
 pub mod Leb
+pub mod Modules
 pub mod Operators
 pub mod Runtime
+pub mod Pruned
 pub mod Syntax
+pub mod Typing
+pub mod Validity
 pub mod View
