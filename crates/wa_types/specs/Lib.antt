@@ -4,8 +4,8 @@ pub mod FirstFault
 pub mod Leb
 pub mod Modules
 pub mod Operators
-pub mod Runtime
 pub mod Pruned
+pub mod Runtime
 pub mod Syntax
 pub mod Typing
 pub mod Validity
