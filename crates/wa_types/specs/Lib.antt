@@ -1,9 +1,15 @@
 pub mod Accesses
+pub mod Bounds
+pub mod Counts
 pub mod Encoding
 pub mod FirstFault
+pub mod Frames
 pub mod Leb
+pub mod Liveness
 pub mod Modules
 pub mod Operators
+pub mod Pausing
+pub mod Points
 pub mod Pruned
 pub mod Syntax
 pub mod Typing
