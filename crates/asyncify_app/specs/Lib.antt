@@ -2,3 +2,4 @@ pub mod Command
 pub mod Lines
 pub mod Small
 pub mod Transforms
+pub mod Words

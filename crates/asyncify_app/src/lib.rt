@@ -1,2 +1,7 @@
 //! The commands.
 #![tactic(auto)]
+
+mod lines;
+mod words;
+
+pub use words::{Command, read_words};
