@@ -40,6 +40,6 @@ write_fault_line name = codes "write fault " ++ printed_name name ++ line_end
 
 -- what `transform` prints: how many functions the module defines, how many of them are instrumented, and how
 -- many bytes were written
-abbrev pub done_line : (functions instrumented bytes : ℕ) → List ℕ
+unfoldable pub done_line : (functions instrumented bytes : ℕ) → List ℕ
 done_line functions instrumented bytes =
     codes "ok functions " ++ decimal functions ++ codes " instrumented " ++ decimal instrumented ++ codes " bytes " ++ decimal bytes ++ line_end

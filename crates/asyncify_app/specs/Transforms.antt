@@ -44,6 +44,10 @@ IsRefusalLine input output line =
 abbrev pub Prints : List ℕ → ℕ → ℕ → List ℕ → List ℕ → Type 0
 Prints line faults faults' old new = Appends line old new ⊎ (AppendsLess line old new × HasRisen faults faults')
 
+-- some first bytes of the line on memory were printed
+abbrev pub EndsInMemory : List ℕ → List ℕ → Type 0
+EndsInMemory old new = (k : ℕ) × (new ≡ old ++ take k memory_line)
+
 -- some first bytes of this line, and then some of the line on memory, were printed
 abbrev pub PrintsMemory : List ℕ → List ℕ → List ℕ → Type 0
-PrintsMemory line old new = (n k : ℕ) × (new ≡ old ++ take n line ++ take k memory_line)
+PrintsMemory line old new = (n : ℕ) × (k : ℕ) × (new ≡ old ++ take n line ++ take k memory_line)

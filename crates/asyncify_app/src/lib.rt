@@ -2,6 +2,7 @@
 #![tactic(auto)]
 
 mod lines;
+mod printing;
 mod words;
 
 pub use words::{Command, read_words};
