@@ -18,6 +18,11 @@ IsWrittenAs bytes m = IsSmall m × (bytes ≡ Enc m)
 abbrev pub HoldsSmall : List ℕ → Type 0
 HoldsSmall bytes = (m : Module) × IsWrittenAs bytes m
 
+-- the bytes are a small module of so many functions, and the text is that module with the runtime's parts
+abbrev pub IsRewritten : List ℕ → ℕ → List ℕ → Type 0
+IsRewritten bytes functions text =
+    (m : Module) × IsWrittenAs bytes m × (functions ≡ length m.funcs) × (text ≡ Enc (with_runtime m))
+
 -- OUT holds the small module of IN with the runtime's parts, and the other files are as before.
 pub record IsTransformed (input output : List ℕ) (old new : Files) : Type 0 where
   pub «module» : Module
@@ -29,6 +34,11 @@ pub record IsCutShort (input output : List ℕ) (old new : Files) : Type 0 where
   pub left : (new output ≡ old output)
       ⊎ ((m : Module) × IsWrittenAs (bytes_of old input) m × (n : ℕ) × (new output ≡ Some (take n (Enc (with_runtime m)))))
   pub others : KeepsOthers output old new
+
+-- the functions of the small module that these bytes spell, and the bytes of what is written
+abbrev pub IsCount : List ℕ → ℕ → ℕ → Type 0
+IsCount source functions bytes =
+    (m : Module) × IsWrittenAs source m × (functions ≡ length m.funcs) × (bytes ≡ length (Enc (with_runtime m)))
 
 -- the line of the small module that these bytes spell, and of what was written
 abbrev pub IsDoneLine : List ℕ → List ℕ → Type 0

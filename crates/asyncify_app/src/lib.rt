@@ -3,6 +3,8 @@
 
 mod lines;
 mod printing;
+mod source;
+mod transform;
 mod words;
 
 pub use words::{Command, read_words};
