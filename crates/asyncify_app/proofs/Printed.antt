@@ -1,11 +1,12 @@
 -- What was printed, piece after piece.
-use Rattle.std.proofs.Common.{◌≡◌, ℕ, ◌++◌, ◌<◌, List, [], ◌∷◌, Option, Some, None, Result, Ok, Err, refl, sym, ap, ◌∙◌, take, length, append_assoc}
+use Rattle.std.proofs.Common.{◌≡◌, ℕ, ◌++◌, ◌<◌, List, [], ◌∷◌, Option, Some, None, Result, Ok, Err, refl, sym, ap, ◌∙◌, take, length, append_assoc, inl}
 use Rattle.std.specs.Prelude.{OnOk, OnErr}
 use Rattle.std.proofs.lemmas.List.{append-nil, take_all}
 use Rattle.vault_port.specs.Told.{Becomes}
 use Rattle.vault_port.specs.Taken.{Appends, AppendsLess}
-use Rattle.asyncify_app.specs.Lines.{memory_line}
-use Rattle.asyncify_app.specs.Transforms.{EndsInMemory, PrintsMemory}
+use Rattle.asyncify_app.specs.Lines.{memory_line, not_built_line}
+use Rattle.asyncify_app.specs.Transforms.{EndsInMemory, PrintsMemory, RunsOutOfMemory}
+use Rattle.vault_port.specs.Files.{Files}
 
 -- one way or the other
 pub either_way : {T E C : Type 0} → (r : Result T E) → (A B : Type 0) → OnOk r A → OnErr r B → (A → C) → (B → C) → C
@@ -41,3 +42,10 @@ memory_behind line None None (Some z) g h = h
 memory_behind line (Some x) (Some y) None g h = h
 memory_behind line None (Some y) new g h = absurd g
 memory_behind line (Some x) None new g h = absurd g
+
+-- the line on memory alone, where any line might have been begun
+pub memory_any : (files : Option Files) (input output : List ℕ) (old new : Option (List ℕ)) → Becomes old new EndsInMemory → Becomes old new (RunsOutOfMemory files input output)
+memory_any files input output None None h = tt
+memory_any files input output (Some x) (Some y) h = (not_built_line, inl refl, memory_alone not_built_line (Some x) (Some y) h)
+memory_any files input output None (Some y) h = h
+memory_any files input output (Some x) None h = h

@@ -81,3 +81,18 @@ counted input bytes text functions len (Some a) l read w = (w.0, written_as byte
 pub none_held : (input bytes : List ℕ) (old : Option Files) → WhereTold old (λ all. bytes ≡ take 8388609 (bytes_of all input)) → (HoldsSmall bytes → ⊥) → WhereTold old (λ all. HoldsSmall (bytes_of all input) → ⊥)
 none_held input bytes None read none = tt
 none_held input bytes (Some a) read none = λ h. none (h.0, let w = written_front (bytes_of a input) h.0 h.1 in (w.0, read ∙ w.1))
+
+-- a small module is in the file
+pub held : (input bytes text : List ℕ) (functions : ℕ) (old : Option Files) → WhereTold old (λ all. bytes ≡ take 8388609 (bytes_of all input)) → IsRewritten bytes functions text → WhereTold old (λ all. HoldsSmall (bytes_of all input))
+held input bytes text functions None read w = tt
+held input bytes text functions (Some a) read w = (w.0, written_as bytes (bytes_of a input) w.0 read w.1)
+
+cut_of_transformed : (input output : List ℕ) (a b : Files) → IsTransformed input output a b → IsCutShort input output a b
+cut_of_transformed input output a b t = record {
+  left = inr (t.«module», t.source, length (Enc (with_runtime t.«module»)), t.written.changed ∙ ap (λ (s : List ℕ). Some s) (sym (take_all (length (Enc (with_runtime t.«module»))) (Enc (with_runtime t.«module»)) (omega arith))));
+  others = t.written.others;
+}
+
+-- what is whole is a first part too
+pub transformed_is_cut : (input output : List ℕ) (old new : Option Files) → Becomes old new (IsTransformed input output) → Becomes old new (IsCutShort input output)
+transformed_is_cut input output old new h = becomes_by (IsTransformed input output) (IsCutShort input output) old new (λ a b e t. cut_of_transformed input output a b t) h

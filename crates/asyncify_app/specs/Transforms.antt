@@ -40,15 +40,15 @@ abbrev pub IsCount : List ℕ → ℕ → ℕ → Type 0
 IsCount source functions bytes =
     (m : Module) × IsWrittenAs source m × (functions ≡ length m.funcs) × (bytes ≡ length (Enc (with_runtime m)))
 
--- the line of the small module that these bytes spell, and of what was written
-abbrev pub IsDoneLine : List ℕ → List ℕ → Type 0
-IsDoneLine bytes line =
-    (m : Module) × IsWrittenAs bytes m × (line ≡ done_line (length m.funcs) 0 (length (Enc (with_runtime m))))
+-- the line of a module that was written; where the files are told, that of the small module in IN
+abbrev pub IsDoneLine : Option Files → List ℕ → List ℕ → Type 0
+IsDoneLine files input line =
+    (functions : ℕ) × (bytes : ℕ) × (line ≡ done_line functions 0 bytes) × WhereTold files (λ all. IsCount (bytes_of all input) functions bytes)
 
--- The lines of the refusals, by status; 9 has a line of its own.
-abbrev pub IsRefusalLine : List ℕ → List ℕ → List ℕ → Type 0
-IsRefusalLine input output line =
-    (line ≡ usage_line) ⊎ (line ≡ not_built_line) ⊎ (line ≡ read_fault_line input) ⊎ (line ≡ write_fault_line output)
+-- the line of a refusal, or of a module that was written
+abbrev pub IsLine : Option Files → List ℕ → List ℕ → List ℕ → Type 0
+IsLine files input output line =
+    (line ≡ not_built_line) ⊎ (line ≡ read_fault_line input) ⊎ (line ≡ write_fault_line output) ⊎ IsDoneLine files input line
 
 -- the line was printed, or less of it where the sink has failed
 abbrev pub Prints : List ℕ → ℕ → ℕ → List ℕ → List ℕ → Type 0
@@ -61,3 +61,15 @@ EndsInMemory old new = (k : ℕ) × (new ≡ old ++ take k memory_line)
 -- some first bytes of this line, and then some of the line on memory, were printed
 abbrev pub PrintsMemory : List ℕ → List ℕ → List ℕ → Type 0
 PrintsMemory line old new = (n : ℕ) × (k : ℕ) × (new ≡ old ++ take n line ++ take k memory_line)
+
+-- the line of the module that was written was printed
+abbrev pub PrintsDone : Option Files → List ℕ → List ℕ → List ℕ → Type 0
+PrintsDone files input old new = (line : List ℕ) × IsDoneLine files input line × Appends line old new
+
+-- less of that line was printed
+abbrev pub PrintsLess : Option Files → List ℕ → List ℕ → List ℕ → Type 0
+PrintsLess files input old new = (line : List ℕ) × IsDoneLine files input line × AppendsLess line old new
+
+-- some first bytes of a line of the command, and then some of the line on memory, were printed
+abbrev pub RunsOutOfMemory : Option Files → List ℕ → List ℕ → List ℕ → List ℕ → Type 0
+RunsOutOfMemory files input output old new = (line : List ℕ) × IsLine files input output line × PrintsMemory line old new

@@ -1,6 +1,7 @@
 //! The commands.
 #![tactic(auto)]
 
+mod command;
 mod lines;
 mod printing;
 mod source;

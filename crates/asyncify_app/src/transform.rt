@@ -1,5 +1,5 @@
 // The command `transform`.
-ghost use Rattle.std.specs.Prelude.{◌≡◌, ◌⊎◌, ◌≤◌, IfOk, IsErrOf, OnOk, OnErr};
+ghost use Rattle.std.specs.Prelude.{◌≡◌, ◌⊎◌, ◌≤◌, IfOk, IsErrOf, OnOk, OnErr, IsSome};
 ghost use Rattle.vault_port.specs.Counts.{HasRisen};
 ghost use Rattle.vault_port.specs.Files.{bytes_of, IsMissing};
 ghost use Rattle.vault_port.specs.Told.{WhereTold, Becomes};
@@ -51,6 +51,10 @@ pub fn transform<V: Vault>(
         ⊎ IsMissing (V.files vault.old) input.now }
     ensures refused { IsErrOf result TransformFault.NotBuilt → WhereTold (V.files vault.old) (λ all.
         HoldsSmall (bytes_of all input.now) → ⊥) }
+    ensures there { IsErrOf result TransformFault.Read ⊎ IsErrOf result TransformFault.Memory
+        ⊎ WhereTold (V.files vault.old) (λ all. IsSome (all input.now)) }
+    ensures source { IsErrOf result TransformFault.Write → WhereTold (V.files vault.old) (λ all.
+        HoldsSmall (bytes_of all input.now)) }
     ensures write { IsErrOf result TransformFault.Write
         → HasRisen (V.save_faults vault.old) (V.save_faults vault.new) }
     ensures kept { IsErrOf result TransformFault.Read ⊎ IsErrOf result TransformFault.NotBuilt

@@ -1,7 +1,7 @@
 -- What the two files have to do with the module that was read.
 use Rattle.std.proofs.Common.{ℕ, List, sym, ◌∙◌, subst}
 use Rattle.asyncify_app.specs.Transforms.{HoldsSmall, IsRewritten}
-use Rattle.asyncify_app.proofs.Transforming.{transformed, cut_short, counted, none_held}
+use Rattle.asyncify_app.proofs.Transforming.{transformed, cut_short, counted, none_held, held}
 use Rattle.asyncify_app.proofs.transform.transform.Goals as goal
 
 pub returns-in-Err-NotBuilt-clause-refused : goal.returns-in-Err-NotBuilt-clause-refused
@@ -26,3 +26,7 @@ pub returns-clause-cut : goal.returns-clause-cut
 returns-clause-cut g c =
     cut_short c.args.input.now c.args.output.now c.in-Ok.bytes.items c.in-Ok-rewrite.written.text.items c.in-Ok-rewrite.written.functions _ _ _ c.fetch_whole.ensures.kept c.in-Ok.ensures.whole
     (rw c.deref.ensures.value at c.in-Ok-rewrite.ensures.done) (rw c.deref-2.ensures at c.in-Err-Memory-save_whole.ensures.cut)
+
+pub returns-in-Err-Write-clause-source : goal.returns-in-Err-Write-clause-source
+returns-in-Err-Write-clause-source g c = λ h.
+    held c.args.input.now c.in-Ok.bytes.items c.in-Ok-rewrite.written.text.items c.in-Ok-rewrite.written.functions _ c.in-Ok.ensures.whole (rw c.deref.ensures.value at c.in-Ok-rewrite.ensures.done)
