@@ -32,10 +32,10 @@ not_built_line = codes "not yet built" ++ line_end
 abbrev pub memory_line : List ℕ
 memory_line = codes "out of memory" ++ line_end
 
-abbrev pub read_fault_line : List ℕ → List ℕ
+unfoldable pub read_fault_line : List ℕ → List ℕ
 read_fault_line name = codes "read fault " ++ printed_name name ++ line_end
 
-abbrev pub write_fault_line : List ℕ → List ℕ
+unfoldable pub write_fault_line : List ℕ → List ℕ
 write_fault_line name = codes "write fault " ++ printed_name name ++ line_end
 
 -- what `transform` prints: how many functions the module defines, how many of them are instrumented, and how

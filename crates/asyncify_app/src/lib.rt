@@ -8,4 +8,4 @@ mod source;
 mod transform;
 mod words;
 
-pub use words::{Command, read_words};
+pub use command::asyncify;
