@@ -5,7 +5,7 @@ use Rattle.std.specs.Str.{bytes_eq}
 use Rattle.std.proofs.lemmas.Slice.Eq.{bytes_eq-Decides}
 use Rattle.std.proofs.lemmas.List.{take_more, set_split, set-get_or}
 use Rattle.vault_port.specs.declared.sure_vault.NamedFile.{NamedFile}
-use Rattle.vault_port.specs.Files.{Files, bytes_of, ChangesOnly}
+use Rattle.vault_port.specs.Files.{bytes_of, ChangesOnly}
 use Rattle.vault_port.specs.InMemory.{files_of, IsFirstOf}
 
 pick : {A : Type 0} (b : Bool) (x : A) (p q r : Option A) → p ≡ option_or q r → cond b (Some x) p ≡ option_or (cond b (Some x) q) r
@@ -65,10 +65,10 @@ ChangesOnly_set files name bytes i old new is same holds first =
     record {
       changed = ap (λ all. files_of all name) now ∙ files_of-found (take i files) (drop (suc i) files) new name first.first (same ∙ named) ∙ ap Some holds;
       others = λ other differs.
-        ap (λ all. files_of all other) now
-        ∙ files_of-skip (take i files) (drop (suc i) files) new other (λ e. differs (sym e ∙ same ∙ named))
-        ∙ sym (files_of-skip (take i files) (drop (suc i) files) old other (λ e. differs (sym e ∙ named)))
-        ∙ ap (λ all. files_of all other) (sym (split_at files i old first.within is))
+          ap (λ all. files_of all other) now
+          ∙ files_of-skip (take i files) (drop (suc i) files) new other (λ e. differs (sym e ∙ same ∙ named))
+          ∙ sym (files_of-skip (take i files) (drop (suc i) files) old other (λ e. differs (sym e ∙ named)))
+          ∙ ap (λ all. files_of all other) (sym (split_at files i old first.within is));
     }
 
 none_behind : {A : Type 0} (o : Option A) → option_or o None ≡ o
@@ -80,5 +80,5 @@ pub ChangesOnly_push : (files : List NamedFile) (name bytes : List ℕ) (file : 
 ChangesOnly_push files name bytes file is holds none =
     record {
       changed = files_of-found files [] file name none is ∙ ap Some holds;
-      others = λ other differs. files_of-skip files [] file other (λ e. differs (sym e ∙ is)) ∙ none_behind (files_of files other)
+      others = λ other differs. files_of-skip files [] file other (λ e. differs (sym e ∙ is)) ∙ none_behind (files_of files other);
     }

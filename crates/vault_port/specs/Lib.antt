@@ -4,3 +4,4 @@ pub mod Files
 pub mod Taken
 pub mod Schedule
 pub mod InMemory
+pub mod Real

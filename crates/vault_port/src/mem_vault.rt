@@ -65,7 +65,7 @@ impl Vault for MemVault {
         // A file that is there is refused exactly where the call's number is in the list.
         ensures failed { IsErrOf result VaultFail.Failed
             ↔ (IsSome (mem_files self.old name.now)
-                × Contains (failing (vault_schedule self.old)) (next_call (vault_schedule self.old))) }
+            × Contains (failing (vault_schedule self.old)) (next_call (vault_schedule self.old))) }
         ensures called { GoesOn (vault_schedule self.old) (vault_schedule self.new) }
         ensures rises { IsErrOf result VaultFail.Failed
             → failed_fetches self.new ≡ one_more (failed_fetches self.old) }

@@ -131,10 +131,10 @@ fn replace_end(
     requires { place < vec_len files.old }
     ensures ok { OnOk result ((name : List ℕ) → IsFirstOf files.old.items name place
         → ChangesOnly name (take from (bytes_of (files_of files.old.items) name) ++ piece.now)
-            (files_of files.old.items) (files_of files.new.items)) }
+        (files_of files.old.items) (files_of files.new.items)) }
     ensures err { OnErr result ((name : List ℕ) → IsFirstOf files.old.items name place
         → ChangesOnly name (take from (bytes_of (files_of files.old.items) name))
-            (files_of files.old.items) (files_of files.new.items)) }
+        (files_of files.old.items) (files_of files.new.items)) }
 {
     let file = &mut files[place];
     file.bytes.truncate(from);
