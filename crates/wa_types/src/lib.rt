@@ -12,14 +12,22 @@ mod leb;
 mod names;
 mod operators;
 mod syntax;
+mod typing_laws;
 mod values;
 
 pub use instrs::Instr;
-pub use leb::LebFault;
+pub use leb::{
+    LebFault, Spelling, read_s32, read_s64, read_u32, signed_spelling_laws, unsigned_spelling_laws,
+    write_s32, write_s64, write_u32,
+};
 pub use names::Name;
 pub use operators::NumOp;
 pub use syntax::{
     Custom, Elem, Export, Func, FuncType, GlobalDef, Import, ImportKind, Limits, Module, Run,
     Segment, Space,
+};
+pub use typing_laws::{
+    fault_is_first, one_first_fault, pruned_types, up_to_is_cut, valid_has_no_fault,
+    valid_is_all_hold,
 };
 pub use values::{Trap, ValType, Value};

@@ -1,0 +1,11 @@
+pub mod LebAnswers
+pub mod LebLemmas
+pub mod SignedReads
+pub mod SignedSpelling
+pub mod UnsignedReads
+pub mod UnsignedSpelling
+pub mod SigLemmas
+pub mod TypingLemmas
+pub mod Cuts
+pub mod FaultLemmas
+pub mod ViewLemmas
