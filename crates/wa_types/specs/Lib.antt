@@ -5,6 +5,7 @@ pub mod Encoding
 pub mod FirstFault
 pub mod Frames
 pub mod Leb
+pub mod Memory
 pub mod Liveness
 pub mod Modules
 pub mod Operators
