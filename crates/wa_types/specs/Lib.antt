@@ -1,5 +1,14 @@
+pub mod Begun
+pub mod Binary
 pub mod Encoding
 pub mod Leb
+pub mod Marks
+pub mod Norm
+pub mod Opcodes
 pub mod Operators
+pub mod Pruned
+pub mod Reading
+pub mod Sizes
+pub mod Spells
 pub mod Syntax
 pub mod View
