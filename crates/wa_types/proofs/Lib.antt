@@ -1,1 +1,9 @@
+pub mod CodeReads
+pub mod EntryReads
+pub mod Going
+pub mod Items
+pub mod Leaves
+pub mod NumberReading
+pub mod Runs
+pub mod Vectors
 pub mod ViewLemmas

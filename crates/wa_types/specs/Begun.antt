@@ -65,13 +65,13 @@ wants (name_bytes n) = a_name n
 wants (float_bytes n) = a_constant_of n
 wants _ = a_byte
 
--- The bytes are an item of this value.
+-- The bytes are an item of this value, at least one.
 abbrev pub IsItem : Item → List ℕ → ℕ → Type 0
 IsItem a_byte bytes v = bytes ≡ v ∷ []
 IsItem an_unsigned bytes v = IsUnsigned 32 bytes v
 IsItem (a_signed bits) bytes v = IsSigned bits bytes v
-IsItem (a_name n) bytes v = (length bytes ≡ n) × IsUtf8 bytes × (v ≡ 0)
-IsItem (a_constant_of n) bytes v = (length bytes ≡ n) × (v ≡ 0)
+IsItem (a_name n) bytes v = (0 < n) × (length bytes ≡ n) × IsUtf8 bytes × (v ≡ 0)
+IsItem (a_constant_of n) bytes v = (0 < n) × (length bytes ≡ n) × (v ≡ 0)
 
 -- The bytes are a part of an item: a number is judged at each byte, a name and a float when all their bytes
 -- are there.
