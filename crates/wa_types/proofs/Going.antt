@@ -31,7 +31,7 @@ stands : (at : ℕ) (g : Goal) (gs : List Goal) → closing g ≡ open_ended →
 unfolding settled
 stands at g gs e = rw e refl
 
-first_item : (g : Goal) (gs : List Goal) (last at : ℕ) (bytes : List ℕ) (hs : List Goal) → hs ≡ sections last 0 ∷ [] → is_sections g ≡ false → Leads at (g ∷ gs) bytes hs → First g gs last at bytes
+pub first_item : (g : Goal) (gs : List Goal) (last at : ℕ) (bytes : List ℕ) (hs : List Goal) → hs ≡ sections last 0 ∷ [] → is_sections g ≡ false → Leads at (g ∷ gs) bytes hs → First g gs last at bytes
 first_item g gs last at bytes hs e o arrived = absurd (let p : g ≡ sections last 0 = cc in let q : true ≡ false = sym (ap is_sections p) ∙ o in cc)
 first_item g gs last at bytes hs e o (item a b v ks f i s l) = record {
   front = a;

@@ -1,9 +1,11 @@
 pub mod CodeReads
 pub mod EntryReads
+pub mod FileReads
 pub mod Going
 pub mod Items
 pub mod Leaves
 pub mod NumberReading
 pub mod Runs
+pub mod SectionReads
 pub mod Vectors
 pub mod ViewLemmas
