@@ -3,3 +3,4 @@ pub mod TypingLemmas
 pub mod Cuts
 pub mod FaultLemmas
 pub mod ViewLemmas
+pub mod WeightLemmas
