@@ -4,3 +4,5 @@ pub mod Cuts
 pub mod FaultLemmas
 pub mod ViewLemmas
 pub mod WeightLemmas
+pub mod LiveLemmas
+pub mod PointLemmas
