@@ -19,3 +19,6 @@ pub mod UnsignedReads
 pub mod UnsignedSpelling
 pub mod Vectors
 pub mod ViewLemmas
+pub mod WeightLemmas
+pub mod LiveLemmas
+pub mod PointLemmas

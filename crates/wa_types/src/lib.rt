@@ -7,6 +7,7 @@
 //! module is written as (`specs/Encoding.antt`).
 #![tactic(auto)]
 
+mod control;
 mod instrs;
 mod leb;
 mod names;
@@ -14,6 +15,7 @@ mod operators;
 mod syntax;
 mod typing_laws;
 mod values;
+mod weights;
 
 pub use instrs::Instr;
 pub use leb::{
@@ -31,3 +33,4 @@ pub use typing_laws::{
     valid_is_all_hold,
 };
 pub use values::{Trap, ValType, Value};
+pub use weights::weight;

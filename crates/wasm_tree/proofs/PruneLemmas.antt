@@ -7,9 +7,9 @@ use Rattle.wa_types.specs.declared.instrs.Instr.{Instr}
 use Rattle.wa_types.specs.declared.instrs.Instr.TheVariants.{Unreachable, Nop, Drop, Select, Return, MemorySize, MemoryGrow, Const, Num, Br, BrIf, BrTable, Call, CallIndirect, LocalGet, LocalSet, LocalTee, GlobalGet, GlobalSet, Load, Store, Block, Loop, If, Block', Loop', If'}
 use Rattle.wa_types.specs.Syntax.{Basic, nop, drop as drop_operand, select, const, num, global_get, global_set, load, store, memory_size, memory_grow, Plain, basic, local_get, local_set, local_tee, br, br_if, br_table, return, unreachable, call, call_indirect, Shape, a_block, a_loop, Code, done, plain, nest, branch}
 use Rattle.wa_types.specs.View.{code, onto, in_front}
-use Rattle.wa_types.specs.Pruned.{is_last, pruned}
+use Rattle.wa_types.specs.Pruned.{is_last, is_last_instr, pruned}
 use Rattle.wa_types.proofs.ViewLemmas.{Kind, is_block, is_loop, is_if, is_plain, kind, in_block, in_loop, in_if, in_br_table, code_step, code_empty, onto_append, onto_done, onto_none}
-use Rattle.wasm_tree.specs.Kinds.{is_last_instr, is_leaf}
+use Rattle.wasm_tree.specs.Kinds.{is_leaf}
 
 pub pruned_done : pruned done ≡ done
 unfolding pruned

@@ -1,8 +1,8 @@
 ghost use Rattle.std.specs.Prelude.{◌≡◌, IfOk, true, if◌then◌else◌};
 ghost use Rattle.wa_types.specs.View.{code, in_front};
 ghost use Rattle.wa_types.specs.Syntax.{Code, done};
-ghost use Rattle.wa_types.specs.Pruned.{pruned};
-ghost use Rattle.wasm_tree.specs.Kinds.{is_last_instr, is_leaf};
+ghost use Rattle.wa_types.specs.Pruned.{is_last_instr, pruned};
+ghost use Rattle.wasm_tree.specs.Kinds.{is_leaf};
 
 use std::alloc::{AllocError, Global};
 use wa_types::Instr;
@@ -15,23 +15,13 @@ pub fn prune(alloc: Global, body: &[Instr]) -> Result<Vec<Instr>, AllocError>
 {
     let mut out = Vec::new(alloc);
     for instr in body {
-        let last = is_last(instr);
+        let last = instr.is_last();
         out.push(prune_instr(alloc, instr)?)?;
         if last {
             return Ok(out);
         }
     }
     Ok(out)
-}
-
-#[tactic(auto, unfolding(crate::specs::Kinds::is_last_instr))]
-fn is_last(instr: &Instr) -> bool
-    ensures { result ≡ is_last_instr instr.now }
-{
-    matches!(
-        instr,
-        Instr::Unreachable | Instr::Return | Instr::Br(_) | Instr::BrTable { .. }
-    )
 }
 
 // The instruction, with its bodies pruned.
