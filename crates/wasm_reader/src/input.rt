@@ -14,7 +14,7 @@ pub(crate) struct Input<'a> {
     at: usize,
 }
 
-impl Model for Input<'_> {
+impl<'a> Model for Input<'a> {
     ghost use Rattle.std.specs.Prelude.{List, ℕ, drop, length, ◌≤◌};
 
     ghost Value = { List ℕ };
