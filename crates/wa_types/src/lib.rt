@@ -15,7 +15,10 @@ mod syntax;
 mod values;
 
 pub use instrs::Instr;
-pub use leb::{LebFault, Spelling, read_s32, read_s64, read_u32, write_s32, write_s64, write_u32};
+pub use leb::{
+    LebFault, Spelling, read_s32, read_s64, read_u32, signed_spelling_laws, unsigned_spelling_laws,
+    write_s32, write_s64, write_u32,
+};
 pub use names::Name;
 pub use operators::NumOp;
 pub use syntax::{
