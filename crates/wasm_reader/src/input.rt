@@ -57,7 +57,7 @@ impl<'a> Input<'a> {
         ensures fits { IfOk result (λ n. n < 2 ^ 32) }
         ensures left { length self.new ≤ length self.old }
     {
-        read_u32(self.bytes, &mut self.at).map_err(|_| SmallFault::NotSmall)
+        Ok(read_u32(self.bytes, &mut self.at)?)
     }
 
     /// A signed number of 32 bits, in two's complement.
@@ -66,7 +66,7 @@ impl<'a> Input<'a> {
         ensures fits { IfOk result (λ n. n < 2 ^ 32) }
         ensures left { length self.new ≤ length self.old }
     {
-        let n = read_s32(self.bytes, &mut self.at).map_err(|_| SmallFault::NotSmall)?;
+        let n = read_s32(self.bytes, &mut self.at)?;
         Ok(n.cast_unsigned())
     }
 
