@@ -6,3 +6,4 @@ pub mod ViewLemmas
 pub mod WeightLemmas
 pub mod LiveLemmas
 pub mod PointLemmas
+pub mod SlotLemmas
