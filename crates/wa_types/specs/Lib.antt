@@ -1,4 +1,7 @@
 pub mod Accesses
+pub mod Base
+pub mod Begun
+pub mod Binary
 pub mod Bounds
 pub mod Counts
 pub mod Encoding
@@ -7,11 +10,19 @@ pub mod FrameLaws
 pub mod Frames
 pub mod Leb
 pub mod Liveness
+pub mod Marks
+pub mod Memory
 pub mod Modules
+pub mod Norm
+pub mod Opcodes
 pub mod Operators
 pub mod Pausing
 pub mod Points
 pub mod Pruned
+pub mod Reading
+pub mod Runtime
+pub mod Sizes
+pub mod Spells
 pub mod Syntax
 pub mod Typing
 pub mod TypingLaws

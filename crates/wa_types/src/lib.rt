@@ -20,7 +20,10 @@ mod weights;
 
 pub use frame_laws::{live_is_path, slots_are_pairs};
 pub use instrs::Instr;
-pub use leb::LebFault;
+pub use leb::{
+    LebFault, Spelling, read_s32, read_s64, read_u32, signed_spelling_laws, unsigned_spelling_laws,
+    write_s32, write_s64, write_u32,
+};
 pub use names::Name;
 pub use operators::NumOp;
 pub use syntax::{
