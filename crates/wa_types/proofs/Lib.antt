@@ -23,3 +23,4 @@ pub mod WeightLemmas
 pub mod LiveLemmas
 pub mod PointLemmas
 pub mod SlotLemmas
+pub mod SizeBounds
