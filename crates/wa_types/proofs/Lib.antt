@@ -24,3 +24,4 @@ pub mod LiveLemmas
 pub mod PointLemmas
 pub mod SlotLemmas
 pub mod SizeBounds
+pub mod AccessLemmas

@@ -88,8 +88,8 @@ stands_below : (h : ℕ) (t : ValType) (ops : List ValType) → stands_at h t op
 stands_below h t ops s = elim (less_on h (length ops)) [
   | inl lt ↦ lt
   | inr ge ↦ absurd (
-    let past : slice_get (reverse ops) h ≡ None = slice_get_past (reverse ops) h (omega (arith, ge, length-reverse ops)) in
-    let none : false ≡ true = sym (ap (is_type t) past) ∙ s in cc)
+      let past : slice_get (reverse ops) h ≡ None = slice_get_past (reverse ops) h (omega (arith, ge, length-reverse ops)) in
+      let none : false ≡ true = sym (ap (is_type t) past) ∙ s in cc)
 ]
 
 either_true : (a b : Bool) → (a || b) ≡ true → (a ≡ true) ⊎ (b ≡ true)
