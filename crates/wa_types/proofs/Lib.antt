@@ -9,3 +9,4 @@ pub mod TypingLemmas
 pub mod Cuts
 pub mod FaultLemmas
 pub mod ViewLemmas
+pub mod MemoryLemmas

@@ -5,8 +5,8 @@ pub mod Encoding
 pub mod FirstFault
 pub mod Frames
 pub mod Leb
-pub mod Memory
 pub mod Liveness
+pub mod Memory
 pub mod Modules
 pub mod Operators
 pub mod Pausing
