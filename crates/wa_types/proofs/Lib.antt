@@ -4,4 +4,8 @@ pub mod SignedReads
 pub mod SignedSpelling
 pub mod UnsignedReads
 pub mod UnsignedSpelling
+pub mod SigLemmas
+pub mod TypingLemmas
+pub mod Cuts
+pub mod FaultLemmas
 pub mod ViewLemmas
