@@ -1,2 +1,6 @@
 //! The commands.
 #![tactic(auto)]
+
+mod small;
+
+pub use small::is_small;

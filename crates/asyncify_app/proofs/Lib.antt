@@ -1,0 +1,5 @@
+pub mod SmallNames
+pub mod SmallLocals
+pub mod SmallModules
+pub mod SmallBodies
+pub mod SmallSteps
