@@ -181,7 +181,8 @@ impl Spelling {
 
     /// The bytes.
     pub fn as_slice(&self) -> &[u8]
-        ensures { result.now ≡ self.now }
+        ensures bytes { result.now ≡ self.now }
+        ensures few { length result.now ≤ 10 }
     {
         &self.room[..self.used]
     }
