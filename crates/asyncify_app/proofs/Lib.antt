@@ -3,3 +3,5 @@ pub mod SmallLocals
 pub mod SmallModules
 pub mod SmallBodies
 pub mod SmallSteps
+pub mod SmallSizes
+pub mod SmallWhole

@@ -61,13 +61,12 @@ pub goes : (c : Around) (ls : List (Option ValType)) (p : Plain) (rest : Code) (
 unfolding Types
 goes c ls p rest outs a b h after e le f =
     let far : replicate after I32 ≡ replicate b I32 ++ replicate (h - a) I32 = ap (λ (n : ℕ). replicate n I32) f ∙ sym (replicate-append-replicate b (h - a) I32) in
-    let near : replicate h I32 ≡ replicate a I32 ++ replicate (h - a) I32 = let n : h ≡ a + (h - a) = omega arith in ap (λ (k : ℕ). replicate k I32) n ∙ sym (replicate-append-replicate a (h - a) I32) in
-    (
+    let near : replicate h I32 ≡ replicate a I32 ++ replicate (h - a) I32 = let n : h ≡ a + (h - a) = omega arith in ap (λ (k : ℕ). replicate k I32) n ∙ sym (replicate-append-replicate a (h - a) I32) in (
       λ t.
-        let k : Takes (moves (replicate a I32) (replicate b I32)) (replicate h I32) t.0 = subst (λ (s : Sig). Takes s (replicate h I32) t.0) e t.1 in
-        let below = below_is a h k.0 k.1 in
-        let m : t.0 ≡ replicate after I32 = k.2 ∙ ap (λ us. replicate b I32 ++ us) below.1 ∙ sym far in
-        subst (λ (us : List ValType). Types c ls rest outs us) m t.2,
+          let k : Takes (moves (replicate a I32) (replicate b I32)) (replicate h I32) t.0 = subst (λ (s : Sig). Takes s (replicate h I32) t.0) e t.1 in
+          let below = below_is a h k.0 k.1 in
+          let m : t.0 ≡ replicate after I32 = k.2 ∙ ap (λ us. replicate b I32 ++ us) below.1 ∙ sym far in
+          subst (λ (us : List ValType). Types c ls rest outs us) m t.2,
       λ t. (replicate after I32, subst (λ (s : Sig). Takes s (replicate h I32) (replicate after I32)) (sym e) (replicate (h - a) I32, near, far), t),
     )
 

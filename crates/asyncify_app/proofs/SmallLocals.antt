@@ -38,7 +38,7 @@ held_push ls ts s n h e =
     let m : s.end - (0 + length (types_from 0 ls)) ≡ n = omega arith in
     record {
       rising = push_rises 0 ls s h.rising (omega arith);
-      each = push_types 0 ls s h.rising ∙ rw (m, h.each) refl
+      each = push_types 0 ls s h.rising ∙ rw (m, h.each) refl;
     }
 
 pub held_none : Holds [] []

@@ -34,7 +34,7 @@ pub sorts_tested : (v : ModuleValue) → IsSmallShaped (module_of v)
 sorts_tested v h =
     rw (h.imports, length-map v.types.items func_type_of)
     (sym (list_all-map (λ (x : ℕ). nat_lt x (length v.types.items)) (λ (f : Func). f.sort) (map func_of v.funcs.items)
-      ∙ list_all-map (λ (f : Func). nat_lt f.sort (length v.types.items)) func_of v.funcs.items))
+    ∙ list_all-map (λ (f : Func). nat_lt f.sort (length v.types.items)) func_of v.funcs.items))
 
 export_step : (e : Export) → (s : Space) → is_func_space s ≡ true → (if same_space s a_func then Some e.index else None) ≡ Some e.index
 export_step e a_func h = refl

@@ -185,7 +185,7 @@ module _ (m : Module) (f : Func) (stretches : List Stretch) (body : List Instr) 
       let F : Code → Type 0 = λ k. Types c (c.result ∷ []) k (listed c.result) (replicate h I32) in
       record {
         there = λ t. next.0 (subst F (code_step body i x lt e) (r.there t));
-        back = λ t. r.back (subst F (sym (code_step body i x lt e)) (next.1 t))
+        back = λ t. r.back (subst F (sym (code_step body i x lt e)) (next.1 t));
       }
 
   -- at an instruction that nothing can follow
@@ -206,8 +206,7 @@ at_end m f body i h n s o r le e =
     let c : Around = around m f in
     let F : Code → Type 0 = λ k. Types c (c.result ∷ []) k (listed c.result) (replicate h I32) in
     let d = done_types c (c.result ∷ []) (listed c.result) (replicate h I32) in
-    let outs : listed c.result ≡ replicate n I32 = results_are m f s o ∙ ap (λ (k : ℕ). replicate k I32) (sym e) in
-    (
+    let outs : listed c.result ≡ replicate n I32 = results_are m f s o ∙ ap (λ (k : ℕ). replicate k I32) (sym e) in (
       λ t. r.back (subst F (sym (code_empty body i le)) (d.1 (let k : h ≡ n = eqb-true h n t in ap (λ (j : ℕ). replicate j I32) k ∙ sym outs))),
       λ t. eq-eqb h n (same_count n h (d.0 (subst F (code_empty body i le) (r.there t)) ∙ outs)),
     )

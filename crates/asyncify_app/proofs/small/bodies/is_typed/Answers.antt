@@ -14,11 +14,10 @@ height_after-requires-clause-small c =
 pub returns-in-None : goal.returns-in-None
 returns-in-None c =
     let lt : c.loop-instr.instr-index < length c.args.func.now.body.items = omega arith in
-    let is = rw c.deref-instr-items.ensures.value at c.instr-item.is in
-    (
+    let is = rw c.deref-instr-items.ensures.value at c.instr-item.is in (
       λ h. absurd (cc),
       λ t. absurd (never (module_of c.args.module.now) (func_of c.args.func.now) c.args.locals.now c.args.func.now.body.items c.loop-instr.instr-index c.loop-instr.height c.instr-item.result
-        c.requires.shaped.types c.requires.single c.requires.locals c.loop-instr.invariant.goes c.requires.small.body lt is c.in-None.ensures.becomes t),
+          c.requires.shaped.types c.requires.single c.requires.locals c.loop-instr.invariant.goes c.requires.small.body lt is c.in-None.ensures.becomes t),
     )
 
 pub loop-instr-preserved : goal.loop-instr-preserved
@@ -28,8 +27,8 @@ loop-instr-preserved c =
     record {
       few = omega (arith, c.in-Some.ensures.risen);
       goes =
-        past (module_of c.args.module.now) (func_of c.args.func.now) c.args.locals.now c.args.func.now.body.items c.loop-instr.instr-index c.loop-instr.height c.instr-item.result
-        c.requires.shaped.types c.requires.single c.requires.locals c.loop-instr.invariant.goes c.requires.small.body lt is c.in-Some.after c.in-Some.ensures.becomes
+          past (module_of c.args.module.now) (func_of c.args.func.now) c.args.locals.now c.args.func.now.body.items c.loop-instr.instr-index c.loop-instr.height c.instr-item.result
+          c.requires.shaped.types c.requires.single c.requires.locals c.loop-instr.invariant.goes c.requires.small.body lt is c.in-Some.after c.in-Some.ensures.becomes;
     }
 
 pub returns : goal.returns
@@ -37,7 +36,7 @@ returns c =
     let le : length c.args.func.now.body.items ≤ c.loop-instr.instr-index = omega arith in
     let ty = ap or_empty (type_is c.args.module.now c.args.func.now.sort c.index.result.now c.requires.sort) in
     let n : c.len.result ≡ length (type_at (module_of c.args.module.now) c.args.func.now.sort).results =
-      let k = ap (λ (t : FuncType). length t.results) (sym (ty ∙ ap func_type_of (sym c.index.ensures))) in
-      omega arith in
+    let k = ap (λ (t : FuncType). length t.results) (sym (ty ∙ ap func_type_of (sym c.index.ensures))) in
+    omega arith in
     at_end (module_of c.args.module.now) (func_of c.args.func.now) c.args.func.now.body.items c.loop-instr.instr-index c.loop-instr.height c.len.result
     c.requires.shaped.types c.requires.single c.loop-instr.invariant.goes le n

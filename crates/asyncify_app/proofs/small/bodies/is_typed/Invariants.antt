@@ -9,5 +9,5 @@ use Rattle.asyncify_app.proofs.small.bodies.is_typed.Given as goal
 abbrev pub invariant-loop-instr : goal.invariant-loop-instr
 invariant-loop-instr l = record {
   few : l.height ≤ l.instr-index;
-  goes : Reaches (around (module_of l.«module») (func_of l.func)) l.func.body.items l.instr-index l.height
+  goes : Reaches (around (module_of l.«module») (func_of l.func)) l.func.body.items l.instr-index l.height;
 }

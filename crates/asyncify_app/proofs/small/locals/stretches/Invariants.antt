@@ -7,5 +7,5 @@ use Rattle.asyncify_app.proofs.small.locals.stretches.Given as goal
 abbrev pub invariant-loop-run : goal.invariant-loop-run
 invariant-loop-run l = record {
   end : l.end ≡ l.params + length (declared_locals (take l.run-index l.runs));
-  held : Holds l.locals.items (replicate l.params I32 ++ declared_locals (take l.run-index l.runs))
+  held : Holds l.locals.items (replicate l.params I32 ++ declared_locals (take l.run-index l.runs));
 }

@@ -10,9 +10,9 @@ returns-then-not-branch c =
 pub loop-export-preserved : goal.loop-export-preserved
 loop-export-preserved c = record {
   seen =
-    kept (λ name. name.now) c.as_str.result c.loop-export.seen.keys c.args.exports.now c.loop-export.export-index c.export-item.result c.in_ok-insert.field-0 c.in_ok-insert.ensures.added c.loop-export.invariant.seen c.as_str.ensures c.loop-export-test.true c.export-item.is
-    c.if-not-branch.false c.insert.new.self.keys c.in_ok-insert.ensures.keys;
+      kept (λ name. name.now) c.as_str.result c.loop-export.seen.keys c.args.exports.now c.loop-export.export-index c.export-item.result c.in_ok-insert.field-0 c.in_ok-insert.ensures.added c.loop-export.invariant.seen c.as_str.ensures c.loop-export-test.true c.export-item.is
+      c.if-not-branch.false c.insert.new.self.keys c.in_ok-insert.ensures.keys;
   differ =
-    still (λ name. name.now) c.as_str.result c.loop-export.seen.keys c.args.exports.now c.loop-export.export-index c.export-item.result c.in_ok-insert.field-0 c.in_ok-insert.ensures.added c.loop-export.invariant.seen c.as_str.ensures c.loop-export-test.true c.export-item.is
-    c.if-not-branch.false c.loop-export.invariant.differ
+      still (λ name. name.now) c.as_str.result c.loop-export.seen.keys c.args.exports.now c.loop-export.export-index c.export-item.result c.in_ok-insert.field-0 c.in_ok-insert.ensures.added c.loop-export.invariant.seen c.as_str.ensures c.loop-export-test.true c.export-item.is
+      c.if-not-branch.false c.loop-export.invariant.differ;
 }
