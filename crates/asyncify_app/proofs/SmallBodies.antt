@@ -1,21 +1,19 @@
 -- How instructions of small bodies move operands, all of which are of type i32.
-use Rattle.std.proofs.Common.{arith, ◌≡◌, ◌↔◌, ℕ, zero, suc, ◌+◌, ◌-◌, ◌<◌, ◌≤◌, ◌++◌, List, [], ◌∷◌, refl, sym, ◌∙◌, ap, subst, length, reverse, replicate, nat_le, Bool, true, false, ◌&&◌, Option, Some, None, slice_get, map, drop, append_assoc}
+use Rattle.std.proofs.Common.{arith, ◌≡◌, ℕ, zero, suc, ◌+◌, ◌-◌, ◌<◌, ◌≤◌, ◌++◌, List, [], ◌∷◌, refl, sym, ◌∙◌, ap, subst, length, reverse, replicate, Bool, true, false, ◌&&◌, Option, Some, None, slice_get, map}
 use Rattle.std.specs.List.{list_all}
-use Rattle.std.proofs.lemmas.List.{length-replicate, length-reverse, replicate-append-replicate, reverse-append}
+use Rattle.std.proofs.lemmas.List.{length-replicate, replicate-append-replicate, reverse-append}
 use Rattle.std.proofs.lemmas.List.Folds.{list_all-append}
 use Rattle.wa_types.specs.declared.values.ValType.{ValType}
 use Rattle.wa_types.specs.declared.values.ValType.TheVariants.{I32, I64}
 use Rattle.wa_types.specs.declared.values.Value.{Value}
-use Rattle.wa_types.specs.declared.values.Value.TheVariants.{I32 as value_32, I64 as value_64}
 use Rattle.wa_types.specs.declared.operators.NumOp.{NumOp}
 use Rattle.wa_types.specs.declared.operators.NumOp.TheVariants.{I32Add}
-use Rattle.wa_types.specs.Syntax.{Basic, nop, select, const, num, global_get, global_set, load, store, memory_size, memory_grow, Plain, basic, local_get, local_set, local_tee, br, br_if, br_table, return, unreachable, call, call_indirect, Code, done, plain, nest, branch, FuncType, Func, Module}
+use Rattle.wa_types.specs.Syntax.{nop, select, const, num, global_get, global_set, load, store, memory_size, memory_grow, Plain, basic, local_get, local_set, local_tee, br, br_if, br_table, return, unreachable, call, call_indirect, Code, done, plain, nest, branch, FuncType, Module}
 use Rattle.wa_types.specs.Syntax.{drop as drop_operand}
 use Rattle.wa_types.specs.Modules.{or_empty, type_at, func_sorts, func_types}
 use Rattle.wa_types.specs.Typing.{Around, Sig, moves, leaves, drops, selects, lacks, late, gets, calls, sig, Takes, Types}
 use Rattle.wasm_reader.specs.Small.{is_i32, is_small_type, is_small_plain, is_small_code}
-use Rattle.asyncify_app.specs.declared.small.locals.Stretch.{Stretch}
-use Rattle.asyncify_app.specs.Heights.{IsAround, LeadsTo, Becomes}
+use Rattle.asyncify_app.specs.Heights.{LeadsTo}
 
 pub both : (a b : Bool) → (a && b) ≡ true → (a ≡ true) × (b ≡ true)
 both true b h = (refl, h)

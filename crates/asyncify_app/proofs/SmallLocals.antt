@@ -1,7 +1,6 @@
 -- The locals of a function as stretches of one type.
-use Rattle.std.proofs.Common.{arith, ◌≡◌, ℕ, zero, suc, ◌+◌, ◌-◌, ◌<◌, ◌≤◌, ◌++◌, List, [], ◌∷◌, refl, sym, ◌∙◌, ap, subst, length, get_or, take, replicate, nat_le, Bool, true, false, Option, Some, None, slice_get, append_assoc, length-append, add-zero}
+use Rattle.std.proofs.Common.{arith, ◌≡◌, ℕ, zero, suc, ◌+◌, ◌-◌, ◌<◌, ◌≤◌, ◌++◌, List, [], ◌∷◌, refl, sym, ◌∙◌, ap, length, get_or, take, replicate, nat_le, true, false, Option, Some, slice_get, append_assoc, length-append, add-zero}
 use Rattle.std.specs.Prelude.{option_map}
-use Rattle.std.specs.List.{AllWithin}
 use Rattle.std.specs.List.Sorted.{IsPartitionedBy, IsPartitionPoint}
 use Rattle.std.proofs.lemmas.Bool.{leb-true, leb-false, le-leb}
 use Rattle.std.proofs.lemmas.List.{length-replicate, append-nil, take_more}

@@ -1,6 +1,6 @@
 -- What a module of small shape says of the rules of validity.
-use Rattle.std.proofs.Common.{arith, ◌≡◌, ℕ, ◌<◌, ◌≤◌, ◌++◌, List, [], ◌∷◌, refl, sym, ◌∙◌, ap, subst, length, get_or, Bool, true, false, ◌&&◌, map, nat_lt, Option, Some, None, if◌then◌else◌, slice_get, All}
-use Rattle.std.specs.List.{list_all, filter_map, flat_map}
+use Rattle.std.proofs.Common.{◌≡◌, ℕ, ◌<◌, List, [], ◌∷◌, refl, sym, ◌∙◌, length, get_or, true, map, nat_lt, Option, Some, None, if◌then◌else◌, slice_get, All}
+use Rattle.std.specs.List.{list_all, filter_map}
 use Rattle.std.proofs.lemmas.Bool.{ltb-true}
 use Rattle.std.proofs.lemmas.Option.{slice_get-map, slice_get-get_or}
 use Rattle.std.proofs.lemmas.List.{append-nil, length-map}
@@ -10,14 +10,13 @@ use Rattle.wa_types.specs.declared.syntax.Func.{Func as FuncValue}
 use Rattle.wa_types.specs.declared.syntax.FuncType.{FuncType as FuncTypeValue}
 use Rattle.wa_types.specs.declared.syntax.Module.{Module as ModuleValue}
 use Rattle.wa_types.specs.declared.syntax.Export.{Export}
-use Rattle.wa_types.specs.declared.syntax.Import.{Import}
 use Rattle.wa_types.specs.declared.syntax.ImportKind.{ImportKind}
 use Rattle.wa_types.specs.declared.syntax.Space.{Space}
 use Rattle.wa_types.specs.declared.syntax.Space.TheVariants.{Func as a_func, Table as a_table, Memory as a_memory, Global as a_global}
-use Rattle.wa_types.specs.Syntax.{FuncType, Func, Module, Elem}
+use Rattle.wa_types.specs.Syntax.{Func, Module}
 use Rattle.wa_types.specs.View.{module_of, func_type_of, func_of}
-use Rattle.wa_types.specs.Modules.{type_at, func_types, func_sorts, imported, imported_func}
-use Rattle.wa_types.specs.Validity.{types_there, funcs_there, exported, all_below, same_space, start_indices}
+use Rattle.wa_types.specs.Modules.{type_at, func_types, func_sorts, imported}
+use Rattle.wa_types.specs.Validity.{types_there, funcs_there, exported, same_space}
 use Rattle.wasm_reader.specs.Small.{IsSmallShaped, IsSmallExport, is_func_space}
 use Rattle.asyncify_app.proofs.SmallBodies.{got}
 

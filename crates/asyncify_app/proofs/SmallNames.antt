@@ -1,5 +1,5 @@
 -- Names that differ, one more at the end.
-use Rattle.std.proofs.Common.{arith, ◌≡◌, ℕ, ◌++◌, List, [], ◌∷◌, refl, sym, ◌∙◌, ap, Bool, true, false, not, ◌&&◌, ◌||◌, ◌==◌, nat_eq, map, if◌then◌else◌, ◌+◌, ◌<◌, length, get_or, take, drop}
+use Rattle.std.proofs.Common.{arith, ◌≡◌, ℕ, ◌++◌, List, [], ◌∷◌, refl, sym, ◌∙◌, ap, Bool, true, false, not, ◌&&◌, ◌||◌, nat_eq, map, if◌then◌else◌, ◌+◌, ◌<◌, length, get_or, take, drop}
 use Rattle.std.proofs.lemmas.List.{map_more, map-append, take-append-drop}
 use Rattle.wa_types.specs.declared.syntax.Export.{Export}
 use Rattle.std.specs.List.{list_any}

@@ -1,5 +1,5 @@
 -- What each instruction of a small body makes of the number of operands.
-use Rattle.std.proofs.Common.{arith, ◌≡◌, ◌↔◌, ℕ, zero, suc, ◌+◌, ◌-◌, ◌<◌, ◌≤◌, ◌++◌, List, [], ◌∷◌, refl, sym, ◌∙◌, ap, subst, length, get_or, replicate, nat_le, Bool, true, false, ◌&&◌, Option, Some, None, slice_get, map, drop, IsTrue, nat_eq}
+use Rattle.std.proofs.Common.{arith, ◌≡◌, ◌↔◌, ℕ, zero, suc, ◌+◌, ◌-◌, ◌<◌, ◌≤◌, List, [], ◌∷◌, refl, sym, ◌∙◌, ap, subst, length, get_or, replicate, nat_le, true, ◌&&◌, Option, Some, None, slice_get, drop, IsTrue, nat_eq}
 use Rattle.std.specs.List.{list_all}
 use Rattle.std.proofs.lemmas.Bool.{leb-true, eqb-true, eq-eqb}
 use Rattle.std.proofs.lemmas.Option.{slice_get-map, slice_get-get_or}
@@ -13,7 +13,7 @@ use Rattle.wa_types.specs.declared.instrs.Instr.{Instr}
 use Rattle.wa_types.specs.declared.instrs.Instr.TheVariants.{Unreachable, Nop, Drop, Select, Return, MemorySize, MemoryGrow, Const, Num, Br, BrIf, BrTable, Call, CallIndirect, LocalGet, LocalSet, LocalTee, GlobalGet, GlobalSet, Load, Store, Block', Loop', If'}
 use Rattle.wa_types.specs.declared.syntax.FuncType.{FuncType as FuncTypeValue}
 use Rattle.wa_types.specs.declared.syntax.Module.{Module as ModuleValue}
-use Rattle.wa_types.specs.Syntax.{Plain, basic, const, num, local_get, call, Code, done, plain, FuncType, Func, Module}
+use Rattle.wa_types.specs.Syntax.{basic, const, num, local_get, call, Code, done, FuncType, Func, Module}
 use Rattle.wa_types.specs.View.{in_front, code, onto, func_type_of, module_of}
 use Rattle.wa_types.specs.Modules.{type_at, func_types, around, locals_of}
 use Rattle.wa_types.specs.Typing.{Around, listed, gets, calls, Types, Typed}
@@ -22,8 +22,8 @@ use Rattle.wa_types.proofs.ViewLemmas.{Kind, is_block, is_loop, is_if, is_plain,
 use Rattle.wasm_reader.specs.Small.{is_i32, is_small_type, is_small_plain, is_small_code}
 use Rattle.asyncify_app.specs.declared.small.locals.Stretch.{Stretch}
 use Rattle.asyncify_app.specs.Locals.{Holds}
-use Rattle.asyncify_app.specs.Heights.{IsAround, LeadsTo, Becomes}
-use Rattle.asyncify_app.proofs.SmallBodies.{both, all_32, reverse_32, goes, stops, fails, got, type_small, are_32, same_count, funcs_small, small_op, no_64}
+use Rattle.asyncify_app.specs.Heights.{Becomes}
+use Rattle.asyncify_app.proofs.SmallBodies.{both, reverse_32, goes, stops, fails, got, type_small, are_32, same_count, funcs_small, small_op, no_64}
 
 all_i32 : (m : Module) → list_all is_small_type m.types ≡ true → (c : Around) → c.funcs ≡ func_types m → list_all is_small_type c.funcs ≡ true
 all_i32 m h c e = ap (list_all is_small_type) e ∙ funcs_small is_small_type m refl h

@@ -1,14 +1,14 @@
 -- A small module is one whose parts are small.
-use Rattle.std.proofs.Common.{arith, ◌≡◌, ◌↔◌, ℕ, zero, suc, ◌+◌, ◌<◌, ◌≤◌, ◌++◌, List, [], ◌∷◌, refl, sym, ◌∙◌, ap, subst, length, get_or, replicate, map, nat_le, nat_lt, ◌&&◌, ◌||◌, Bool, true, false, not, cond, if◌then◌else◌, IsTrue, Option, Some, None, slice_get, length-append, All}
+use Rattle.std.proofs.Common.{arith, ◌≡◌, ℕ, suc, ◌+◌, ◌<◌, ◌≤◌, ◌++◌, List, [], ◌∷◌, refl, sym, ◌∙◌, ap, subst, length, get_or, replicate, nat_le, nat_lt, ◌||◌, Bool, true, false, not, cond, if◌then◌else◌, Option, Some, None, slice_get, length-append, All}
 use Rattle.std.specs.Prelude.{position}
-use Rattle.std.specs.List.{list_all, list_any, filter_map, flat_map, position_or_len}
-use Rattle.std.specs.Option.{is_some, is_none}
+use Rattle.std.specs.List.{list_all, list_any, filter_map, position_or_len}
+use Rattle.std.specs.Option.{is_none}
 use Rattle.std.proofs.lemmas.Bool.{leb-true, le-leb, lt-ltb, le-ltb, ltb-true, ltb-false}
 use Rattle.std.proofs.lemmas.Option.{slice_get-get_or, slice_get_within, get_or_from_slice_get}
 use Rattle.std.proofs.lemmas.List.{length-map, get_or-map}
 use Rattle.std.proofs.lemmas.List.Folds.{list_all-map}
 use Rattle.std.proofs.lemmas.List.Sums.{AllPass-from_list_all, list_all-from_AllPass}
-use Rattle.std.proofs.lemmas.List.Elements.{All-map, All-head, All-tail, All-weaker}
+use Rattle.std.proofs.lemmas.List.Elements.{All-map, All-head, All-tail}
 use Rattle.wa_types.specs.declared.values.ValType.TheVariants.{I32}
 use Rattle.wa_types.specs.declared.syntax.Func.{Func as FuncValue}
 use Rattle.wa_types.specs.declared.syntax.FuncType.{FuncType as FuncTypeValue}
@@ -21,7 +21,7 @@ use Rattle.wa_types.specs.View.{module_of, func_type_of, func_of}
 use Rattle.wa_types.specs.Encoding.{Enc, body_bytes}
 use Rattle.wa_types.specs.Typing.{Typed}
 use Rattle.wa_types.specs.Modules.{type_at, locals_of, declared_locals, around, or_empty}
-use Rattle.wa_types.specs.Validity.{Valid, exported, same_space, types_there, funcs_there, one_result, names_differ, tables_there, memories_there, globals_there}
+use Rattle.wa_types.specs.Validity.{Valid, same_space, types_there, funcs_there, one_result, names_differ}
 use Rattle.asyncify_runtime.specs.Reserved.{is_runtime_name, reserved_at, reserved_import, reserved_export, first_reserved}
 use Rattle.wasm_reader.specs.Small.{is_i32, is_small_type, IsSmallShaped, IsSmallFunc, IsSmallExport, is_func_space}
 use Rattle.asyncify_app.specs.Small.{IsSmall}

@@ -1,5 +1,5 @@
 -- What the parts of the decision on small modules answer.
-use Rattle.std.specs.Prelude.{◌≡◌, ℕ, ◌≤◌, nat_le, ◌&&◌, length, Bool, true, false, All}
+use Rattle.std.specs.Prelude.{◌≡◌, ◌≤◌, nat_le, ◌&&◌, length, Bool, true, false, All}
 use Rattle.std.specs.List.{list_any}
 use Rattle.wa_types.specs.declared.syntax.Export.{Export}
 use Rattle.wa_types.specs.Syntax.{FuncType, Func, Module}

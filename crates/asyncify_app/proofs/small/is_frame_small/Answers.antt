@@ -1,8 +1,8 @@
-use Rattle.std.proofs.Common.{arith, ◌≡◌, ◌≤◌, ◌∙◌, sym, ap, length, not}
+use Rattle.std.proofs.Common.{arith, ◌≤◌, ◌∙◌, sym, ap, length, not}
 use Rattle.std.specs.Option.{is_some}
 use Rattle.wa_types.specs.View.{module_of}
 use Rattle.asyncify_app.proofs.SmallSizes.{exports_few}
-use Rattle.asyncify_app.proofs.SmallWhole.{FrameTests, frame_tested, frame_tests, flipped}
+use Rattle.asyncify_app.proofs.SmallWhole.{frame_tested, frame_tests, flipped}
 use Rattle.asyncify_app.proofs.small.is_frame_small.Goals as goal
 
 pub returns-then-not-types_fit : goal.returns-then-not-types_fit

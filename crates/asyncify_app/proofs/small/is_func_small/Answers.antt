@@ -1,8 +1,4 @@
-use Rattle.std.proofs.Common.{arith, ◌≡◌, ◌≤◌, ◌+◌, ◌∙◌, sym, ap, subst, length, refl}
-use Rattle.wa_types.specs.View.{module_of, func_of}
-use Rattle.wa_types.specs.Modules.{declared_locals, locals_of}
-use Rattle.wa_types.specs.Encoding.{body_bytes}
-use Rattle.asyncify_app.specs.Locals.{Holds}
+use Rattle.std.proofs.Common.{arith, ◌≡◌, length}
 use Rattle.asyncify_app.proofs.SmallSizes.{counted}
 use Rattle.asyncify_app.proofs.SmallWhole.{locals_are, locals_count}
 use Rattle.asyncify_app.proofs.small.is_func_small.Goals as goal

@@ -1,10 +1,10 @@
-use Rattle.std.proofs.Common.{◌≡◌, ◌∙◌, sym, IsTrue, ◌↔◌, Bool, All}
+use Rattle.std.proofs.Common.{◌∙◌, sym, IsTrue, ◌↔◌, Bool, All}
 use Rattle.std.proofs.lemmas.Result.{IfOk-weaker}
 use Rattle.wa_types.specs.declared.syntax.Func.{Func}
 use Rattle.wa_types.specs.View.{module_of, func_of}
 use Rattle.asyncify_app.specs.Small.{IsSmall}
 use Rattle.asyncify_app.specs.SmallParts.{IsFuncSmall}
-use Rattle.asyncify_app.proofs.SmallWhole.{whole, frame_of, func_of_small}
+use Rattle.asyncify_app.proofs.SmallWhole.{whole, func_of_small}
 use Rattle.asyncify_app.proofs.small.is_small.Goals as goal
 
 pub returns : goal.returns

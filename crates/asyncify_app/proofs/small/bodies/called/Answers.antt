@@ -1,4 +1,4 @@
-use Rattle.std.proofs.Common.{arith, ◌≡◌, Some, slice_get, length, refl}
+use Rattle.std.proofs.Common.{arith, length, refl}
 use Rattle.std.proofs.lemmas.Option.{slice_get_read}
 use Rattle.asyncify_app.proofs.SmallModules.{sort_within, type_found}
 use Rattle.asyncify_app.proofs.small.bodies.called.Goals as goal

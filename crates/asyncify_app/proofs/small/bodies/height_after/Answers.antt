@@ -1,6 +1,5 @@
-use Rattle.std.proofs.Common.{arith, ◌≡◌, rules, Some, None, slice_get, length, ◌<◌, ◌≤◌, ◌+◌, ◌-◌}
+use Rattle.std.proofs.Common.{arith, ◌≡◌, length, ◌<◌, ◌≤◌, ◌+◌, ◌-◌}
 use Rattle.wa_types.specs.View.{module_of, func_type_of}
-use Rattle.wa_types.specs.Modules.{func_types}
 use Rattle.asyncify_app.proofs.SmallSteps.{const_becomes, add_becomes, add_stops, call_becomes, call_stops, call_fails, local_becomes, local_64, local_fails, none_other, few_results}
 use Rattle.asyncify_app.proofs.small.bodies.height_after.Goals as goal
 

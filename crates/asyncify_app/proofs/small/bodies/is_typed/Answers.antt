@@ -1,8 +1,8 @@
-use Rattle.std.proofs.Common.{arith, ◌≡◌, ◌<◌, ◌≤◌, length, refl, get_or, Some, None, ap, sym, ◌∙◌}
+use Rattle.std.proofs.Common.{arith, ◌≡◌, ◌<◌, ◌≤◌, length, ap, sym, ◌∙◌}
 use Rattle.wa_types.specs.Syntax.{FuncType}
 use Rattle.wa_types.specs.View.{module_of, func_of, func_type_of}
 use Rattle.wa_types.specs.Modules.{type_at, or_empty}
-use Rattle.asyncify_app.proofs.SmallSteps.{small_at, past, never, at_end, at_first, type_is}
+use Rattle.asyncify_app.proofs.SmallSteps.{small_at, past, never, at_end, type_is}
 use Rattle.asyncify_app.proofs.small.bodies.is_typed.Goals as goal
 
 pub height_after-requires-clause-small : goal.height_after-requires-clause-small

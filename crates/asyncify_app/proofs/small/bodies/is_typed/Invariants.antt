@@ -1,8 +1,6 @@
-use Rattle.std.proofs.Common.{◌≡◌, ◌↔◌, ◌≤◌, drop, replicate, [], ◌∷◌}
-use Rattle.wa_types.specs.declared.values.ValType.TheVariants.{I32}
-use Rattle.wa_types.specs.View.{module_of, func_of, code}
+use Rattle.std.proofs.Common.{◌≤◌}
+use Rattle.wa_types.specs.View.{module_of, func_of}
 use Rattle.wa_types.specs.Modules.{around}
-use Rattle.wa_types.specs.Typing.{listed, Types}
 use Rattle.asyncify_app.proofs.SmallSteps.{Reaches}
 use Rattle.asyncify_app.proofs.small.bodies.is_typed.Given as goal
 

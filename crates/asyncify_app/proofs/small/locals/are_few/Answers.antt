@@ -1,7 +1,6 @@
-use Rattle.std.proofs.Common.{arith, ◌≡◌, ◌+◌, ◌≤◌, length, get_or, take, true, false}
+use Rattle.std.proofs.Common.{arith}
 use Rattle.wa_types.specs.declared.syntax.Run.{Run}
 use Rattle.wa_types.specs.declared.values.ValType.TheVariants.{I32}
-use Rattle.wa_types.specs.Modules.{declared_locals}
 use Rattle.asyncify_app.proofs.SmallLocals.{run_within}
 use Rattle.asyncify_app.proofs.small.locals.are_few.Goals as goal
 

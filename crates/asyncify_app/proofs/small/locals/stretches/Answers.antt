@@ -1,10 +1,7 @@
-use Rattle.std.proofs.Common.{arith, ◌≡◌, ◌+◌, ◌≤◌, ◌<◌, ◌++◌, [], ◌∷◌, length, get_or, take, replicate, Fits, w64, length-append, refl, ap}
+use Rattle.std.proofs.Common.{arith, ◌≡◌, ◌+◌, [], length, replicate, length-append, ap}
 use Rattle.std.proofs.lemmas.List.{length-replicate, append-nil}
-use Rattle.wa_types.specs.declared.syntax.Run.{Run}
 use Rattle.wa_types.specs.declared.values.ValType.TheVariants.{I32}
-use Rattle.wa_types.specs.Modules.{declared_locals}
 use Rattle.asyncify_app.specs.declared.small.locals.Stretch.{Stretch}
-use Rattle.asyncify_app.specs.Locals.{Holds}
 use Rattle.asyncify_app.proofs.SmallLocals.{run_within, run_more, held_none, held_push, held_run}
 use Rattle.asyncify_app.proofs.small.locals.stretches.Goals as goal
 

@@ -1,4 +1,4 @@
-use Rattle.std.proofs.Common.{leb, rules, ◌∙◌, ◌≡◌, Some, None, slice_get, length, refl}
+use Rattle.std.proofs.Common.{leb, rules, ◌∙◌, Some, None, length, refl}
 use Rattle.std.proofs.lemmas.Option.{slice_get_read, slice_get_past}
 use Rattle.std.proofs.lemmas.List.Sorted.{IsPartitionPoint-from_clause}
 use Rattle.asyncify_app.specs.declared.small.locals.Stretch.{Stretch}

@@ -1,4 +1,3 @@
-use Rattle.std.proofs.Common.{◌≡◌, rules, map, false, true}
 use Rattle.asyncify_app.proofs.SmallNames.{again, still, kept}
 use Rattle.asyncify_app.proofs.small.names.names_differ.Goals as goal
 
