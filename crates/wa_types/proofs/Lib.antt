@@ -18,6 +18,10 @@ pub mod TypingLemmas
 pub mod UnsignedReads
 pub mod UnsignedSpelling
 pub mod Vectors
+pub mod SigLemmas
+pub mod TypingLemmas
+pub mod Cuts
+pub mod FaultLemmas
 pub mod ViewLemmas
 pub mod WeightLemmas
 pub mod LiveLemmas
