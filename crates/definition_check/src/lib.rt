@@ -1,0 +1,9 @@
+//! Checks that the definitions mean what they should, on small modules.
+#![tactic(auto)]
+
+ghost use Rattle.definition_check.specs.Laws.{VerdictIsTyping};
+
+/// What is computed of a body is its typing and its first fault.
+pub fn verdict_is_typing()
+    ensures { VerdictIsTyping }
+{}
