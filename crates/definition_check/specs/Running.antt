@@ -3,8 +3,10 @@ use Rattle.std.specs.Prelude.{◌≡◌, ℕ, suc, ◌+◌, ◌++◌, List, [], 
 use Rattle.wa_types.specs.declared.values.ValType.{ValType}
 use Rattle.wa_types.specs.declared.values.ValType.TheVariants.{I32}
 use Rattle.wa_types.specs.Encoding.{same_type}
-use Rattle.wa_types.specs.Syntax.{Code, done, plain, nest, branch}
+use Rattle.wa_types.specs.Syntax.{Code, done, plain, nest, branch, Func, Module}
 use Rattle.wa_types.specs.Typing.{Around, Sig, moves, leaves, drops, selects, lacks, late, listed, sig, label}
+use Rattle.wa_types.specs.Modules.{func_imports, around}
+use Rattle.wa_types.specs.Validity.{broken_outside}
 use Rattle.wa_types.specs.FirstFault.{mid, size}
 
 -- such operands
@@ -114,3 +116,25 @@ checks c ls (branch r a b rest) outs os free k =
 -- the verdict on a whole body
 abbrev pub body_verdict : Around → Code → Verdict
 body_verdict c body = checks c (c.result ∷ []) body (listed c.result) [] false 0
+
+-- What is said of a module: it is valid, or this is its first fault.
+pub data Answer : Type 0 where
+  valid : Answer
+  invalid : (func : Option ℕ) → (rule at : ℕ) → Answer
+
+abbrev pub func_answer : ℕ → Verdict → Answer → Answer
+func_answer x fine rest = rest
+func_answer x (fault rule at) rest = invalid (Some x) rule at
+
+-- of functions, the first of which has this number
+abbrev pub funcs_answer : Module → ℕ → List Func → Answer
+funcs_answer m x [] = valid
+funcs_answer m x (f ∷ fs) = func_answer x (body_verdict (around m f) f.body) (funcs_answer m (suc x) fs)
+
+abbrev pub outside_answer : List ℕ → Answer → Answer
+outside_answer [] rest = rest
+outside_answer (rule ∷ more) rest = invalid None rule 0
+
+-- of a module
+abbrev pub module_answer : Module → Answer
+module_answer m = outside_answer (broken_outside m) (funcs_answer m (func_imports m) m.funcs)
