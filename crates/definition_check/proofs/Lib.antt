@@ -1,3 +1,4 @@
 pub mod Exact
 pub mod Right
 pub mod Decided
+pub mod CaseLemmas

@@ -1,2 +1,4 @@
+pub mod Faults
 pub mod Laws
+pub mod Rows
 pub mod Running
