@@ -1,6 +1,5 @@
 -- What is computed of a module is to be said of it.
-use Rattle.std.proofs.Common.{◌≡◌, List, [], ◌∷◌, map, refl, ap, sym, subst}
-use Rattle.wa_types.specs.Syntax.{Module}
+use Rattle.std.proofs.Common.{◌≡◌, List, [], ◌∷◌, map, subst}
 use Rattle.definition_check.specs.Running.{Answer, module_answer}
 use Rattle.definition_check.specs.Laws.{Says}
 use Rattle.definition_check.specs.Faults.{Case, AllSay}

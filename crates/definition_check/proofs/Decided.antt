@@ -1,10 +1,10 @@
 -- The answer on a module.
-use Rattle.std.proofs.Common.{arith, ◌≡◌, ℕ, zero, suc, ◌+◌, ◌-◌, ◌<◌, ◌≤◌, ◌⊎◌, inl, inr, List, [], ◌∷◌, Option, Some, None, slice_get, refl, sym, ap, ◌∙◌, subst}
-use Rattle.wa_types.specs.Syntax.{Code, Func, Module}
-use Rattle.wa_types.specs.Typing.{Around, Typed}
+use Rattle.std.proofs.Common.{arith, ◌≡◌, ℕ, suc, ◌+◌, ◌-◌, ◌<◌, inl, inr, List, [], ◌∷◌, Some, None, slice_get, refl, sym, ap, ◌∙◌, subst}
+use Rattle.wa_types.specs.Syntax.{Func, Module}
+use Rattle.wa_types.specs.Typing.{Typed}
 use Rattle.wa_types.specs.Modules.{func_imports, around}
-use Rattle.wa_types.specs.Validity.{broken_outside, Valid}
-use Rattle.wa_types.specs.FirstFault.{BodyFault, FuncFault, FirstFault}
+use Rattle.wa_types.specs.Validity.{broken_outside}
+use Rattle.wa_types.specs.FirstFault.{FuncFault}
 use Rattle.wa_types.proofs.TypingLemmas.{less_on}
 use Rattle.wa_types.proofs.FaultLemmas.{all_hold_valid}
 use Rattle.definition_check.specs.Running.{Verdict, fine, fault, body_verdict, Answer, valid, invalid, func_answer, funcs_answer, outside_answer, module_answer}

@@ -1,5 +1,5 @@
 -- What is computed of a body is its typing and its first fault.
-use Rattle.std.proofs.Common.{arith, ◌≡◌, ℕ, zero, suc, ◌+◌, ◌-◌, ◌≤◌, inl, inr, ◌++◌, List, [], ◌∷◌, Option, Some, None, Bool, true, false, if◌then◌else◌, refl, ap, sym, ◌∙◌, subst}
+use Rattle.std.proofs.Common.{arith, ◌≡◌, ℕ, zero, suc, ◌+◌, ◌-◌, ◌≤◌, inl, inr, ◌++◌, List, [], ◌∷◌, Option, Bool, true, false, if◌then◌else◌, refl, ap, sym, ◌∙◌, subst}
 use Rattle.wa_types.specs.declared.values.ValType.{ValType}
 use Rattle.wa_types.specs.declared.values.ValType.TheVariants.{I32}
 use Rattle.wa_types.specs.Syntax.{Plain, Shape, Code, done, plain, nest, branch}
@@ -293,7 +293,6 @@ to_fault c body r at h =
       before = subst (λ (n : ℕ). UpTo r c (c.result ∷ []) body (listed c.result) [] (suc n)) e (subst (λ (i : List ValType). UpTo r c (c.result ∷ []) body (listed c.result) i (suc h.0)) h.2.before.1 h.2.before.2);
       fails = λ u. h.2.fails [] refl (subst (λ (n : ℕ). UpTo (suc r) c (c.result ∷ []) body (listed c.result) [] (suc n)) (sym e) u);
     }
-
 
 right_at : (c : Around) (body : Code) (v : Verdict) → body_verdict c body ≡ v → Right c (c.result ∷ []) body (listed c.result) [] false 0 v
 right_at c body v e = subst (Right c (c.result ∷ []) body (listed c.result) [] false 0) e (checks_right c (c.result ∷ []) body (listed c.result) [] false 0)

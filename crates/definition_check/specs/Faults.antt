@@ -1,17 +1,16 @@
 -- Small modules and what is to be said of them: at least one for each rule.
-use Rattle.std.specs.Prelude.{ℕ, List, [], ◌∷◌, Option, Some, None, Bool, true, false}
+use Rattle.std.specs.Prelude.{ℕ, List, [], ◌∷◌, Some, None, false}
 use Rattle.wa_types.specs.declared.values.ValType.{ValType}
-use Rattle.wa_types.specs.declared.values.ValType.TheVariants.{I32, I64}
+use Rattle.wa_types.specs.declared.values.ValType.TheVariants.{I32}
 use Rattle.wa_types.specs.declared.values.Value.TheVariants.{I32 as value_32, I64 as value_64}
-use Rattle.wa_types.specs.declared.operators.NumOp.TheVariants.{I32Add, I64Add}
-use Rattle.wa_types.specs.declared.syntax.Run.{Run}
+use Rattle.wa_types.specs.declared.operators.NumOp.TheVariants.{I32Add}
 use Rattle.wa_types.specs.declared.syntax.Limits.{Limits}
 use Rattle.wa_types.specs.declared.syntax.Import.{Import}
 use Rattle.wa_types.specs.declared.syntax.ImportKind.TheVariants.{Func as a_func_import, Global as a_global_import}
 use Rattle.wa_types.specs.declared.syntax.Export.{Export}
 use Rattle.wa_types.specs.declared.syntax.Space.{Space}
-use Rattle.wa_types.specs.declared.syntax.Space.TheVariants.{Func as a_func, Table as a_table, Memory as a_memory, Global as a_global}
-use Rattle.wa_types.specs.Syntax.{Basic, nop, drop, select, const, num, global_get, global_set, load, store, memory_size, memory_grow, Plain, basic, local_get, local_set, local_tee, br, br_if, br_table, return, unreachable, call, call_indirect, Shape, a_block, a_loop, Code, done, plain, nest, branch, FuncType, Func, GlobalDef, Elem, Segment, Module}
+use Rattle.wa_types.specs.declared.syntax.Space.TheVariants.{Func as a_func, Table as a_table, Global as a_global}
+use Rattle.wa_types.specs.Syntax.{drop, select, const, num, global_get, global_set, load, memory_size, basic, local_get, br, br_if, br_table, unreachable, call, call_indirect, a_block, a_loop, Code, done, plain, nest, branch, FuncType, GlobalDef, Segment, Module}
 use Rattle.definition_check.specs.Running.{Answer, valid, invalid}
 use Rattle.definition_check.specs.Laws.{Says}
 

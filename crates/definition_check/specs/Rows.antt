@@ -1,15 +1,14 @@
 -- Small programs that pause, and what their frames are.
-use Rattle.std.specs.Prelude.{◌≡◌, ℕ, List, [], ◌∷◌, ◌++◌, replicate, Option, Some, None, Bool, true, false}
+use Rattle.std.specs.Prelude.{◌≡◌, ℕ, List, [], ◌∷◌, ◌++◌, replicate, Some, None, true, false}
 use Rattle.wa_types.specs.declared.values.ValType.{ValType}
 use Rattle.wa_types.specs.declared.values.ValType.TheVariants.{I32, I64}
 use Rattle.wa_types.specs.declared.values.Value.TheVariants.{I32 as value_32, I64 as value_64}
 use Rattle.wa_types.specs.declared.operators.NumOp.TheVariants.{I32Add, I32Sub, I32LtU, I32Eqz, I64DivU, I64ExtendI32U}
 use Rattle.wa_types.specs.declared.syntax.Run.{Run}
-use Rattle.wa_types.specs.declared.syntax.Limits.{Limits}
 use Rattle.wa_types.specs.declared.syntax.Import.{Import}
 use Rattle.wa_types.specs.declared.syntax.ImportKind.TheVariants.{Func as a_func_import}
-use Rattle.wa_types.specs.Syntax.{Basic, drop, const, num, load, store, memory_grow, Plain, basic, local_get, local_set, local_tee, br_if, br_table, call, call_indirect, Shape, a_block, a_loop, Code, done, plain, nest, branch, FuncType, Func, Module}
-use Rattle.wa_types.specs.Pausing.{Policy, save_all, save_live, Settings, every, Numbered}
+use Rattle.wa_types.specs.Syntax.{drop, const, num, load, store, memory_grow, Plain, basic, local_get, local_set, local_tee, br_if, br_table, call, call_indirect, a_block, a_loop, Code, done, plain, nest, branch, FuncType, Func, Module}
+use Rattle.wa_types.specs.Pausing.{save_all, save_live, Settings, every, Numbered}
 use Rattle.wa_types.specs.Frames.{Place, Saved, Suspended, Room, Fit, Image, Count}
 use Rattle.wa_types.specs.Bounds.{Weight}
 
