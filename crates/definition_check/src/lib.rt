@@ -6,6 +6,7 @@
 
 ghost use Rattle.definition_check.specs.Laws.{EachModuleDecided, VerdictIsTyping};
 ghost use Rattle.definition_check.specs.Faults.{AllSay, body_cases, module_cases, valid_cases};
+ghost use Rattle.definition_check.specs.Lists.{Listings, Lists};
 ghost use Rattle.definition_check.specs.Rows.{Measures, OneCallImage, Rooms, SavedLocals};
 
 /// What is computed of a body is its typing and its first fault.
@@ -46,6 +47,16 @@ pub fn saved_locals()
 /// What functions of small programs weigh, how many locals they get and which of their calls have numbers.
 pub fn measures()
     ensures { Measures }
+{}
+
+/// What texts spell as lists of imports.
+pub fn lists()
+    ensures { Lists }
+{}
+
+/// Which names lists of imports list.
+pub fn listings()
+    ensures { Listings }
 {}
 
 /// What memory holds while a call waits.
