@@ -25,3 +25,4 @@ pub mod PointLemmas
 pub mod SlotLemmas
 pub mod SizeBounds
 pub mod AccessLemmas
+pub mod MemoryLemmas
