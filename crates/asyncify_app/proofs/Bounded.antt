@@ -24,7 +24,7 @@ use Rattle.wa_types.specs.Modules.{declared_locals}
 use Rattle.wa_types.proofs.ViewLemmas.{Kind, is_block, is_loop, is_if, is_plain, kind, in_block, in_loop, in_if}
 use Rattle.wasm_reader.specs.Small.{is_small_plain, is_small_code, IsSmallFunc, IsSmallShaped}
 use Rattle.wasm_reader.proofs.Modules.{module_bytes, from_types, from_sorts, from_exports, from_bodies}
-use Rattle.asyncify_app.specs.Bounds.{most_items, bounded_type, bounded_func, bounded_export, is_bounded}
+use Rattle.asyncify_app.specs.Bounds.{most_items, bounded_type, bounded_export, IsBounded, IsBoundedFunc}
 use Rattle.asyncify_app.proofs.Written.{shortest_length, shortest_signed_length, entries_length, vector_length, sized_length, section_length, entries_within}
 
 -- one byte a type
@@ -112,3 +112,104 @@ code_length (i ∷ is) h =
     let down = rest.0 in
     let up = rest.1 in
     (omega (arith, e, low, down), omega (arith, e, high, up))
+
+vector_types_length : (ts : List ValType) → (length ts ≤ length (vector (λ t. type_byte t ∷ []) ts)) × (length (vector (λ t. type_byte t ∷ []) ts) ≤ 10 + length ts)
+vector_types_length ts =
+    let e = length-append (shortest (length ts)) (flat_map (λ t. type_byte t ∷ []) ts) in
+    let n = types_length ts in
+    let s = shortest_length (length ts) in (omega (arith, e, n), omega (arith, e, n, s))
+
+-- a function type
+type_within : (t : FuncType) → (length t.params ≤ length (func_type_bytes t)) × (length t.results ≤ length (func_type_bytes t)) × (1 ≤ length (func_type_bytes t)) × (length (func_type_bytes t) ≤ 21 + length t.params + length t.results)
+type_within t =
+    let e = length-append (vector (λ p. type_byte p ∷ []) t.params) (vector (λ r. type_byte r ∷ []) t.results) in
+    let p = vector_types_length t.params in
+    let r = vector_types_length t.results in
+    let pl = p.0 in
+    let ph = p.1 in
+    let rl = r.0 in
+    let rh = r.1 in (omega (arith, e, pl), omega (arith, e, rl), omega arith, omega (arith, e, ph, rh))
+
+-- runs of locals
+runs_length : (rs : List Run) → (length rs ≤ length (flat_map run_bytes rs)) × (length (flat_map run_bytes rs) ≤ length rs * 11)
+runs_length [] = (omega arith, omega arith)
+runs_length (r ∷ rs) =
+    let rest = runs_length rs in
+    let e = length-append (run_bytes r) (flat_map run_bytes rs) in
+    let f = length-append (shortest r.count) (type_byte r.ty ∷ []) in
+    let s = shortest_length r.count in
+    let down = rest.0 in
+    let up = rest.1 in (omega (arith, e, f, down), omega (arith, e, f, s, up))
+
+-- a function of small code
+func_within : (f : FuncValue) → IsSmallFunc (func_of f) → (length f.body.items ≤ length (sized (body_bytes (func_of f)))) × (length f.locals.items ≤ length (sized (body_bytes (func_of f)))) × (1 ≤ length (sized (body_bytes (func_of f)))) × (length (sized (body_bytes (func_of f))) ≤ 30 + length f.locals.items * 11 + length f.body.items * 11)
+func_within f s =
+    let same : length (vector run_bytes (merged f.locals.items)) ≡ length (vector run_bytes f.locals.items) = ap (λ (rs : List Run). length (vector run_bytes rs)) s.runs in
+    let a = length-append (shortest (length (body_bytes (func_of f)))) (body_bytes (func_of f)) in
+    let b = length-append (vector run_bytes (merged f.locals.items)) (expression_bytes (code f.body.items)) in
+    let c = length-append (code_bytes (code f.body.items)) (0x0B ∷ []) in
+    let d = length-append (shortest (length f.locals.items)) (flat_map run_bytes f.locals.items) in
+    let i = code_length f.body.items s.body in
+    let r = runs_length f.locals.items in
+    let il = i.0 in
+    let ih = i.1 in
+    let rl = r.0 in
+    let rh = r.1 in
+    let x = shortest_length (length (body_bytes (func_of f))) in
+    let y = shortest_length (length f.locals.items) in
+    (omega (arith, a, b, c, il), omega (arith, a, b, same, d, rl), omega (arith, a, b, c), omega (arith, a, b, c, same, d, ih, rh, x, y))
+
+-- an export
+export_within : (e : Export) → (length e.name ≤ length (export_bytes e)) × (1 ≤ length (export_bytes e)) × (length (export_bytes e) ≤ 21 + length e.name)
+export_within e =
+    let a = length-append (name_bytes e.name) (space_byte e.space ∷ shortest e.index) in
+    let b = length-append (shortest (length e.name)) e.name in
+    let x = shortest_length (length e.name) in
+    let y = shortest_length e.index in (omega (arith, a, b), omega arith, omega (arith, a, b, x, y))
+
+-- each entry is shorter than they all, and they are no fewer
+pub entries_fit : {X : Type 0} → (entry : X → List ℕ) (xs : List X) (n : ℕ) → length (flat_map entry xs) ≤ n → All (λ x. length (entry x) ≤ n) xs
+entries_fit entry [] n h = All-nil (λ x. length (entry x) ≤ n)
+entries_fit entry (x ∷ xs) n h =
+    let e = length-append (entry x) (flat_map entry xs) in
+    All-cons (λ x. length (entry x) ≤ n) x xs (omega (arith, e)) (entries_fit entry xs n (omega (arith, e)))
+
+pub entries_few : {X : Type 0} → (entry : X → List ℕ) (xs : List X) → All (λ x. 1 ≤ length (entry x)) xs → length xs ≤ length (flat_map entry xs)
+entries_few entry [] h = omega arith
+entries_few entry (x ∷ xs) h =
+    let e = length-append (entry x) (flat_map entry xs) in
+    let one = All-head (λ x. 1 ≤ length (entry x)) x xs h in
+    omega (arith, e, one, entries_few entry xs (All-tail (λ x. 1 ≤ length (entry x)) x xs h))
+
+flat_map_map : {A B : Type 0} (view : A → B) (entry : B → List ℕ) (s : List A) → flat_map (λ x. entry (view x)) s ≡ flat_map entry (map view s)
+flat_map_map view entry [] = refl
+flat_map_map view entry (x ∷ s) = ap (λ z. entry (view x) ++ z) (flat_map_map view entry s)
+
+every : {X : Type 0} (P : X → Type 0) → ((x : X) → P x) → (xs : List X) → All P xs
+every P f [] = All-nil P
+every P f (x ∷ xs) = All-cons P x xs (f x) (every P f xs)
+
+both : {X : Type 0} (P Q : X → Type 0) (xs : List X) → All P xs → All Q xs → All (λ x. P x × Q x) xs
+both P Q [] h k = All-nil (λ x. P x × Q x)
+both P Q (x ∷ xs) h k = All-cons (λ x. P x × Q x) x xs (All-head P x xs h, All-head Q x xs k) (both P Q xs (All-tail P x xs h) (All-tail Q x xs k))
+
+-- the lengths of a section's entries, seen through a view
+pub record Spans {A : Type 0} (bytes : A → List ℕ) (xs : List A) (whole : ℕ) : Type 0 where
+  pub count : length xs ≤ whole
+  pub each : All (λ x. length (bytes x) ≤ whole) xs
+
+spans : {A B : Type 0} (view : A → B) (entry : B → List ℕ) (id : ℕ) (xs : List A) (whole : ℕ) → All (λ x. 1 ≤ length (entry (view x))) xs → length (section id entry (map view xs)) ≤ whole → Spans (λ x. entry (view x)) xs whole
+spans view entry id xs whole some h =
+    let same = ap length (flat_map_map view entry xs) in
+    let within = entries_within id entry (map view xs) in
+    let few = entries_few (λ x. entry (view x)) xs some in
+    record {
+      count = omega (arith, same, within, few);
+      each = entries_fit (λ x. entry (view x)) xs whole (omega (arith, same, within));
+    }
+
+-- a section within bounds
+section_within : {A B : Type 0} (view : A → B) (entry : B → List ℕ) (id : ℕ) (xs : List A) (most : ℕ) → All (λ x. length (entry (view x)) ≤ most) xs → length (section id entry (map view xs)) ≤ 21 + length xs * most
+section_within view entry id xs most h =
+    let same = ap length (flat_map_map view entry xs) in
+    omega (arith, same, section_length id entry (map view xs), entries_length (λ x. entry (view x)) most xs h)

@@ -18,4 +18,5 @@
 mod adding;
 mod reserving;
 
+pub use adding::{RuntimeFault, WithRuntime, add_runtime};
 pub use reserving::{ReservedAt, reserved};

@@ -1,7 +1,7 @@
 pub mod Counts
-pub mod Told
 pub mod Files
-pub mod Taken
-pub mod Schedule
 pub mod InMemory
 pub mod Real
+pub mod Schedule
+pub mod Taken
+pub mod Told

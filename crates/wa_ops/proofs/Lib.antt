@@ -1,3 +1,3 @@
-mod BitCounts
-mod Shifts
+pub mod BitCounts
 pub mod OperateLemmas
+pub mod Shifts

@@ -1,8 +1,8 @@
+pub mod Codes
 pub mod Fronts
+pub mod Functions
+pub mod Merged
+pub mod Modules
 pub mod Numbers
 pub mod Sections
 pub mod Vectors
-pub mod Codes
-pub mod Merged
-pub mod Functions
-pub mod Modules
