@@ -5,3 +5,4 @@ pub mod SmallBodies
 pub mod SmallSteps
 pub mod SmallSizes
 pub mod SmallWhole
+pub mod SmallSeven

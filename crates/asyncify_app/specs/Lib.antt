@@ -5,3 +5,4 @@ pub mod Transforms
 pub mod SmallParts
 pub mod Locals
 pub mod Heights
+pub mod Seven
