@@ -10,3 +10,4 @@ pub mod SmallSteps
 pub mod SmallWhole
 pub mod Transforming
 pub mod Written
+pub mod SmallSeven

@@ -7,3 +7,4 @@ pub mod Small
 pub mod SmallParts
 pub mod Transforms
 pub mod Words
+pub mod Seven

@@ -130,3 +130,6 @@ fn is_func_small(alloc: Global, module: &Module, func: &Func) -> Result<bool, Al
     let locals = stretches(alloc, params, &func.locals)?;
     Ok(is_typed(module, func, &locals))
 }
+
+#[cfg(test)]
+mod tests;
