@@ -1,0 +1,22 @@
+-- What is told, over several calls.
+use Rattle.std.proofs.Common.{Result, Ok, Err, OnErr, Option, Some, None}
+use Rattle.vault_port.specs.Told.{WhereTold, Becomes}
+
+-- one change after another
+pub Becomes_then : {A : Type 0} (R S T : A → A → Type 0) → ((x y z : A) → R x y → S y z → T x z) → (o p q : Option A) → Becomes o p R → Becomes p q S → Becomes o q T
+Becomes_then R S T joins None None None r s = tt
+Becomes_then R S T joins None None (Some z) r s = s
+Becomes_then R S T joins None (Some y) q r s = absurd r
+Becomes_then R S T joins (Some x) None q r s = absurd r
+Becomes_then R S T joins (Some x) (Some y) None r s = s
+Becomes_then R S T joins (Some x) (Some y) (Some z) r s = joins x y z r s
+
+-- less said of what is told
+pub told_weaker : {A : Type 0} (P Q : A → Type 0) → ((x : A) → P x → Q x) → (o : Option A) → WhereTold o P → WhereTold o Q
+told_weaker P Q weaker None p = tt
+told_weaker P Q weaker (Some x) p = weaker x p
+
+-- a fact holds whatever the result is
+pub OnErr_by : {T E P : Type 0} (r : Result T E) → P → OnErr r P
+OnErr_by (Ok x) p = tt
+OnErr_by (Err e) p = p
