@@ -7,11 +7,11 @@ use Rattle.wa_types.specs.declared.values.ValType.{ValType}
 use Rattle.wa_types.specs.declared.instrs.Instr.{Instr}
 use Rattle.wa_types.specs.declared.instrs.Instr.TheVariants.{BrTable, Block, Loop, If}
 use Rattle.wa_types.specs.Leb.{shortest}
-use Rattle.wa_types.specs.Syntax.{Code, Shape, done, plain, nest, branch, a_block, a_loop}
+use Rattle.wa_types.specs.Syntax.{Code, Shape, done, nest, branch, a_block, a_loop}
 use Rattle.wa_types.specs.View.{in_front, onto, code}
-use Rattle.wa_types.specs.Encoding.{vector, plain_bytes, shape_byte, block_type_byte, code_bytes, else_bytes}
-use Rattle.wa_types.proofs.ViewLemmas.{Kind, kind, is_block, is_loop, is_if, is_plain, in_block, in_loop, in_if, in_br_table, code_step, code_empty}
-use Rattle.wasm_encode.specs.Instrs.{first_bytes, instr_bytes, IsSimple}
+use Rattle.wa_types.specs.Encoding.{vector, shape_byte, block_type_byte, code_bytes, else_bytes}
+use Rattle.wa_types.proofs.ViewLemmas.{kind, is_block, is_loop, is_if, is_plain, in_block, in_loop, in_if, in_br_table, code_step, code_empty}
+use Rattle.wasm_encode.specs.Instrs.{first_bytes, instr_bytes}
 
 nest_front : (s : Shape) (r : Option ValType) (body rest : Code) → code_bytes (nest s r body rest) ≡ first_bytes (nest s r body done) ++ code_bytes rest
 unfolding code_bytes first_bytes

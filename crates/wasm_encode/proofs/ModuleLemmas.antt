@@ -1,5 +1,5 @@
 -- A module's sections, and the custom sections behind each.
-use Rattle.std.proofs.Common.{◌≡◌, ◌≢◌, ℕ, zero, suc, ◌+◌, ◌<◌, ◌≤◌, ◌^◌, List, [], ◌∷◌, ◌++◌, refl, ap, sym, ◌∙◌, subst, arith, map, add-one, append_assoc, append-nil, length, length-append, get_or, drop, drop-cons}
+use Rattle.std.proofs.Common.{◌≡◌, ℕ, ◌+◌, ◌<◌, ◌≤◌, ◌^◌, List, [], ◌∷◌, ◌++◌, refl, ap, sym, ◌∙◌, subst, arith, map, add-one, append_assoc, append-nil, length, length-append, get_or, drop, drop-cons}
 use Rattle.std.proofs.lemmas.List.{drop_all, get_or_default, get_or-map, length-map}
 use Rattle.std.specs.List.{flat_map, All}
 use Rattle.wa_types.specs.declared.syntax.Func.{Func as FuncValue}

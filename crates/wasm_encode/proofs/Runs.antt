@@ -1,5 +1,5 @@
 -- How many locals runs declare.
-use Rattle.std.proofs.Common.{ℕ, ◌+◌, ◌≤◌, List, arith, drop}
+use Rattle.std.proofs.Common.{ℕ, ◌≤◌, List, arith, drop}
 use Rattle.std.proofs.lemmas.List.Sums.{sum_by-take-drop}
 use Rattle.wa_types.specs.declared.syntax.Run.{Run}
 use Rattle.wasm_encode.specs.Locals.{local_count}

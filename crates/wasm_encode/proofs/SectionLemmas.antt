@@ -1,8 +1,7 @@
 -- Sections of entries, and custom sections at their places.
 use Rattle.std.proofs.Common.{◌≡◌, ◌≢◌, ℕ, zero, suc, ◌+◌, ◌<◌, ◌≤◌, ◌^◌, List, [], ◌∷◌, ◌++◌, Bool, true, false, inl, inr, refl, ap, sym, ◌∙◌, arith, min, map, filter, eqb, cond, add-one, append_assoc, append-nil, length, length-append, get_or, drop, drop-cons}
 use Rattle.std.proofs.lemmas.List.{drop_all}
-use Rattle.std.proofs.lemmas.Bool.{eq-eqb, ne_eqb, cases_eq}
-use Rattle.std.specs.List.{flat_map}
+use Rattle.std.proofs.lemmas.Bool.{eq-eqb, ne_eqb}
 use Rattle.wa_types.specs.declared.syntax.Custom.{Custom as CustomValue}
 use Rattle.wa_types.specs.Leb.{shortest}
 use Rattle.wa_types.specs.Syntax.{Custom}

@@ -1,5 +1,5 @@
 -- What is written of a module, place by place.
-use Rattle.std.specs.Prelude.{◌<◌, ◌^◌, ℕ, zero, suc, List, [], ◌∷◌, drop, slice_index_or}
+use Rattle.std.specs.Prelude.{◌<◌, ◌^◌, ℕ, List, [], ◌∷◌, drop, slice_index_or}
 use Rattle.std.specs.List.{All}
 use Rattle.wa_types.specs.Syntax.{Module}
 use Rattle.wa_types.specs.Encoding.{sections, with_customs}

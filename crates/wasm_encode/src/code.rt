@@ -18,15 +18,18 @@ const ELSE: u8 = 0x05;
 #[derive(Clone, Copy)]
 pub enum Operands {
     Nothing,
+    /// The zero byte of `memory.size` and `memory.grow`.
     Zero,
     Index(u32),
+    /// A type's index and the zero byte of `call_indirect`.
     IndexAndZero(u32),
     Memory { align: u32, offset: u32 },
     Signed32(u32),
     Signed64(u64),
 }
 
-/// The opcode of an instruction that holds no other, and what follows it (standard, section 5.4).
+/// The opcode of an instruction and what follows it (standard, section 5.4), but for `br_table` and those
+/// that hold others.
 #[tactic(auto, unfolding(crate::specs::Instrs::instr_bytes, crate::specs::Instrs::first_bytes, wa_types::specs::View::in_front))]
 fn opcode_and_operands(instr: &Instr) -> (u8, Operands)
     requires { IsSimple instr.now }

@@ -27,8 +27,8 @@ pub trait Entry {
         ensures { OnOk result (out.new.items ≡ out.old.items ++ bytes item.now) };
 }
 
-#[tactic(auto, using(crate::proofs::Vectors::measuring))]
 /// How many bytes a vector takes (standard, section 5.1.3).
+#[tactic(auto, using(crate::proofs::Vectors::measuring))]
 pub fn vector_len<E: Entry>(items: &[E::Item]) -> u64
     requires few { length (vector E.bytes items.now) < 2 ^ 64 }
     requires fits { All E.fits items.now }
@@ -41,8 +41,8 @@ pub fn vector_len<E: Entry>(items: &[E::Item]) -> u64
     len
 }
 
-#[tactic(auto, using(crate::proofs::Vectors::putting))]
 /// Appends a vector (standard, section 5.1.3).
+#[tactic(auto, using(crate::proofs::Vectors::putting))]
 pub fn put_vector<E: Entry>(out: &mut BytesMut, items: &[E::Item]) -> Result<(), AllocError>
     requires { All E.fits items.now }
     ensures { OnOk result (out.new.items ≡ out.old.items ++ vector E.bytes items.now) }

@@ -45,8 +45,8 @@ pub fn put_section<E: Entry>(
     put_vector::<E>(out, items)
 }
 
-#[tactic(auto, using(wa_types::proofs::UnsignedSpelling::shortest_length))]
 /// How many bytes the start section takes (standard, section 5.5.11): none where there is no start.
+#[tactic(auto, using(wa_types::proofs::UnsignedSpelling::shortest_length))]
 pub fn start_len(start: Option<u32>) -> u64
     ensures { result ≡ length (start_section start) }
 {

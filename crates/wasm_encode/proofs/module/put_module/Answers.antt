@@ -1,6 +1,6 @@
-use Rattle.std.proofs.Common.{◌≡◌, ◌++◌, ◌∙◌, ap, map, arith}
+use Rattle.std.proofs.Common.{◌++◌, ◌∙◌, ap, map, arith}
 use Rattle.wa_types.specs.View.{module_of, custom_of}
-use Rattle.wa_types.specs.Encoding.{Enc, customs_behind}
+use Rattle.wa_types.specs.Encoding.{customs_behind}
 use Rattle.wasm_encode.proofs.ModuleLemmas.{put_more, put_no_more, more_length}
 use Rattle.wasm_encode.proofs.module.put_module.Goals as goal
 
