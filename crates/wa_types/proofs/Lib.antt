@@ -26,3 +26,4 @@ pub mod SlotLemmas
 pub mod SizeBounds
 pub mod AccessLemmas
 pub mod MemoryLemmas
+pub mod PlaceLemmas
