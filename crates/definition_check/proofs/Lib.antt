@@ -2,3 +2,4 @@ pub mod Exact
 pub mod Right
 pub mod Decided
 pub mod CaseLemmas
+pub mod PauseLemmas
