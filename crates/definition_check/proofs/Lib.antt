@@ -2,3 +2,6 @@ pub mod CaseLemmas
 pub mod Decided
 pub mod Exact
 pub mod Right
+pub mod Decided
+pub mod CaseLemmas
+pub mod PauseLemmas

@@ -1,3 +1,4 @@
+pub mod Analysis
 pub mod Faults
 pub mod Laws
 pub mod Lists

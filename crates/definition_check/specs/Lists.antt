@@ -1,5 +1,5 @@
 -- Lists of imports, and what they list.
-use Rattle.std.specs.Prelude.{◌≡◌, List, [], ◌∷◌, Bool, true, false, Ok, Err, codes}
+use Rattle.std.specs.Prelude.{◌≡◌, [], ◌∷◌, true, false, Ok, Err, codes}
 use Rattle.wa_types.specs.Pausing.{beginning, exactly, empty_entry, star_inside, no_dot, of_list, every, nobody, list_of, is_listed}
 
 -- What texts spell.

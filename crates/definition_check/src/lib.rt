@@ -4,6 +4,7 @@
 //! computes from the definitions. So a definition that says another thing than meant shows here.
 #![tactic(auto)]
 
+ghost use Rattle.definition_check.specs.Analysis.{OnlySleeperPauses};
 ghost use Rattle.definition_check.specs.Laws.{EachModuleDecided, VerdictIsTyping};
 ghost use Rattle.definition_check.specs.Faults.{AllSay, body_cases, module_cases, valid_cases};
 ghost use Rattle.definition_check.specs.Lists.{Listings, Lists};
@@ -57,6 +58,11 @@ pub fn lists()
 /// Which names lists of imports list.
 pub fn listings()
     ensures { Listings }
+{}
+
+/// Which functions of a small program may pause.
+pub fn only_sleeper_pauses()
+    ensures { OnlySleeperPauses }
 {}
 
 /// What memory holds while a call waits.

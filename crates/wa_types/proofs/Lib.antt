@@ -26,3 +26,10 @@ pub mod UnsignedSpelling
 pub mod Vectors
 pub mod ViewLemmas
 pub mod WeightLemmas
+pub mod LiveLemmas
+pub mod PointLemmas
+pub mod SlotLemmas
+pub mod SizeBounds
+pub mod AccessLemmas
+pub mod MemoryLemmas
+pub mod PlaceLemmas

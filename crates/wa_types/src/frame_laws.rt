@@ -1,6 +1,6 @@
 //! Laws of slots and of live locals. Each is the contract of a function that does nothing.
 
-ghost use Rattle.wa_types.specs.FrameLaws.{LiveIsPath, SlotsArePairs};
+ghost use Rattle.wa_types.specs.FrameLaws.{LiveIsPath, OneEachCall, SlotsArePairs};
 
 /// The slots of a typed body are the heights and types of the operands at its points.
 pub fn slots_are_pairs()
@@ -10,4 +10,9 @@ pub fn slots_are_pairs()
 /// The locals that count as live behind a call are those that some path reads before it writes them.
 pub fn live_is_path()
     ensures { LiveIsPath }
+{}
+
+/// Each list by the places of a function's calls has one element for each call.
+pub fn one_each_call()
+    ensures { OneEachCall }
 {}

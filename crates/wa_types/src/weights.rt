@@ -10,6 +10,7 @@ use crate::syntax::{Func, ImportKind, Module, Run};
 
 /// The weight of a function: the number of instructions, labels of `br_table` and call parameters of its pruned
 /// body, plus its parameters and locals. A type or function index out of range counts no parameters.
+/// Takes no memory, so each call looks through the imports.
 pub fn weight(module: &Module, func: &Func) -> u64
     requires { Weight (module_of «module».now) (func_of func.now) < 2 ^ 64 }
     ensures { result ≡ Weight (module_of «module».now) (func_of func.now) }
