@@ -256,7 +256,7 @@ code_sound (suc n) first_arm more last at bytes h g =
     (by_opcode n first_arm more last at t.op t.new t.back (code_sound n) (omega (arith, h, ap length t.whole)) t.stands t.goes)
 
 -- an opcode of one kind is of no other
-nest_range : (op : ℕ) → IsTrue (is_nest op) → (op ≡ 2) ⊎ (op ≡ 3)
+pub nest_range : (op : ℕ) → IsTrue (is_nest op) → (op ≡ 2) ⊎ (op ≡ 3)
 nest_range zero h = let e : false ≡ true = h in absurd (cc)
 nest_range (suc zero) h = let e : false ≡ true = h in absurd (cc)
 nest_range (suc (suc zero)) h = inl refl
@@ -269,13 +269,13 @@ nest_next first_arm op h = elim (nest_range op h) [
   | inr e ↦ subst (λ z. behind_opcode first_arm z ≡ Some (block_type ∷ code false ∷ code first_arm ∷ [])) (sym e) refl
 ]
 
-refuted : (op k : ℕ) (f : Follows) → follows op ≡ Some f → follows k ≡ None → nat_eq op k ≡ false
+pub refuted : (op k : ℕ) (f : Follows) → follows op ≡ Some f → follows k ≡ None → nat_eq op k ≡ false
 refuted op k f e n = elim (tested op k) [
   | inl s ↦ absurd (not_followed f (sym n ∙ ap follows (sym s) ∙ e))
   | inr r ↦ r
 ]
 
-none_nest : (op : ℕ) (f : Follows) → follows op ≡ Some f → is_nest op ≡ false
+pub none_nest : (op : ℕ) (f : Follows) → follows op ≡ Some f → is_nest op ≡ false
 unfolding follows
 none_nest op f e = elim (by_test (is_nest op)) [
   | inr r ↦ r

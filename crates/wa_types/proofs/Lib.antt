@@ -1,11 +1,16 @@
 pub mod CodeReads
+pub mod CodeWriting
 pub mod EntryReads
 pub mod FileReads
 pub mod Going
 pub mod Items
 pub mod Leaves
+pub mod NumOpcodes
 pub mod NumberReading
+pub mod NumberWriting
 pub mod Runs
 pub mod SectionReads
+pub mod Unique
+pub mod UniqueCode
 pub mod Vectors
 pub mod ViewLemmas

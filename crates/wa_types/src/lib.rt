@@ -8,6 +8,7 @@
 #![tactic(auto)]
 
 mod instrs;
+mod laws;
 mod leb;
 mod names;
 mod operators;
@@ -15,6 +16,7 @@ mod syntax;
 mod values;
 
 pub use instrs::Instr;
+pub use laws::{law_begun, law_one, law_whole};
 pub use leb::LebFault;
 pub use names::Name;
 pub use operators::NumOp;
