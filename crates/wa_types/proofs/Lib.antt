@@ -1,7 +1,9 @@
 pub mod CodeReads
 pub mod CodeWriting
 pub mod EntryReads
+pub mod EntryWriting
 pub mod FileReads
+pub mod FileWriting
 pub mod Going
 pub mod Items
 pub mod Leaves
