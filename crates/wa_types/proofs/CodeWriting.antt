@@ -95,7 +95,7 @@ pub record PlainWritten (p : Plain) (at : ℕ) (bytes : List ℕ) : Type 0 where
   pub follows : follows (plain_opcode p) ≡ Some (shape (plain_operands p))
   pub kind : HasKind p
 
-within_above : (low high n : ℕ) → high < n → within low high n ≡ false
+pub within_above : (low high n : ℕ) → high < n → within low high n ≡ false
 within_above low high n h = elim (nat_le low n) as (λ t. (t && nat_le n high) ≡ false) [ true ↦ lt-leb n high h | false ↦ refl ]
 
 within_inside : (low high n : ℕ) → low ≤ n → n ≤ high → within low high n ≡ true

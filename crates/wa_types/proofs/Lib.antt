@@ -10,6 +10,8 @@ pub mod Leaves
 pub mod NumOpcodes
 pub mod NumberReading
 pub mod NumberWriting
+pub mod OneModule
+pub mod PlainOf
 pub mod Runs
 pub mod SectionReads
 pub mod Unique

@@ -1,7 +1,12 @@
-ghost use Rattle.std.specs.Prelude.{◌≡◌, List, ℕ, ◌++◌};
+ghost use Rattle.std.specs.Prelude.{◌≡◌, List, ℕ, ◌++◌, ◌<◌, ◌^◌, All, length, sum_by};
 ghost use Rattle.wa_types.specs.Binary.{Section};
 ghost use Rattle.wa_types.specs.Spells.{Spells};
 ghost use Rattle.wa_types.specs.Begun.{Begun, IsWhole};
+ghost use Rattle.wa_types.specs.Encoding.{Enc};
+ghost use Rattle.wa_types.specs.Norm.{Norm};
+ghost use Rattle.wa_types.specs.Reading.{SpellsModule};
+ghost use Rattle.wa_types.specs.Sizes.{WellFormed};
+ghost use Rattle.wa_types.specs.Syntax.{Module};
 
 /// Law: what the goals of the grammar accept as whole is what is spelled (standard, section 5.5.15).
 pub fn law_whole()
@@ -20,5 +25,18 @@ pub fn law_begun()
 /// Law: bytes spell at most one file.
 pub fn law_one()
     ensures { (bytes : List ℕ) (x y : List Section) → Spells bytes x → Spells bytes y → x ≡ y }
+{
+}
+
+/// Law: bytes spell at most one module.
+pub fn law_one_module()
+    ensures { (bytes : List ℕ) (m n : Module) → SpellsModule bytes m → SpellsModule bytes n → m ≡ n }
+{
+}
+
+/// Law: what a module is written as spells it, its runs merged and its custom sections in their written
+/// order; where that is fewer than 2^32 bytes, and each function declares fewer than 2^32 locals.
+pub fn law_written()
+    ensures { (m : Module) → WellFormed m → All (λ f. sum_by (λ r. r.count) f.locals < 2 ^ 32) m.funcs → length (Enc m) < 2 ^ 32 → SpellsModule (Enc m) (Norm m) }
 {
 }

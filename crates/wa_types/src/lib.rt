@@ -16,7 +16,7 @@ mod syntax;
 mod values;
 
 pub use instrs::Instr;
-pub use laws::{law_begun, law_one, law_whole};
+pub use laws::{law_begun, law_one, law_one_module, law_whole, law_written};
 pub use leb::LebFault;
 pub use names::Name;
 pub use operators::NumOp;
