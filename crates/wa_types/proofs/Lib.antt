@@ -1,5 +1,6 @@
 pub mod CodeReads
 pub mod CodeWriting
+pub mod Copying
 pub mod EntryReads
 pub mod EntryWriting
 pub mod FileReads

@@ -7,6 +7,7 @@
 //! module is written as (`specs/Encoding.antt`).
 #![tactic(auto)]
 
+mod copy;
 mod instrs;
 mod laws;
 mod leb;
@@ -15,6 +16,7 @@ mod operators;
 mod syntax;
 mod values;
 
+pub use copy::copy_module;
 pub use instrs::Instr;
 pub use laws::{law_begun, law_one, law_one_module, law_whole, law_written};
 pub use leb::LebFault;
