@@ -7,23 +7,36 @@
 //! module is written as (`specs/Encoding.antt`).
 #![tactic(auto)]
 
+mod control;
 mod copy;
+mod frame_laws;
 mod instrs;
 mod laws;
 mod leb;
 mod names;
 mod operators;
 mod syntax;
+mod typing_laws;
 mod values;
+mod weights;
 
 pub use copy::copy_module;
+pub use frame_laws::{live_is_path, slots_are_pairs};
 pub use instrs::Instr;
 pub use laws::{law_begun, law_one, law_one_module, law_whole, law_written};
-pub use leb::LebFault;
+pub use leb::{
+    LebFault, Spelling, read_s32, read_s64, read_u32, signed_spelling_laws, unsigned_spelling_laws,
+    write_s32, write_s64, write_u32,
+};
 pub use names::Name;
 pub use operators::NumOp;
 pub use syntax::{
     Custom, Elem, Export, Func, FuncType, GlobalDef, Import, ImportKind, Limits, Module, Run,
     Segment, Space,
 };
+pub use typing_laws::{
+    fault_is_first, one_first_fault, pruned_types, up_to_is_cut, valid_has_no_fault,
+    valid_is_all_hold,
+};
 pub use values::{Trap, ValType, Value};
+pub use weights::weight;

@@ -1,0 +1,291 @@
+ghost use Rattle.std.specs.Prelude.{◌≡◌, ◌<◌, ◌^◌, ◌+◌, ◌++◌, ◌↔◌, length, map, count_by, is_some, IfOk, OnOk, IsErrOf, Some};
+ghost use Rattle.wa_types.specs.View.{code, onto, module_of, func_of, global_of, func_type_of};
+ghost use Rattle.std.specs.List.{filter_map, list_any};
+ghost use Rattle.wa_types.specs.Modules.{imported_func, imported_memory, imported_global};
+ghost use Rattle.wa_types.specs.Base.{added_memories};
+ghost use Rattle.wa_types.specs.Runtime.{with_runtime, func_space, global_space, runtime_types, runtime_globals, runtime_funcs, runtime_func, runtime_exports, func_export, zero_global, start_code, stop_code, state_code, test_code};
+ghost use Rattle.asyncify_runtime.specs.Ids.{ids_behind};
+ghost use Rattle.asyncify_runtime.specs.Reserved.{reserved_at};
+ghost use Rattle.asyncify_runtime.specs.declared.adding.RuntimeFault.TheVariants.{Reserved};
+
+use crate::reserving::{ReservedAt, reserved};
+use local_spill::RuntimeIds;
+use std::alloc::{AllocError, Global};
+use thiserror::Error;
+use wa_types::{
+    Export, Func, FuncType, GlobalDef, Import, ImportKind, Instr, Limits, Module, Name, NumOp,
+    Space, ValType, Value,
+};
+
+/// Why nothing was appended.
+#[derive(Debug, Drop, Error)]
+pub enum RuntimeFault {
+    #[error("out of memory")]
+    Memory,
+    #[error("the module has a reserved name")]
+    Reserved(ReservedAt),
+}
+
+impl From<AllocError> for RuntimeFault {
+    ghost use Rattle.std.specs.Prelude.{◌≡◌};
+    ghost use Rattle.asyncify_runtime.specs.declared.adding.RuntimeFault.TheVariants.{Memory};
+
+    ghost from_gives = { λ _ e. e ≡ Memory };
+
+    fn from(_error: AllocError) -> RuntimeFault {
+        RuntimeFault::Memory
+    }
+}
+
+/// A module with the appended parts, and their numbers.
+#[derive(Debug, Drop)]
+pub struct WithRuntime {
+    pub module: Module,
+    pub ids: RuntimeIds,
+}
+
+/// The memory of a module that has none: one page.
+const ONE_PAGE: Limits = Limits {
+    min: 1,
+    max: Some(1),
+};
+
+/// The module with the runtime's parts behind its own, and their numbers. `Reserved` comes exactly where
+/// `reserved` gives that place. After a fault the module is dropped.
+#[tactic(auto, unfolding(wa_types::specs::Runtime::with_runtime))]
+pub fn add_runtime(alloc: Global, module: Module) -> Result<WithRuntime, RuntimeFault>
+    requires types { length «module».types.items < 2 ^ 31 }
+    requires imports { length «module».imports.items < 2 ^ 31 }
+    requires funcs { func_space (module_of «module») < 2 ^ 31 }
+    requires globals { global_space (module_of «module») < 2 ^ 31 }
+    requires exports { length «module».exports.items < 2 ^ 31 }
+    ensures added { IfOk result (λ r. module_of r.«module» ≡ with_runtime (module_of «module»)) }
+    ensures ids { IfOk result (λ r. r.ids ≡ ids_behind (module_of «module»)) }
+    ensures reserved { (at : ReservedAt) → IsErrOf result (Reserved at) ↔ (reserved_at (module_of «module») ≡ Some at) }
+{
+    if let Some(at) = reserved(&module) {
+        return Err(RuntimeFault::Reserved(at));
+    }
+    let ids = ids_behind(&module);
+    let first_type = module.types.len() as u32;
+    let mut module = module;
+    add_memory(&module.imports, &mut module.memories)?;
+    push_types(alloc, &mut module.types)?;
+    push_globals(alloc, &mut module.globals)?;
+    push_funcs(alloc, &mut module.funcs, first_type, ids)?;
+    push_exports(alloc, &mut module.exports, ids.first)?;
+    Ok(WithRuntime { module, ids })
+}
+
+// The numbers of the parts to come.
+#[tactic(auto, using(crate::proofs::Counts::counting))]
+fn ids_behind(module: &Module) -> RuntimeIds
+    requires funcs { func_space (module_of «module».now) < 2 ^ 31 }
+    requires globals { global_space (module_of «module».now) < 2 ^ 31 }
+    ensures { result ≡ ids_behind (module_of «module».now) }
+{
+    let state = (imported_globals(&module.imports) + module.globals.len()) as u32;
+    RuntimeIds {
+        state,
+        address: state + 1,
+        first: (imported_funcs(&module.imports) + module.funcs.len()) as u32,
+    }
+}
+
+fn imported_globals(imports: &[Import]) -> usize
+    ensures { result ≡ count_by (λ (i : Import). is_some (imported_global i.kind)) imports.now }
+{
+    imports
+        .iter()
+        .filter(|import| matches!(import.kind, ImportKind::Global(..)))
+        .count()
+}
+
+fn imported_funcs(imports: &[Import]) -> usize
+    ensures { result ≡ count_by (λ (i : Import). is_some (imported_func i.kind)) imports.now }
+{
+    imports
+        .iter()
+        .filter(|import| matches!(import.kind, ImportKind::Func(_)))
+        .count()
+}
+
+fn has_imported_memory(imports: &[Import]) -> bool
+    ensures { result ≡ list_any (λ (i : Import). is_some (imported_memory i.kind)) imports.now }
+{
+    imports
+        .iter()
+        .any(|import| matches!(import.kind, ImportKind::Memory(_)))
+}
+
+// One page, where there is no memory.
+fn add_memory(imports: &[Import], memories: &mut Vec<Limits>) -> Result<(), AllocError>
+    ensures { OnOk result (memories.new.items ≡ memories.old.items ++ added_memories (filter_map (λ (i : Import). imported_memory i.kind) imports.now ++ memories.old.items)) }
+{
+    if !memories.is_empty() {
+        return Ok(());
+    }
+    if has_imported_memory(imports) {
+        return Ok(());
+    }
+    memories.push(ONE_PAGE)?;
+    Ok(())
+}
+
+// The three types of the exports.
+fn push_types(alloc: Global, types: &mut Vec<FuncType>) -> Result<(), AllocError>
+    ensures { OnOk result (map func_type_of types.new.items ≡ map func_type_of types.old.items ++ runtime_types) }
+{
+    types.push(FuncType {
+        params: vec![in alloc; ValType::I32]?,
+        results: Vec::new(alloc),
+    })?;
+    types.push(FuncType {
+        params: Vec::new(alloc),
+        results: Vec::new(alloc),
+    })?;
+    types.push(FuncType {
+        params: Vec::new(alloc),
+        results: vec![in alloc; ValType::I32]?,
+    })?;
+    Ok(())
+}
+
+// A mutable i32 that begins as 0.
+#[tactic(auto, using(crate::proofs::Bodies::bodies))]
+fn zero_global(alloc: Global) -> Result<GlobalDef, AllocError>
+    ensures { IfOk result (λ g. global_of g ≡ zero_global) }
+{
+    Ok(GlobalDef {
+        ty: ValType::I32,
+        mutable: true,
+        init: vec![in alloc; Instr::Const(Value::I32(0))]?,
+    })
+}
+
+// The state and the address.
+fn push_globals(alloc: Global, globals: &mut Vec<GlobalDef>) -> Result<(), AllocError>
+    ensures { OnOk result (map global_of globals.new.items ≡ map global_of globals.old.items ++ runtime_globals) }
+{
+    globals.push(zero_global(alloc)?)?;
+    globals.push(zero_global(alloc)?)?;
+    Ok(())
+}
+
+// The five functions.
+fn push_funcs(
+    alloc: Global,
+    funcs: &mut Vec<Func>,
+    first_type: u32,
+    ids: RuntimeIds,
+) -> Result<(), AllocError>
+    requires { first_type < 2 ^ 31 }
+    ensures { OnOk result (map func_of funcs.new.items ≡ map func_of funcs.old.items ++ runtime_funcs first_type ids.state ids.address) }
+{
+    funcs.push(start_func(alloc, first_type, 1, ids.state, ids.address)?)?;
+    funcs.push(stop_func(alloc, first_type + 1, ids.state, ids.address)?)?;
+    funcs.push(start_func(alloc, first_type, 2, ids.state, ids.address)?)?;
+    funcs.push(stop_func(alloc, first_type + 1, ids.state, ids.address)?)?;
+    funcs.push(state_func(alloc, first_type + 2, ids.state)?)?;
+    Ok(())
+}
+
+// An export of this function.
+fn func_export(alloc: Global, name: &str, index: u32) -> Result<Export, AllocError>
+    ensures { IfOk result (λ e. e ≡ func_export name.now index) }
+{
+    Ok(Export {
+        name: Name::new(alloc, name)?,
+        space: Space::Func,
+        index,
+    })
+}
+
+// The five exports.
+fn push_exports(alloc: Global, exports: &mut Vec<Export>, first: u32) -> Result<(), AllocError>
+    requires { first < 2 ^ 31 }
+    ensures { OnOk result (exports.new.items ≡ exports.old.items ++ runtime_exports first) }
+{
+    exports.push(func_export(alloc, "asyncify_start_unwind", first)?)?;
+    exports.push(func_export(alloc, "asyncify_stop_unwind", first + 1)?)?;
+    exports.push(func_export(alloc, "asyncify_start_rewind", first + 2)?)?;
+    exports.push(func_export(alloc, "asyncify_stop_rewind", first + 3)?)?;
+    exports.push(func_export(alloc, "asyncify_get_state", first + 4)?)?;
+    Ok(())
+}
+
+// asyncify_start_unwind and asyncify_start_rewind, which set the state to this number.
+#[tactic(auto, using(crate::proofs::Bodies::appended))]
+fn start_func(
+    alloc: Global,
+    sort: u32,
+    number: u32,
+    state: u32,
+    address: u32,
+) -> Result<Func, AllocError>
+    ensures { IfOk result (λ f. func_of f ≡ runtime_func sort (start_code number state address)) }
+{
+    let set = vec![in alloc;
+        Instr::Const(Value::I32(number)),
+        Instr::GlobalSet(state),
+        Instr::LocalGet(0),
+        Instr::GlobalSet(address),
+    ]?;
+    Ok(Func {
+        sort,
+        locals: Vec::new(alloc),
+        body: with_test(alloc, set, address)?,
+    })
+}
+
+// asyncify_stop_unwind and asyncify_stop_rewind.
+#[tactic(auto, using(crate::proofs::Bodies::appended))]
+fn stop_func(alloc: Global, sort: u32, state: u32, address: u32) -> Result<Func, AllocError>
+    ensures { IfOk result (λ f. func_of f ≡ runtime_func sort (stop_code state address)) }
+{
+    let set = vec![in alloc; Instr::Const(Value::I32(0)), Instr::GlobalSet(state)]?;
+    Ok(Func {
+        sort,
+        locals: Vec::new(alloc),
+        body: with_test(alloc, set, address)?,
+    })
+}
+
+// asyncify_get_state.
+#[tactic(auto, using(crate::proofs::Bodies::appended))]
+fn state_func(alloc: Global, sort: u32, state: u32) -> Result<Func, AllocError>
+    ensures { IfOk result (λ f. func_of f ≡ runtime_func sort (state_code state)) }
+{
+    Ok(Func {
+        sort,
+        locals: Vec::new(alloc),
+        body: vec![in alloc; Instr::GlobalGet(state)]?,
+    })
+}
+
+// The body with the test of the location behind it.
+#[tactic(auto, using(crate::proofs::Bodies::appended))]
+fn with_test(alloc: Global, body: Vec<Instr>, address: u32) -> Result<Vec<Instr>, AllocError>
+    ensures { IfOk result (λ v. code v.items ≡ onto body.items (test_code address)) }
+{
+    let mut body = body;
+    body.push(Instr::GlobalGet(address))?;
+    body.push(Instr::Load {
+        op: 0x28,
+        align: 2,
+        offset: 0,
+    })?;
+    body.push(Instr::GlobalGet(address))?;
+    body.push(Instr::Load {
+        op: 0x28,
+        align: 2,
+        offset: 4,
+    })?;
+    body.push(Instr::Num(NumOp::I32GtU))?;
+    body.push(Instr::If {
+        result: None,
+        then_arm: vec![in alloc; Instr::Unreachable]?,
+        else_arm: Vec::new(alloc),
+    })?;
+    Ok(body)
+}

@@ -1,0 +1,4 @@
+pub mod Telling
+pub mod Rising
+pub mod Pieces
+pub mod Shelf

@@ -1,0 +1,89 @@
+//! The numeric operators on integers (standard, section 4.3), each opcode at 32 or 64 bits.
+//!
+//! `OperatorClass::of` says which call takes an operator: `unary`, `convert`, `compare` or `binary`. Operands
+//! stand in the order in which they were pushed. The one law: each call answers what `operate` of
+//! `specs/Operate.antt` says of the same operands, topmost first: a value of the operator's result type, or for
+//! `binary` a trap. What the operators mean stands once for both widths in `specs/Integers.antt`.
+//!
+//! `load_value` is the same for what a load reads. No call takes memory.
+#![tactic(auto)]
+
+ghost use Rattle.std.specs.Prelude.{◌≡◌, [], ◌∷◌, Some, Ok};
+ghost use Rattle.wa_types.specs.Operators.{operand_types};
+ghost use Rattle.wa_types.specs.Typing.{type_of};
+ghost use Rattle.wa_ops.specs.declared.class.OperatorClass.TheVariants.{Unary, Conversion, Comparison, Binary};
+ghost use Rattle.wa_ops.specs.Operate.{operate, class_of};
+
+mod class;
+mod loads;
+mod narrow;
+#[cfg(test)]
+mod tests;
+mod wide;
+
+pub use class::OperatorClass;
+pub use loads::load_value;
+use wa_types::{NumOp, Trap, Value};
+
+/// The value of an operator with one operand: the counts of bits and the test for zero (standard, section
+/// 4.3.2). `clz` and `ctz` of 0 are the width.
+pub fn unary(op: NumOp, a: Value) -> Value
+    requires class { class_of op ≡ Unary }
+    requires types { operand_types op ≡ type_of a ∷ [] }
+    ensures { operate op (a ∷ []) ≡ Some (Ok result) }
+{
+    match (op, a) {
+        (NumOp::I32Eqz, Value::I32(i)) => Value::I32(u32::from(i == 0)),
+        (NumOp::I32Clz, Value::I32(i)) => Value::I32(i.leading_zeros()),
+        (NumOp::I32Ctz, Value::I32(i)) => Value::I32(i.trailing_zeros()),
+        (NumOp::I32Popcnt, Value::I32(i)) => Value::I32(i.count_ones()),
+        (NumOp::I64Eqz, Value::I64(i)) => Value::I32(u32::from(i == 0)),
+        (NumOp::I64Clz, Value::I64(i)) => Value::I64(u64::from(i.leading_zeros())),
+        (NumOp::I64Ctz, Value::I64(i)) => Value::I64(u64::from(i.trailing_zeros())),
+        (NumOp::I64Popcnt, Value::I64(i)) => Value::I64(u64::from(i.count_ones())),
+        _ => unreachable!(),
+    }
+}
+
+/// The value of a conversion between the two integer types (standard, section 4.3.3).
+pub fn convert(op: NumOp, a: Value) -> Value
+    requires class { class_of op ≡ Conversion }
+    requires types { operand_types op ≡ type_of a ∷ [] }
+    ensures { operate op (a ∷ []) ≡ Some (Ok result) }
+{
+    match (op, a) {
+        (NumOp::I32WrapI64, Value::I64(i)) => Value::I32((i % (1 << 32)) as u32),
+        (NumOp::I64ExtendI32S, Value::I32(i)) => {
+            Value::I64(i64::from(i.cast_signed()).cast_unsigned())
+        }
+        (NumOp::I64ExtendI32U, Value::I32(i)) => Value::I64(u64::from(i)),
+        _ => unreachable!(),
+    }
+}
+
+/// The i32 1 where a comparison of `a` with `b` holds, else 0 (standard, section 4.3.2).
+pub fn compare(op: NumOp, a: Value, b: Value) -> Value
+    requires class { class_of op ≡ Comparison }
+    requires types { operand_types op ≡ type_of b ∷ type_of a ∷ [] }
+    ensures { operate op (b ∷ a ∷ []) ≡ Some (Ok result) }
+{
+    match (a, b) {
+        (Value::I32(i), Value::I32(j)) => Value::I32(u32::from(narrow::compare(op, i, j))),
+        (Value::I64(i), Value::I64(j)) => Value::I32(u32::from(wide::compare(op, i, j))),
+        _ => unreachable!(),
+    }
+}
+
+/// What an operator makes of two operands of its result's type (standard, section 4.3.2): DivideByZero exactly
+/// for a division or remainder by 0, IntegerOverflow exactly for the signed division of the least number by -1.
+pub fn binary(op: NumOp, a: Value, b: Value) -> Result<Value, Trap>
+    requires class { class_of op ≡ Binary }
+    requires types { operand_types op ≡ type_of b ∷ type_of a ∷ [] }
+    ensures { operate op (b ∷ a ∷ []) ≡ Some result }
+{
+    match (a, b) {
+        (Value::I32(i), Value::I32(j)) => Ok(Value::I32(narrow::binary(op, i, j)?)),
+        (Value::I64(i), Value::I64(j)) => Ok(Value::I64(wide::binary(op, i, j)?)),
+        _ => unreachable!(),
+    }
+}
