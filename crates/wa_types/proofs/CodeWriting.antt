@@ -1,20 +1,17 @@
 -- The bytes that code is written as spell it.
-use Rattle.std.proofs.Common.{◌≡◌, ℕ, suc, zero, ◌+◌, ◌-◌, ◌<◌, ◌≤◌, ◌^◌, ◌⊎◌, List, [], ◌∷◌, ◌++◌, Option, Some, None, Bool, true, false, refl, ap, sym, ◌∙◌, subst, arith, append_assoc, append-nil, length, length-append, IsTrue, nat_eq, nat_lt, nat_le, ◌%◌, ◌/◌, cond, inl, inr, All, flat_map, ◌&&◌, ◌||◌}
+use Rattle.std.proofs.Common.{◌≡◌, ℕ, suc, ◌+◌, ◌<◌, ◌≤◌, ◌^◌, ◌⊎◌, List, [], ◌∷◌, ◌++◌, Option, Some, None, Bool, true, false, refl, ap, sym, ◌∙◌, subst, arith, append_assoc, length, length-append, IsTrue, nat_eq, nat_lt, nat_le, ◌%◌, ◌/◌, cond, inl, inr, All, flat_map, ◌&&◌, ◌||◌}
 use Rattle.std.proofs.lemmas.List.Elements.{All-head, All-tail}
 use Rattle.std.proofs.lemmas.Bool.{leb-true, le-leb, lt-leb}
 use Rattle.wa_types.specs.declared.values.ValType.{ValType}
 use Rattle.wa_types.specs.declared.values.ValType.TheVariants.{I32, I64}
-use Rattle.wa_types.specs.declared.values.Value.{Value}
 use Rattle.wa_types.specs.declared.values.Value.TheVariants.{I32 as value_32, I64 as value_64}
-use Rattle.wa_types.specs.declared.operators.NumOp.{NumOp}
 use Rattle.wa_types.specs.Leb.{spelled, shortest, shortest_signed}
-use Rattle.wa_types.specs.Operators.{opcode_of}
-use Rattle.wa_types.specs.Encoding.{vector, type_byte, block_type_byte, const_bytes, basic_bytes, plain_bytes, shape_byte, else_bytes, code_bytes, expression_bytes}
-use Rattle.wa_types.specs.Opcodes.{Follows, no_operand, a_zero, an_index, an_index_and_zero, an_access, some_labels, a_constant, a_float, follows, shape, within, is_nest, is_load_op, is_store_op, is_block_type, is_value_type}
-use Rattle.wa_types.specs.Binary.{Placed, Operands, nothing, zero_byte, index, index_and_zero, access, labels, constant, float, RawCode, ended, otherwise, instr, nested, branched}
-use Rattle.wa_types.specs.Spells.{◌▸◌, Exactly, Number, Items, Vector, Byte, ValueType, BlockType, OperandsOf, CodeOf}
+use Rattle.wa_types.specs.Encoding.{vector, type_byte, block_type_byte, basic_bytes, plain_bytes, shape_byte, else_bytes, code_bytes, expression_bytes}
+use Rattle.wa_types.specs.Opcodes.{an_access, follows, shape, within, is_nest, is_load_op, is_store_op}
+use Rattle.wa_types.specs.Binary.{Placed, RawCode, ended, otherwise, instr, nested, branched}
+use Rattle.wa_types.specs.Spells.{Number, Items, Vector, ValueType, BlockType, OperandsOf, CodeOf}
 use Rattle.wa_types.specs.Syntax.{Basic, nop, drop, select, const, num, global_get, global_set, load, store, memory_size, memory_grow, Plain, basic, local_get, local_set, local_tee, br, br_if, br_table, return, unreachable, call, call_indirect, Shape, a_block, a_loop, Code, done, plain, nest, branch}
-use Rattle.wa_types.specs.Reading.{plain_opcode, plain_operands, HasKind, IsPlain, IsCode, Each}
+use Rattle.wa_types.specs.Reading.{plain_opcode, plain_operands, HasKind, IsCode, Each}
 use Rattle.wa_types.specs.Sizes.{PlainFits, CodeFits}
 use Rattle.wa_types.proofs.NumOpcodes.{num_follows}
 use Rattle.wa_types.proofs.NumberWriting.{shortest_spells, shortest_signed_spells}
@@ -107,8 +104,17 @@ not_equal n k h = grind (arith)
 access_follows : (op : ℕ) → 0x28 ≤ op → op ≤ 0x3E → follows op ≡ Some an_access
 unfolding follows
 access_follows op h k =
-    rw (within_above 0x00 0x01 op (omega (arith, h)), within_above 0x0C 0x0D op (omega (arith, h)), not_equal op 0x0E (omega (arith, h)), not_equal op 0x0F (omega (arith, h)),
-    not_equal op 0x10 (omega (arith, h)), not_equal op 0x11 (omega (arith, h)), within_above 0x1A 0x1B op (omega (arith, h)), within_above 0x20 0x24 op (omega (arith, h)), within_inside 0x28 0x3E op h k) refl
+    rw (
+      within_above 0x00 0x01 op (omega (arith, h)),
+      within_above 0x0C 0x0D op (omega (arith, h)),
+      not_equal op 0x0E (omega (arith, h)),
+      not_equal op 0x0F (omega (arith, h)),
+      not_equal op 0x10 (omega (arith, h)),
+      not_equal op 0x11 (omega (arith, h)),
+      within_above 0x1A 0x1B op (omega (arith, h)),
+      within_above 0x20 0x24 op (omega (arith, h)),
+      within_inside 0x28 0x3E op h k,
+    ) refl
 
 in_range : (low high n : ℕ) → within low high n ≡ true → (low ≤ n) × (n ≤ high)
 in_range low high n e = halves (nat_le low n) (nat_le n high) refl refl e where
@@ -205,8 +211,7 @@ write_seq (plain p rest) h first_arm e tail t l at =
     let len : length (plain_bytes p) + (length (code_bytes rest) + length tail) < 2 ^ 32 = omega (arith, l, length-append (plain_bytes p ++ code_bytes rest) tail, length-append (plain_bytes p) (code_bytes rest)) in
     let w = write_plain p h.0 (omega (arith, len)) at in
     let x = write_seq rest h.1 first_arm e tail t (omega (arith, len, length-append (code_bytes rest) tail)) (at + 1 + length w.back) in
-    let op : Placed = record { place = at; byte = plain_opcode p } in
-    (
+    let op : Placed = record { place = at; byte = plain_opcode p } in (
       instr op (plain_operands p) x.0,
       (
         w.follows,
@@ -228,8 +233,7 @@ write_seq (nest s r body rest) h first_arm e tail t l at =
     let b = block_type r (at + 1) in
     let x = write_seq body h.0 false done (0x0B ∷ []) (end_tail false) (omega (arith, len)) (at + 1 + 1) in
     let y = write_seq rest h.1 first_arm e tail t (omega (arith, len)) (at + 1 + 1 + length inner) in
-    let op : Placed = record { place = at; byte = shape_byte s } in
-    (
+    let op : Placed = record { place = at; byte = shape_byte s } in (
       nested op b.raw x.0 y.0,
       (
         shape_nest s,
@@ -256,8 +260,7 @@ write_seq (branch r a b rest) h first_arm e tail t l at =
     let arms : Tail true b (other ++ 0x0B ∷ []) = arm_tail b (omega (arith, len_a)) (λ m k. write_seq b h.1 false done (0x0B ∷ []) (end_tail false) m k) in
     let x = write_seq a h.0 true b (other ++ 0x0B ∷ []) arms (omega (arith, len)) (at + 1 + 1) in
     let y = write_seq rest h.2 first_arm e tail t (omega (arith, len)) (at + 1 + 1 + length inner) in
-    let op : Placed = record { place = at; byte = 0x04 } in
-    (
+    let op : Placed = record { place = at; byte = 0x04 } in (
       branched op u.raw x.0 y.0,
       (
         refl,

@@ -1,5 +1,5 @@
 -- The bytes that entries of sections are written as spell them.
-use Rattle.std.proofs.Common.{◌≡◌, ℕ, suc, zero, ◌+◌, ◌-◌, ◌<◌, ◌≤◌, ◌^◌, ◌⊎◌, List, [], ◌∷◌, ◌++◌, map, Option, Some, None, Bool, true, false, refl, ap, sym, ◌∙◌, subst, arith, append_assoc, append-nil, length, length-append, IsTrue, IsUtf8, All, flat_map}
+use Rattle.std.proofs.Common.{ℕ, ◌+◌, ◌<◌, ◌^◌, List, [], ◌∷◌, ◌++◌, Option, Some, None, refl, arith, append_assoc, length, length-append, IsUtf8, All}
 use Rattle.wa_types.specs.declared.values.ValType.{ValType}
 use Rattle.wa_types.specs.declared.syntax.Run.{Run}
 use Rattle.wa_types.specs.declared.syntax.Limits.{Limits}
@@ -9,12 +9,11 @@ use Rattle.wa_types.specs.declared.syntax.Import.{Import}
 use Rattle.wa_types.specs.declared.syntax.Export.{Export}
 use Rattle.wa_types.specs.Leb.{shortest}
 use Rattle.wa_types.specs.Encoding.{vector, sized, name_bytes, type_byte, func_type_bytes, max_bytes, limits_bytes, table_bytes, mutable_byte, global_type_bytes, expression_bytes, import_kind_bytes, import_bytes, global_bytes, space_byte, export_bytes, elem_bytes, segment_bytes, run_bytes, merged, body_bytes}
-use Rattle.wa_types.specs.Syntax.{FuncType, Func, GlobalDef, Elem, Segment, Custom}
-use Rattle.wa_types.specs.Binary.{Placed, RawCode, RawType, RawKind, raw_func, raw_table, raw_memory, raw_global, RawImport, RawGlobal, RawElem, RawRun, RawBody, RawSegment}
-use Rattle.wa_types.specs.Spells.{◌▸◌, Exactly, Number, Items, Vector, Filling, Text, ValueType, FunctionType, Maximum, LimitsOf, TableType, CodeOf, ImportKindOf, ImportOf, GlobalOf, ExportOf, ElementOf, RunOf, BodyOf, SegmentOf}
+use Rattle.wa_types.specs.Syntax.{FuncType, Func, GlobalDef, Elem, Segment}
+use Rattle.wa_types.specs.Binary.{raw_func, raw_table, raw_memory, raw_global}
+use Rattle.wa_types.specs.Spells.{Vector, Text, ValueType, FunctionType, Maximum, LimitsOf, TableType, ImportKindOf, ImportOf, GlobalOf, ExportOf, ElementOf, RunOf, BodyOf, SegmentOf}
 use Rattle.wa_types.specs.Reading.{Each, IsFuncType, IsKind, IsImport, IsGlobal, IsElem, IsRun, IsBody, IsSegment, IsValueType}
 use Rattle.wa_types.specs.Sizes.{CodeFits, MaxFits, LimitsFit, KindFits, ImportFits, ExportFits, ElemFits, SegmentFits}
-use Rattle.wa_types.proofs.Going.{to_left, to_right}
 use Rattle.wa_types.proofs.NumberWriting.{shortest_spells}
 use Rattle.wa_types.proofs.CodeWriting.{Written, write_vector, write_numbers, number_some, write_type, write_expression, Itself}
 

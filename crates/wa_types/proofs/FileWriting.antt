@@ -1,24 +1,21 @@
 -- The bytes that a module is written as spell it.
-use Rattle.std.proofs.Common.{◌≡◌, ℕ, suc, zero, ◌+◌, ◌-◌, ◌<◌, ◌≤◌, ◌^◌, ◌⊎◌, List, [], ◌∷◌, ◌++◌, map, Option, Some, None, Bool, true, false, refl, ap, sym, ◌∙◌, subst, arith, add-zero, append_assoc, append-nil, length, length-append, IsTrue, IsUtf8, All, flat_map, filter, cond, nat_eq, eqb-true, inl, inr, min, option_to_list, sum_by}
+use Rattle.std.proofs.Common.{◌≡◌, ℕ, suc, ◌+◌, ◌<◌, ◌^◌, ◌⊎◌, List, [], ◌∷◌, ◌++◌, map, Option, Some, None, Bool, true, false, refl, ap, sym, ◌∙◌, subst, arith, add-zero, append_assoc, append-nil, length, length-append, All, flat_map, cond, nat_eq, eqb-true, inl, inr, min, option_to_list, sum_by}
 use Rattle.std.proofs.lemmas.List.Elements.{All-head, All-tail, All-cons, All-filter}
 use Rattle.std.proofs.lemmas.List.Concat.{flat_map-append}
 use Rattle.std.proofs.lemmas.List.Sums.{sum_by-cons}
-use Rattle.wa_types.specs.declared.values.ValType.{ValType}
-use Rattle.wa_types.specs.declared.values.ValType.TheVariants.{I32, I64}
 use Rattle.wa_types.specs.declared.syntax.Run.{Run}
 use Rattle.wa_types.specs.declared.syntax.Limits.{Limits}
-use Rattle.wa_types.specs.declared.syntax.Import.{Import}
 use Rattle.wa_types.specs.declared.syntax.Export.{Export}
 use Rattle.wa_types.specs.Leb.{shortest}
 use Rattle.wa_types.specs.Encoding.{vector, sized, name_bytes, func_type_bytes, limits_bytes, table_bytes, import_bytes, global_bytes, export_bytes, elem_bytes, segment_bytes, run_onto, same_type, merged, body_bytes, section, start_section, custom_bytes, customs_behind, preamble, sections, with_customs, Enc}
 use Rattle.wa_types.specs.Norm.{has_some, has_start, written_flags, placed_at, placed_behind, lowered, Norm}
 use Rattle.wa_types.specs.Sizes.{CodeFits, LimitsFit, ImportFits, FuncFits, ExportFits, ElemFits, SegmentFits, CustomFits, StartFits, WellFormed}
-use Rattle.wa_types.specs.Syntax.{FuncType, Func, GlobalDef, Elem, Segment, Custom, Module}
+use Rattle.wa_types.specs.Syntax.{Func, GlobalDef, Custom, Module}
 use Rattle.wa_types.specs.Binary.{RawType, RawImport, RawGlobal, RawElem, RawBody, RawSegment, Section, custom, types, imports, functions, tables, memories, globals, exports, start, elements, bodies, segments, section_id}
-use Rattle.wa_types.specs.Spells.{◌▸◌, Exactly, Number, Items, Vector, Filling, Sized, Text, FunctionType, LimitsOf, TableType, ImportOf, GlobalOf, ExportOf, ElementOf, BodyOf, SegmentOf, ContentOf, SectionOf, Rising, Spells, sorts_in, bodies_in}
+use Rattle.wa_types.specs.Spells.{◌▸◌, Exactly, Number, Items, Vector, Sized, FunctionType, LimitsOf, TableType, ImportOf, GlobalOf, ExportOf, ElementOf, BodyOf, SegmentOf, SectionOf, Rising, sorts_in, bodies_in}
 use Rattle.wa_types.specs.Reading.{Each, IsFuncType, IsImport, IsGlobal, IsElem, IsBody, IsSegment, types_in, imports_in, tables_in, memories_in, globals_in, exports_in, starts_in, elements_in, segments_in, customs_of, IsModule, SpellsModule}
 use Rattle.wa_types.proofs.NumberWriting.{shortest_spells}
-use Rattle.wa_types.proofs.CodeWriting.{Written, write_vector, write_number, number_some, Itself, each_itself, each_length}
+use Rattle.wa_types.proofs.CodeWriting.{Written, write_vector, number_some, Itself, each_itself, each_length}
 use Rattle.wa_types.proofs.EntryWriting.{write_func_type, write_limits, write_table, write_import, write_global, write_export, write_elem, write_segment, BodyFits, merged_func, write_body, name_spelled, func_type_some, limits_some, table_some, import_some, global_some, export_some, elem_some, segment_some, body_some}
 
 -- a section of entries, where there are some
@@ -41,14 +38,13 @@ file_from id (s ∷ rest) cs = s ++ (as_customs (placed_behind id cs) ++ file_fr
 
 items_append : (xs ys : List Section) (at : ℕ) (a b : List ℕ) → Items SectionOf xs at a → Items SectionOf ys (at + length a) b → Items SectionOf (xs ++ ys) at (a ++ b)
 items_append [] ys at a b h k = subst (Items SectionOf ys at) (sym (ap (λ z. z ++ b) h)) (subst (λ n. Items SectionOf ys n b) (ap (λ z. at + length z) h ∙ add-zero at) k)
-items_append (x ∷ xs) ys at a b h k =
-    (
-      h.0,
-      h.1 ++ b,
-      ap (λ z. z ++ b) h.2 ∙ append_assoc h.0 h.1 b,
-      h.3,
-      items_append xs ys (at + length h.0) h.1 b h.4 (subst (λ n. Items SectionOf ys n b) (omega (arith, ap length h.2, length-append h.0 h.1)) k),
-    )
+items_append (x ∷ xs) ys at a b h k = (
+  h.0,
+  h.1 ++ b,
+  ap (λ z. z ++ b) h.2 ∙ append_assoc h.0 h.1 b,
+  h.3,
+  items_append xs ys (at + length h.0) h.1 b h.4 (subst (λ n. Items SectionOf ys n b) (omega (arith, ap length h.2, length-append h.0 h.1)) k),
+)
 
 -- each known section is spelled at its place
 abbrev pub SpelledFrom : (at id : ℕ) → List (List Section) → List (List ℕ) → List Custom → Type 0
@@ -61,8 +57,7 @@ custom_spelled c h l at =
     let n = name_bytes c.name in
     let content = n ++ c.bytes in
     let size = shortest (length content) in
-    let len : length size + (length n + length c.bytes) < 2 ^ 32 = omega (arith, l, length-append size content, length-append n c.bytes) in
-    (
+    let len : length size + (length n + length c.bytes) < 2 ^ 32 = omega (arith, l, length-append size content, length-append n c.bytes) in (
       0x00 ∷ [],
       size ++ content,
       refl,
@@ -237,8 +232,8 @@ merged_sum (r ∷ rest) =
       | inl e ↦ rw e (merged_sum rest ∙ sym (sum_by-cons f r rest ∙ omega (arith, eqb-true r.count 0 e)))
       | inr e ↦ rw e (run_onto_sum r (merged rest) ∙ ap (λ n. r.count + n) (merged_sum rest) ∙ sym (sum_by-cons f r rest))
     ] where
-  zero_or : (n : ℕ) → (nat_eq n 0 ≡ true) ⊎ (nat_eq n 0 ≡ false)
-  zero_or n = elim (nat_eq n 0) as (λ t. (t ≡ true) ⊎ (t ≡ false)) [ true ↦ inl refl | false ↦ inr refl ]
+      zero_or : (n : ℕ) → (nat_eq n 0 ≡ true) ⊎ (nat_eq n 0 ≡ false)
+      zero_or n = elim (nat_eq n 0) as (λ t. (t ≡ true) ⊎ (t ≡ false)) [ true ↦ inl refl | false ↦ inr refl ]
 
 below_sum : (n : ℕ) (rs : List Run) → sum_by (λ (r : Run). r.count) rs < n → All (λ (r : Run). r.count < n) rs
 below_sum n [] h = λ k d l. absurd (omega (arith, l))

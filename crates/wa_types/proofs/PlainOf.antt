@@ -1,13 +1,13 @@
 -- Instructions from their opcodes and operands.
-use Rattle.std.proofs.Common.{◌≡◌, ℕ, refl, List, nat_eq, cond, Bool, true, false, IsTrue, ◌||◌, arith, ◌≤◌}
+use Rattle.std.proofs.Common.{◌≡◌, ℕ, refl, nat_eq, cond, false, arith, ◌≤◌}
 use Rattle.wa_types.specs.declared.values.Value.TheVariants.{I32 as value_32, I64 as value_64}
 use Rattle.wa_types.specs.declared.operators.NumOp.{NumOp}
 use Rattle.wa_types.specs.declared.operators.NumOp.TheVariants.{I32Eqz, I32Eq, I32Ne, I32LtS, I32LtU, I32GtS, I32GtU, I32LeS, I32LeU, I32GeS, I32GeU, I64Eqz, I64Eq, I64Ne, I64LtS, I64LtU, I64GtS, I64GtU, I64LeS, I64LeU, I64GeS, I64GeU, I32Clz, I32Ctz, I32Popcnt, I32Add, I32Sub, I32Mul, I32DivS, I32DivU, I32RemS, I32RemU, I32And, I32Or, I32Xor, I32Shl, I32ShrS, I32ShrU, I32Rotl, I32Rotr, I64Clz, I64Ctz, I64Popcnt, I64Add, I64Sub, I64Mul, I64DivS, I64DivU, I64RemS, I64RemU, I64And, I64Or, I64Xor, I64Shl, I64ShrS, I64ShrU, I64Rotl, I64Rotr, I32WrapI64, I64ExtendI32S, I64ExtendI32U}
 use Rattle.wa_types.specs.Operators.{opcode_of}
-use Rattle.wa_types.specs.Opcodes.{is_load_op, is_store_op, within}
+use Rattle.wa_types.specs.Opcodes.{is_load_op}
 use Rattle.wa_types.specs.Binary.{Operands, nothing, zero_byte, index, index_and_zero, access, labels, constant, float}
-use Rattle.wa_types.specs.Syntax.{Basic, nop, drop, select, const, num, global_get, global_set, load, store, memory_size, memory_grow, Plain, basic, local_get, local_set, local_tee, br, br_if, br_table, return, unreachable, call, call_indirect}
-use Rattle.wa_types.specs.Reading.{basic_opcode, plain_opcode, basic_operands, plain_operands, HasKind}
+use Rattle.wa_types.specs.Syntax.{nop, drop, select, const, num, global_get, global_set, load, store, memory_size, memory_grow, Plain, basic, local_get, local_set, local_tee, br, br_if, br_table, return, unreachable, call, call_indirect}
+use Rattle.wa_types.specs.Reading.{plain_opcode, plain_operands, HasKind}
 use Rattle.wa_types.proofs.CodeWriting.{within_above, store_range}
 
 -- the operator of an opcode

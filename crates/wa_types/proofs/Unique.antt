@@ -1,13 +1,10 @@
 -- Bytes that begin at a place spell at most one thing of a kind, and end in one place.
-use Rattle.std.proofs.Common.{◌≡◌, ℕ, suc, zero, ◌+◌, ◌-◌, ◌<◌, ◌≤◌, ◌⊎◌, List, [], ◌∷◌, ◌++◌, Option, Some, None, Bool, true, false, refl, ap, sym, ◌∙◌, subst, arith, append_assoc, append-nil, length, length-append, IsTrue}
-use Rattle.wa_types.specs.declared.syntax.Limits.{Limits}
+use Rattle.std.proofs.Common.{◌≡◌, ℕ, ◌+◌, List, [], ◌∷◌, ◌++◌, Option, Some, None, Bool, true, false, refl, ap, sym, ◌∙◌, subst, arith, append_assoc, length}
 use Rattle.wa_types.specs.declared.syntax.Space.{Space}
 use Rattle.wa_types.specs.declared.syntax.Space.TheVariants.{Func as a_func, Table as a_table, Memory as a_memory, Global as a_global}
-use Rattle.wa_types.specs.declared.syntax.Export.{Export}
-use Rattle.wa_types.specs.Leb.{IsUnsigned, IsSigned}
 use Rattle.wa_types.specs.Encoding.{space_byte, mutable_byte}
-use Rattle.wa_types.specs.Binary.{Placed, RawType, RawKind, raw_func, raw_table, raw_memory, raw_global, RawImport}
-use Rattle.wa_types.specs.Spells.{◌▸◌, Exactly, Number, SignedNumber, Items, Vector, Filling, Sized, TextBytes, Text, Byte, ValueType, BlockType, FunctionType, Maximum, LimitsOf, TableType, GlobalType, ImportKindOf, ImportOf, ExportOf}
+use Rattle.wa_types.specs.Binary.{Placed, RawKind, raw_func, raw_table, raw_memory, raw_global}
+use Rattle.wa_types.specs.Spells.{◌▸◌, Exactly, Number, SignedNumber, Items, Vector, Text, Byte, ValueType, BlockType, FunctionType, Maximum, LimitsOf, TableType, GlobalType, ImportKindOf, ImportOf, ExportOf}
 use Rattle.wa_types.specs.Begun.{an_unsigned, a_signed}
 use Rattle.wa_types.proofs.Items.{one_item, same_cut}
 

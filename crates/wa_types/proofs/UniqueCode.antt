@@ -1,13 +1,12 @@
 -- Bytes spell at most one code, and one file.
-use Rattle.std.proofs.Common.{◌≡◌, ℕ, suc, zero, ◌+◌, ◌-◌, ◌<◌, ◌≤◌, ◌⊎◌, List, [], ◌∷◌, ◌++◌, Option, Some, None, Bool, true, false, refl, ap, sym, ◌∙◌, subst, arith, append_assoc, append-nil, length, length-append, IsTrue, nat_eq, cond, inl, inr}
-use Rattle.wa_types.specs.declared.syntax.Export.{Export}
+use Rattle.std.proofs.Common.{◌≡◌, ℕ, ◌+◌, List, [], ◌∷◌, ◌++◌, Some, Bool, true, false, refl, ap, sym, ◌∙◌, subst, arith, append_assoc, length, length-append, IsTrue, nat_eq, cond, inl, inr}
 use Rattle.wa_types.specs.Encoding.{preamble}
 use Rattle.wa_types.specs.Opcodes.{Follows, follows, shape, is_nest}
-use Rattle.wa_types.specs.Binary.{Placed, Operands, nothing, zero_byte, index, index_and_zero, access, labels, constant, float, RawCode, ended, otherwise, instr, nested, branched, RawType, RawImport, RawGlobal, RawElem, RawRun, RawBody, RawSegment, Section, custom, types, imports, functions, tables, memories, globals, exports, start, elements, bodies, segments, section_id}
+use Rattle.wa_types.specs.Binary.{Placed, Operands, nothing, zero_byte, index, index_and_zero, access, labels, constant, float, RawCode, ended, otherwise, instr, nested, branched, Section, custom, types, imports, functions, tables, memories, globals, exports, start, elements, bodies, segments, section_id}
 use Rattle.wa_types.specs.Spells.{◌▸◌, Exactly, Number, SignedNumber, Items, Vector, Filling, Sized, Text, Byte, ValueType, BlockType, FunctionType, LimitsOf, TableType, GlobalType, OperandsOf, CodeOf, ImportOf, GlobalOf, ExportOf, ElementOf, RunOf, BodyOf, SegmentOf, ContentOf, SectionOf, Spells}
 use Rattle.wa_types.proofs.Items.{same_cut}
 use Rattle.wa_types.proofs.CodeReads.{nest_range, refuted, none_nest}
-use Rattle.wa_types.proofs.Unique.{Same, One, Pair, one_pair, one_view, one_exact, one_number, one_signed, one_items, one_vector, one_text, one_byte, one_value_type, one_block_type, one_global_type, one_function_type, one_limits, one_table, one_import, one_export, first_byte, heads, one_head}
+use Rattle.wa_types.proofs.Unique.{Same, One, Pair, one_pair, one_view, one_exact, one_number, one_signed, one_vector, one_text, one_byte, one_value_type, one_block_type, one_global_type, one_function_type, one_limits, one_table, one_import, one_export, heads, one_head}
 
 -- what follows an opcode, of one shape
 one_operands : (x y : Operands) (at : ℕ) (a b c d : List ℕ) → shape x ≡ shape y → OperandsOf x at a → OperandsOf y at c → a ++ b ≡ c ++ d → Same x y a c
@@ -27,14 +26,14 @@ one_operands (constant bits x) (constant bytes y) at a b c d n h k e =
     let same : bits ≡ bytes = constant_bits n in
     let o = one_signed bits x y at a b c d h (subst (λ z. SignedNumber z y at c) (sym same) k) e in
     record { value = λ i. constant (same i) (o.value i); front = o.front } where
-  constant_bits : shape (constant bits x) ≡ shape (constant bytes y) → bits ≡ bytes
-  constant_bits p = cc
+      constant_bits : shape (constant bits x) ≡ shape (constant bytes y) → bits ≡ bytes
+      constant_bits p = cc
 one_operands (float x) (float y) at a b c d n h k e =
     let same : length x ≡ length y = float_size n in
     let cut = (same_cut a b c d e (ap length h ∙ same ∙ ap length (sym k))).0 in
     record { value = ap (λ z. float z) (sym h ∙ cut ∙ k); front = cut } where
-  float_size : shape (float x) ≡ shape (float y) → length x ≡ length y
-  float_size p = cc
+      float_size : shape (float x) ≡ shape (float y) → length x ≡ length y
+      float_size p = cc
 one_operands nothing _ at a b c d n h k e = absurd (cc)
 one_operands zero_byte _ at a b c d n h k e = absurd (cc)
 one_operands (index x) _ at a b c d n h k e = absurd (cc)
@@ -102,8 +101,7 @@ record Behind (G H : ℕ → List ℕ → Type 0) (at : ℕ) (a b c d : List ℕ
 behind : {X : Type 0} (f : X → ℕ → List ℕ → Type 0) (G H : ℕ → List ℕ → Type 0) → One f → (x y : X) (at : ℕ) (a b c d : List ℕ) → (f x ▸ G) at a → (f y ▸ H) at c → a ++ b ≡ c ++ d → (x ≡ y) × Behind G H at a b c d
 behind f G H u x y at a b c d h k e =
     let cut : h.0 ++ (h.1 ++ b) ≡ k.0 ++ (k.1 ++ d) = sym (append_assoc h.0 h.1 b) ∙ ap (λ z. z ++ b) (sym h.2) ∙ e ∙ ap (λ z. z ++ d) k.2 ∙ append_assoc k.0 k.1 d in
-    let s = u x y at h.0 (h.1 ++ b) k.0 (k.1 ++ d) h.3 k.3 cut in
-    (
+    let s = u x y at h.0 (h.1 ++ b) k.0 (k.1 ++ d) h.3 k.3 cut in (
       s.value,
       record {
         p = h.1;

@@ -9,34 +9,29 @@ ghost use Rattle.wa_types.specs.Sizes.{WellFormed};
 ghost use Rattle.wa_types.specs.Syntax.{Module};
 
 /// Law: what the goals of the grammar accept as whole is what is spelled (standard, section 5.5.15).
-pub fn law_whole()
+pub fn whole_is_spelled()
     ensures sound { (bytes : List ℕ) → IsWhole bytes → (x : List Section) × Spells bytes x }
     ensures complete { (bytes : List ℕ) (x : List Section) → Spells bytes x → IsWhole bytes }
-{
-}
+{}
 
 /// Law: every beginning of bytes that spell a file is begun, and so is every beginning of what is begun.
-pub fn law_begun()
+pub fn beginnings_are_begun()
     ensures spelled { (bytes : List ℕ) (x : List Section) → Spells bytes x → (front back : List ℕ) → bytes ≡ front ++ back → Begun front }
     ensures beginnings { (bytes : List ℕ) → Begun bytes → (front back : List ℕ) → bytes ≡ front ++ back → Begun front }
-{
-}
+{}
 
 /// Law: bytes spell at most one file.
-pub fn law_one()
+pub fn one_file_is_spelled()
     ensures { (bytes : List ℕ) (x y : List Section) → Spells bytes x → Spells bytes y → x ≡ y }
-{
-}
+{}
 
 /// Law: bytes spell at most one module.
-pub fn law_one_module()
+pub fn one_module_is_spelled()
     ensures { (bytes : List ℕ) (m n : Module) → SpellsModule bytes m → SpellsModule bytes n → m ≡ n }
-{
-}
+{}
 
 /// Law: what a module is written as spells it, its runs merged and its custom sections in their written
 /// order; where that is fewer than 2^32 bytes, and each function declares fewer than 2^32 locals.
-pub fn law_written()
+pub fn written_is_spelled()
     ensures { (m : Module) → WellFormed m → All (λ f. sum_by (λ r. r.count) f.locals < 2 ^ 32) m.funcs → length (Enc m) < 2 ^ 32 → SpellsModule (Enc m) (Norm m) }
-{
-}
+{}

@@ -1,5 +1,5 @@
 use Rattle.wa_types.proofs.FileReads.{spelled_begun, begun_beginning}
-use Rattle.wa_types.proofs.laws.law_begun.Goals as goal
+use Rattle.wa_types.proofs.laws.beginnings_are_begun.Goals as goal
 
 pub returns-clause-spelled : goal.returns-clause-spelled
 returns-clause-spelled c = spelled_begun

@@ -1,5 +1,5 @@
 use Rattle.wa_types.proofs.FileReads.{whole_spelled, spelled_whole}
-use Rattle.wa_types.proofs.laws.law_whole.Goals as goal
+use Rattle.wa_types.proofs.laws.whole_is_spelled.Goals as goal
 
 pub returns-clause-sound : goal.returns-clause-sound
 returns-clause-sound c = whole_spelled
