@@ -1,2 +1,12 @@
+pub mod Bounded
+pub mod Grown
 pub mod Printed
+pub mod SmallBodies
+pub mod SmallLocals
+pub mod SmallModules
+pub mod SmallNames
+pub mod SmallSizes
+pub mod SmallSteps
+pub mod SmallWhole
 pub mod Transforming
+pub mod Written

@@ -1,5 +1,9 @@
+pub mod Bounds
 pub mod Command
+pub mod Heights
 pub mod Lines
+pub mod Locals
 pub mod Small
+pub mod SmallParts
 pub mod Transforms
 pub mod Words

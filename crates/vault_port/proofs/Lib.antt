@@ -1,4 +1,3 @@
 pub mod Telling
-pub mod Rising
 pub mod Pieces
 pub mod Shelf

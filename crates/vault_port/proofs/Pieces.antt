@@ -2,7 +2,7 @@
 use Rattle.std.proofs.Common.{◌≡◌, ◌⊎◌, ◌≤◌, ◌+◌, ◌-◌, ℕ, List, [], ◌++◌, length, take, drop, Some, refl, sym, ap, ◌∙◌, inl, inr, append_assoc, unwrap_or, length-append, arith}
 use Rattle.std.proofs.lemmas.List.{take-append-drop, take-take, drop-take, take_at, length-take-le, length-drop}
 use borrow.Rule.Slice.PartMut.{put_mid, post_of}
-use Rattle.vault_port.specs.Files.{Files, bytes_of, ChangesOnly, ChangesAtMost, HoldsFrontAtMost, KeepsOthers, IsFetched, FetchesMore}
+use Rattle.vault_port.specs.Files.{Files, bytes_of, ChangesOnly, KeepsOthers, IsFetched, FetchesMore}
 use Rattle.vault_port.specs.Taken.{Appends}
 
 pub take-add : (m n : ℕ) (xs : List ℕ) → take (m + n) xs ≡ take m xs ++ take n (drop m xs)
@@ -35,15 +35,6 @@ front_is name bytes done old new (inl changes) =
     ap (take done) (holds name (take done bytes) new changes.changed) ∙ take-take done done bytes (omega arith)
 front_is name bytes done old new (inr same) = none_taken done (bytes_of new name) bytes same.0
 
--- so the next save may go on behind them
-pub front_there : (name bytes : List ℕ) (done : ℕ) → done ≤ length bytes → (old new : Files) → HasFront name bytes done old new → done ≤ length (bytes_of new name)
-front_there name bytes done within old new (inl changes) =
-    let is = ap length (holds name (take done bytes) new changes.changed) in
-    let long = length-take-le done bytes within in
-    omega arith
-front_there name bytes done within old new (inr same) =
-    let none = same.0 in omega arith
-
 others_then : (name : List ℕ) (old mid new : Files) → KeepsOthers name old mid → KeepsOthers name mid new → KeepsOthers name old new
 others_then name old mid new first second other differs = second other differs ∙ first other differs
 
@@ -62,18 +53,6 @@ HasFront_more name bytes piece done n rest old mid new front saved =
     record {
       changed = saved.changed ∙ ap Some joined;
       others = others_since name bytes done old mid new front saved.others;
-    }
-
-left_mid : (name bytes : List ℕ) (done : ℕ) (old mid new : Files) → HasFront name bytes done old mid → new name ≡ mid name → ((n : ℕ) × (new name ≡ Some (take n bytes))) ⊎ (new name ≡ old name)
-left_mid name bytes done old mid new (inl changes) same = inl (done, same ∙ changes.changed)
-left_mid name bytes done old mid new (inr kept) same = inr (same ∙ ap (λ files. files name) kept.1)
-
--- a save behind the first bytes that failed
-pub HasFront_cut : (name bytes : List ℕ) (done : ℕ) (old mid new : Files) → HasFront name bytes done old mid → ChangesAtMost name (take done (bytes_of mid name)) mid new → HoldsFrontAtMost name bytes old new
-HasFront_cut name bytes done old mid new front cut =
-    record {
-      changed = elim cut.changed [ inl changed ↦ inl (done, changed ∙ ap Some (front_is name bytes done old mid front)) | inr same ↦ left_mid name bytes done old mid new front same ];
-      others = others_since name bytes done old mid new front cut.others;
     }
 
 -- one piece fetched behind the first bytes: k is the length of the buffer's part behind them, which was `old`

@@ -49,7 +49,7 @@ pub enum PutFault {
 const FIRST_ROOM: usize = 65_536;
 
 /// Reads a file up to its end, or until `limit` bytes are there. Takes time linear in what it reads, and room for
-/// less than twice as much, or for 64 KiB. `Read`: after a fault, or where the vault tells that there is no such
+/// at most twice as much, or for 64 KiB. `Read`: after a fault, or where the vault tells that there is no such
 /// file. No file changes.
 pub fn fetch_whole<V: Vault>(
     alloc: Global,

@@ -1,2 +1,3 @@
 mod BitCounts
 mod Shifts
+pub mod OperateLemmas

@@ -44,90 +44,110 @@ ipopcnt N i = sum (bits_of N i)
 abbrev pub ieqz : ℕ → ℕ
 ieqz i = of_bool (i == 0)
 
--- ---- operators with two operands (4.3.2); division and remainder are partial, and trap where they aren't defined
+-- ---- operators with two operands (4.3.2); a partial one traps where it isn't defined
 
+-- the sum modulo 2 ^ N
 abbrev pub iadd : ℕ → ℕ → ℕ → ℕ
 iadd N i j = (i + j) % 2 ^ N
 
+-- the difference modulo 2 ^ N
 abbrev pub isub : ℕ → ℕ → ℕ → ℕ
 isub N i j = (i + 2 ^ N - j) % 2 ^ N
 
+-- the product modulo 2 ^ N
 abbrev pub imul : ℕ → ℕ → ℕ → ℕ
 imul N i j = (i * j) % 2 ^ N
 
+-- the quotient, rounded down; undefined for a divisor 0
 abbrev pub idiv_u : ℕ → ℕ → Result ℕ Trap
 idiv_u i j = if j == 0 then Err DivideByZero else Ok (i / j)
 
--- rounded towards zero; the one quotient past the range, 2 ^ (N - 1), is an overflow
+-- the quotient of the signed readings, rounded towards zero; undefined for a divisor 0 and where it is 2 ^ (N - 1)
 abbrev pub idiv_s : ℕ → ℕ → ℕ → Result ℕ Trap
 idiv_s N i j =
     if j == 0 then Err DivideByZero else
     (if int_eq (int_div (signed N i) (signed N j)) (pos (2 ^ (N - 1))) then Err IntegerOverflow else
     Ok (unsigned N (int_div (signed N i) (signed N j))))
 
+-- the remainder; undefined for a divisor 0
 abbrev pub irem_u : ℕ → ℕ → Result ℕ Trap
 irem_u i j = if j == 0 then Err DivideByZero else Ok (i % j)
 
--- with the sign of the dividend
+-- the remainder of the signed readings, with the sign of the dividend; undefined for a divisor 0
 abbrev pub irem_s : ℕ → ℕ → ℕ → Result ℕ Trap
 irem_s N i j = if j == 0 then Err DivideByZero else Ok (unsigned N (int_rem (signed N i) (signed N j)))
 
+-- the bitwise conjunction
 abbrev pub iand : ℕ → ℕ → ℕ
 iand i j = bit_and i j
 
+-- the bitwise disjunction
 abbrev pub ior : ℕ → ℕ → ℕ
 ior i j = bit_or i j
 
+-- the bitwise exclusive disjunction
 abbrev pub ixor : ℕ → ℕ → ℕ
 ixor i j = bit_xor i j
 
--- shifts and rotations go by j modulo N bits; ishr_s fills with copies of the highest bit
+-- shifted to the left by j modulo N bits
 abbrev pub ishl : ℕ → ℕ → ℕ → ℕ
 ishl N i j = i * 2 ^ (j % N) % 2 ^ N
 
+-- shifted to the right by j modulo N bits
 abbrev pub ishr_u : ℕ → ℕ → ℕ → ℕ
 ishr_u N i j = i / 2 ^ (j % N)
 
+-- the same, with copies of the highest bit coming in
 abbrev pub ishr_s : ℕ → ℕ → ℕ → ℕ
 ishr_s N i j = i / 2 ^ (j % N) + (if nat_lt i (2 ^ (N - 1)) then 0 else 2 ^ N - 2 ^ (N - j % N))
 
--- the highest bits come back at the low end
+-- rotated to the left by j modulo N bits: the highest bits come back at the low end
 abbrev pub irotl : ℕ → ℕ → ℕ → ℕ
 irotl N i j = i * 2 ^ (j % N) % 2 ^ N + i / 2 ^ (N - j % N)
 
--- the lowest bits come back at the high end
+-- rotated to the right by j modulo N bits: the lowest bits come back at the high end
 abbrev pub irotr : ℕ → ℕ → ℕ → ℕ
 irotr N i j = i % 2 ^ (j % N) * 2 ^ (N - j % N) + i / 2 ^ (j % N)
 
 -- ---- comparisons (4.3.2)
 
+-- whether i is j
 abbrev pub ieq : ℕ → ℕ → ℕ
 ieq i j = of_bool (i == j)
 
+-- whether i is another number than j
 abbrev pub ine : ℕ → ℕ → ℕ
 ine i j = of_bool (not (i == j))
 
+-- whether i is below j
 abbrev pub ilt_u : ℕ → ℕ → ℕ
 ilt_u i j = of_bool (nat_lt i j)
 
+-- the same, of the signed readings
 abbrev pub ilt_s : ℕ → ℕ → ℕ → ℕ
 ilt_s N i j = of_bool (int_lt (signed N i) (signed N j))
 
+-- whether i is above j
 abbrev pub igt_u : ℕ → ℕ → ℕ
 igt_u i j = of_bool (nat_lt j i)
 
+-- the same, of the signed readings
 abbrev pub igt_s : ℕ → ℕ → ℕ → ℕ
 igt_s N i j = of_bool (int_lt (signed N j) (signed N i))
 
+-- whether i is at most j
 abbrev pub ile_u : ℕ → ℕ → ℕ
 ile_u i j = of_bool (nat_le i j)
 
+-- the same, of the signed readings
 abbrev pub ile_s : ℕ → ℕ → ℕ → ℕ
 ile_s N i j = of_bool (int_le (signed N i) (signed N j))
 
+-- whether i is at least j
 abbrev pub ige_u : ℕ → ℕ → ℕ
 ige_u i j = of_bool (nat_le j i)
 
+-- the same, of the signed readings
 abbrev pub ige_s : ℕ → ℕ → ℕ → ℕ
 ige_s N i j = of_bool (int_le (signed N j) (signed N i))
 

@@ -28,6 +28,7 @@ pub data Meaning : Type 0 where
 abbrev pub always : (ℕ → ℕ → ℕ) → Meaning
 always f = binary (λ i j. Ok (f i j))
 
+-- the table of meanings (4.4.1)
 abbrev pub meaning_of : NumOp → Meaning
 meaning_of I32Eqz = unary ieqz
 meaning_of I32Eq = comparison ieq
@@ -91,13 +92,14 @@ meaning_of I32WrapI64 = conversion (wrap 32)
 meaning_of I64ExtendI32S = conversion (extend_s 32 64)
 meaning_of I64ExtendI32U = conversion extend_u
 
--- which of the four calls takes an operator
+-- which of the four calls takes an operator of a meaning (2.4.1)
 abbrev pub class_in : Meaning → OperatorClass
 class_in (unary f) = Unary
 class_in (conversion f) = Conversion
 class_in (comparison f) = Comparison
 class_in (binary f) = Binary
 
+-- which of the four calls takes an operator
 abbrev pub class_of : NumOp → OperatorClass
 class_of op = class_in (meaning_of op)
 

@@ -1,5 +1,5 @@
 -- The table of loads and stores has the opcodes that the syntax allows.
-use Rattle.std.proofs.Common.{arith, ◌≡◌, ℕ, is_some, refl}
+use Rattle.std.proofs.Common.{arith, ◌≡◌, ℕ, is_some}
 use Rattle.std.proofs.lemmas.Bool.Decides.{nat_tests}
 use Rattle.wa_types.specs.Accesses.{load_row, store_row}
 use Rattle.wa_types.specs.Opcodes.{is_load_op, is_store_op}

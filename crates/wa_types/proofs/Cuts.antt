@@ -1,8 +1,7 @@
 -- Code has a type up to a place exactly where its first items, followed by `unreachable`, are typed.
-use Rattle.std.proofs.Common.{arith, ◌≡◌, ℕ, zero, suc, ◌+◌, ◌-◌, ◌≤◌, inl, inr, ◌++◌, List, [], ◌∷◌, Option, refl, sym, subst}
+use Rattle.std.proofs.Common.{arith, ◌≡◌, ℕ, zero, suc, ◌+◌, ◌-◌, inl, inr, ◌++◌, List, [], ◌∷◌, Option, refl, sym, subst}
 use Rattle.wa_types.specs.declared.values.ValType.{ValType}
-use Rattle.wa_types.specs.declared.values.ValType.TheVariants.{I32}
-use Rattle.wa_types.specs.Syntax.{Plain, unreachable, Code, done, plain, nest, branch}
+use Rattle.wa_types.specs.Syntax.{unreachable, Code, done, plain, nest, branch}
 use Rattle.wa_types.specs.Typing.{Around, Sig, moves, leaves, drops, selects, lacks, late, listed, sig, Takes, label, Types}
 use Rattle.wa_types.specs.FirstFault.{mid, size, Meets, UpTo, cut}
 use Rattle.wa_types.proofs.SigLemmas.{Lawful, lawful}

@@ -1,11 +1,10 @@
 -- A module has one first fault, and a valid one has none.
-use Rattle.std.proofs.Common.{arith, ◌≡◌, ℕ, suc, ◌+◌, ◌-◌, ◌<◌, ◌≤◌, ◌⊎◌, inl, inr, List, [], ◌∷◌, Option, Some, None, Bool, true, false, slice_get, refl, sym, ap, ◌∙◌, subst}
-use Rattle.wa_types.specs.declared.values.ValType.{ValType}
+use Rattle.std.proofs.Common.{arith, ◌≡◌, ℕ, suc, ◌+◌, ◌<◌, inl, inr, List, [], ◌∷◌, Option, Some, None, Bool, true, false, slice_get, refl, sym, ap, ◌∙◌, subst}
 use Rattle.wa_types.specs.Syntax.{Code, Func, Module}
-use Rattle.wa_types.specs.Typing.{Around, listed, Types, Typed}
+use Rattle.wa_types.specs.Typing.{Around, listed, Typed}
 use Rattle.wa_types.specs.Modules.{func_imports, around}
 use Rattle.wa_types.specs.Validity.{types_there, funcs_there, tables_there, memories_there, globals_there, all_limits_fit, one_each, all_constant, names_differ, start_lawful, one_result, Valid, unless, broken_outside}
-use Rattle.wa_types.specs.FirstFault.{UpTo, BodyFault, FuncFault, FirstFault, cut}
+use Rattle.wa_types.specs.FirstFault.{BodyFault, FuncFault, FirstFault, cut}
 use Rattle.wa_types.proofs.TypingLemmas.{at_upto, typed_upto, upto_fewer, upto_less, less_on}
 use Rattle.wa_types.proofs.Cuts.{cut_typed, typed_cut}
 

@@ -1,12 +1,10 @@
 -- A path reads a local first exactly where the backward pass tells so.
-use Rattle.std.proofs.Common.{arith, ◌≡◌, ◌≢◌, ℕ, zero, suc, ◌⊎◌, inl, inr, ◌++◌, List, [], ◌∷◌, Option, Some, None, Bool, true, false, not, ◌&&◌, ◌||◌, slice_get, nat_eq, refl, ap, sym, ◌∙◌, subst}
+use Rattle.std.proofs.Common.{◌≡◌, ℕ, zero, suc, ◌⊎◌, inl, inr, List, [], ◌∷◌, Option, Some, None, Bool, true, false, not, ◌&&◌, ◌||◌, slice_get, nat_eq, refl, ap, sym, ◌∙◌, subst}
 use Rattle.std.specs.List.{list_any}
 use Rattle.std.proofs.lemmas.Bool.{eqb-true, eq-eqb}
-use Rattle.wa_types.specs.declared.values.ValType.{ValType}
-use Rattle.wa_types.specs.Syntax.{Basic, Plain, basic, local_get, local_set, local_tee, br, br_if, br_table, return, unreachable, call, call_indirect, Shape, a_block, a_loop, Code, done, plain, nest, branch, Func}
+use Rattle.wa_types.specs.Syntax.{Plain, basic, local_get, local_set, local_tee, br, br_if, br_table, return, unreachable, call, call_indirect, a_block, a_loop, Code, done, plain, nest, branch, Func}
 use Rattle.wa_types.specs.Pruned.{pruned}
-use Rattle.wa_types.specs.Pausing.{is_told}
-use Rattle.wa_types.specs.Liveness.{Label, goes_behind, goes_again, Position, position, behind, label_of, target, SomeTarget, PlainLeads, EndLeads, Leads, Reads, writes_plain, writes, ReadsFirst, ends_here, goes_on, behind_calls, LiveAfter, told_at, live_plain, shape_live, live, Told, label_told, told, live_at, live_from, is_live_after}
+use Rattle.wa_types.specs.Liveness.{Label, goes_behind, goes_again, Position, position, behind, target, SomeTarget, PlainLeads, EndLeads, Leads, Reads, writes_plain, writes, ReadsFirst, ends_here, goes_on, behind_calls, LiveAfter, told_at, live_plain, live, told, live_at, live_from, is_live_after}
 
 -- either of two tests
 either_true : (a b : Bool) → (a || b) ≡ true → (a ≡ true) ⊎ (b ≡ true)

@@ -1,11 +1,11 @@
 -- What holds of each row of the table of instructions.
-use Rattle.std.proofs.Common.{arith, ◌≡◌, ℕ, ◌≤◌, ◌++◌, reverse, nat_le, List, [], ◌∷◌, Option, Some, None, Bool, true, false, if◌then◌else◌, slice_get}
+use Rattle.std.proofs.Common.{arith, ◌≡◌, ℕ, ◌≤◌, nat_le, List, [], ◌∷◌, Option, Some, None, Bool, true, false, if◌then◌else◌, slice_get}
 use Rattle.wa_types.specs.declared.values.ValType.{ValType}
 use Rattle.wa_types.specs.declared.values.ValType.TheVariants.{I32}
 use Rattle.wa_types.specs.Accesses.{AccessRow, load_row, store_row}
 use Rattle.wa_types.specs.Syntax.{Basic, nop, drop, select, const, num, global_get, global_set, load, store, memory_size, memory_grow, Plain, basic, local_get, local_set, local_tee, br, br_if, br_table, return, unreachable, call, call_indirect, FuncType}
 use Rattle.wa_types.specs.Pruned.{is_last}
-use Rattle.wa_types.specs.Typing.{GlobalType, Around, Sig, moves, leaves, drops, selects, lacks, late, listed, sig, basic_sig, jump, may_jump, jumps, all_there, all_alike, calls, calls_at, gets, sets, tees, gets_global, sets_global, accesses, loads, stores, with_memory, Takes}
+use Rattle.wa_types.specs.Typing.{GlobalType, Around, Sig, moves, leaves, lacks, late, listed, sig, basic_sig, jump, may_jump, jumps, all_there, all_alike, calls, calls_at, gets, sets, tees, gets_global, sets_global, accesses, loads, stores, with_memory, Takes}
 
 -- a rule that operands can't mend is at most 8, and one that is asked behind them from 9 to 16
 abbrev pub Lawful : Sig → Type 0

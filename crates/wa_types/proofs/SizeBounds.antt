@@ -1,20 +1,18 @@
 -- What the size rule bounds: the instructions of a body and the weight of a function.
-use Rattle.std.proofs.Common.{arith, ◌≡◌, ℕ, zero, suc, ◌+◌, ◌≤◌, ◌<◌, ◌++◌, length, length-append, map, slice_get, is_some, List, [], ◌∷◌, Option, Some, None, Bool, true, false, if◌then◌else◌, refl, ap, sym, ◌∙◌}
+use Rattle.std.proofs.Common.{arith, ◌≡◌, ℕ, zero, suc, ◌+◌, ◌≤◌, ◌<◌, ◌++◌, length, length-append, map, slice_get, List, [], ◌∷◌, Bool, true, false, if◌then◌else◌, refl, ap, ◌∙◌}
 use Rattle.std.specs.List.{filter_map, flat_map, sum_by, cons_option}
-use Rattle.std.specs.Option.{option_map}
 use Rattle.std.proofs.lemmas.List.{length-replicate}
 use Rattle.std.proofs.lemmas.List.Sums.{sum_by-cons}
-use Rattle.std.proofs.lemmas.Option.{slice_get-map}
 use Rattle.wa_types.specs.declared.syntax.Run.{Run}
 use Rattle.wa_types.specs.declared.syntax.Import.{Import}
 use Rattle.wa_types.specs.declared.syntax.ImportKind.{ImportKind}
 use Rattle.wa_types.specs.declared.syntax.ImportKind.TheVariants.{Func as a_func_import, Table as a_table_import, Memory as a_memory_import, Global as a_global_import}
 use Rattle.wa_types.specs.Syntax.{Plain, basic, local_get, local_set, local_tee, br, br_if, br_table, return, unreachable, call, call_indirect, Code, done, plain, nest, branch, FuncType, Func, Module}
 use Rattle.wa_types.specs.Pruned.{is_last, pruned}
-use Rattle.wa_types.specs.Modules.{imported_func, func_sorts, or_empty, type_at, func_types, func_type_at, declared_locals, locals_of}
-use Rattle.wa_types.specs.Counts.{count_of, depth_of}
+use Rattle.wa_types.specs.Modules.{imported_func, func_sorts, or_empty, type_at, func_type_at, declared_locals, locals_of}
+use Rattle.wa_types.specs.Counts.{count_of}
 use Rattle.wa_types.specs.Bounds.{plain_weight, code_weight, Weight}
-use Rattle.wa_types.specs.Sizes.{params_of_type, kind_sorts, all_sorts, params_at_index, label_count, call_params, else_count, code_items, code_params, BodySizes, FuncSizes}
+use Rattle.wa_types.specs.Sizes.{params_of_type, kind_sorts, all_sorts, params_at_index, label_count, call_params, code_items, code_params, BodySizes, FuncSizes}
 
 same_params : (ts : List FuncType) (sort : ℕ) → length (or_empty (slice_get ts sort)).params ≡ params_of_type ts sort
 same_params [] sort = refl

@@ -1,5 +1,5 @@
 -- The slots of a function are its pairs of a height and a type.
-use Rattle.std.proofs.Common.{arith, ◌≡◌, ◌↔◌, ℕ, zero, suc, ◌+◌, ◌<◌, ◌≤◌, ◌⊎◌, inl, inr, ◌++◌, length, max, reverse, slice_get, nat_eq, List, [], ◌∷◌, Option, Some, None, Bool, true, false, ◌&&◌, ◌||◌, refl, ap, sym, ◌∙◌, subst}
+use Rattle.std.proofs.Common.{arith, ◌≡◌, ℕ, zero, suc, ◌+◌, ◌<◌, ◌≤◌, ◌⊎◌, inl, inr, ◌++◌, length, reverse, slice_get, nat_eq, List, [], ◌∷◌, Some, None, Bool, true, false, ◌&&◌, ◌||◌, refl, ap, sym, ◌∙◌, subst}
 use Rattle.std.specs.List.{list_any}
 use Rattle.std.proofs.lemmas.Bool.{eqb-true, eq-eqb}
 use Rattle.std.proofs.lemmas.List.{reverse-append, length-reverse}
@@ -7,11 +7,11 @@ use Rattle.std.proofs.lemmas.Option.{slice_get_past}
 use Rattle.wa_types.specs.declared.values.ValType.{ValType}
 use Rattle.wa_types.specs.declared.values.ValType.TheVariants.{I32, I64}
 use Rattle.wa_types.specs.Encoding.{same_type}
-use Rattle.wa_types.specs.Syntax.{Code, Func, Module}
+use Rattle.wa_types.specs.Syntax.{Func, Module}
 use Rattle.wa_types.specs.Pruned.{pruned}
-use Rattle.wa_types.specs.Typing.{Around, listed, Types, Typed}
+use Rattle.wa_types.specs.Typing.{listed, Typed}
 use Rattle.wa_types.specs.Modules.{around}
-use Rattle.wa_types.specs.Points.{AtPoint, points, SlotPair, func_points}
+use Rattle.wa_types.specs.Points.{SlotPair, func_points}
 use Rattle.wa_types.specs.Frames.{Pair, pair_onto, pairs_from, is_type, stands_at, greatest, same_pair, SlotPairs}
 use Rattle.wa_types.proofs.TypingLemmas.{less_on, pruned_types}
 use Rattle.wa_types.proofs.PointLemmas.{In, visited, is_visited}

@@ -50,6 +50,9 @@ spelled_some k n = elim (cases_lt n 128) [
   | inr high ↦ rw (spelled_high k n high) (omega arith)
 ]
 
+pub shortest_length : (n : ℕ) → length (shortest n) ≤ 10
+shortest_length n = spelled_length 10 n
+
 -- ten bytes have room for one more
 pub write_room : (text : List ℕ) (n rest : ℕ) → text ++ shortest rest ≡ shortest n → length text < 10
 write_room text n rest e =

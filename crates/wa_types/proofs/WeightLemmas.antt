@@ -1,6 +1,6 @@
 -- The weight of the code of a list of instructions, and what functions it is made of, step by step.
-use Rattle.std.proofs.Common.{◌≡◌, ℕ, zero, suc, ◌+◌, ◌-◌, ◌<◌, ◌≤◌, ◌++◌, List, [], ◌∷◌, map, replicate, refl, ap, sym, ◌∙◌, arith, Bool, true, false, if◌then◌else◌, Option, Some, None, slice_get, length, get_or, drop, drop-cons, add-one, length-append}
-use Rattle.std.specs.List.{filter_map, flat_map, cons_option}
+use Rattle.std.proofs.Common.{◌≡◌, ℕ, zero, suc, ◌+◌, ◌-◌, ◌<◌, ◌≤◌, ◌++◌, List, ◌∷◌, map, replicate, refl, ap, sym, ◌∙◌, arith, Bool, true, false, if◌then◌else◌, Option, Some, None, slice_get, length, get_or, drop, drop-cons, add-one, length-append}
+use Rattle.std.specs.List.{filter_map, cons_option}
 use Rattle.std.specs.Option.{option_map}
 use Rattle.std.proofs.lemmas.Option.{slice_get-map, slice_get-get_or, slice_get_past}
 use Rattle.std.proofs.lemmas.List.{drop_all, length-replicate}
@@ -16,12 +16,12 @@ use Rattle.wa_types.specs.declared.syntax.ImportKind.TheVariants.{Func as a_func
 use Rattle.wa_types.specs.declared.syntax.FuncType.{FuncType as FuncTypeValue}
 use Rattle.wa_types.specs.declared.syntax.Func.{Func as FuncValue}
 use Rattle.wa_types.specs.declared.syntax.Module.{Module as ModuleValue}
-use Rattle.wa_types.specs.Syntax.{Basic, Plain, basic, br_table, call, call_indirect, Shape, a_block, a_loop, Code, done, plain, nest, branch, FuncType, Func, Module}
+use Rattle.wa_types.specs.Syntax.{Plain, Code, done, plain, nest, branch, FuncType, Func, Module}
 use Rattle.wa_types.specs.View.{code, in_front, func_type_of, func_of, module_of}
-use Rattle.wa_types.specs.Pruned.{is_last, is_last_instr, pruned}
-use Rattle.wa_types.specs.Modules.{declared_locals, imported_func, func_sorts, or_empty, type_at, func_types, func_type_at}
-use Rattle.wa_types.specs.Bounds.{plain_weight, code_weight}
-use Rattle.wa_types.proofs.ViewLemmas.{Kind, is_block, is_loop, is_if, is_plain, kind, in_block, in_loop, in_if, in_br_table, code_step, code_empty}
+use Rattle.wa_types.specs.Pruned.{is_last_instr, pruned}
+use Rattle.wa_types.specs.Modules.{declared_locals, imported_func, func_sorts, or_empty, type_at, func_type_at}
+use Rattle.wa_types.specs.Bounds.{code_weight}
+use Rattle.wa_types.proofs.ViewLemmas.{is_block, is_loop, is_if, is_plain, kind, in_block, in_loop, in_if, code_step, code_empty}
 
 is_construct : Code → Bool
 is_construct (nest s r body rest) = true

@@ -1,5 +1,5 @@
 -- How much a rewritten program may cost beside its original.
-use Rattle.std.specs.Prelude.{ℕ, ◌+◌, ◌*◌, List, [], ◌∷◌, length, Option, Some, None}
+use Rattle.std.specs.Prelude.{ℕ, ◌+◌, ◌*◌, List, length, Option, Some, None}
 use Rattle.std.specs.List.{sum_by}
 use Rattle.wa_types.specs.Syntax.{Plain, br_table, call, call_indirect, Code, done, plain, nest, branch, Func, Module}
 use Rattle.wa_types.specs.Pruned.{pruned}

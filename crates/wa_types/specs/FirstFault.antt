@@ -3,8 +3,8 @@
 use Rattle.std.specs.Prelude.{◌≡◌, ℕ, zero, suc, ◌+◌, ◌-◌, ◌<◌, ◌≤◌, ◌⊎◌, ◌++◌, List, [], ◌∷◌, Option, Some, None, slice_get}
 use Rattle.wa_types.specs.declared.values.ValType.{ValType}
 use Rattle.wa_types.specs.declared.values.ValType.TheVariants.{I32}
-use Rattle.wa_types.specs.Syntax.{Plain, unreachable, Code, done, plain, nest, branch, Func, Module}
-use Rattle.wa_types.specs.Typing.{Around, Sig, moves, leaves, drops, selects, lacks, late, listed, sig, Takes, label, Types, Typed}
+use Rattle.wa_types.specs.Syntax.{unreachable, Code, done, plain, nest, branch, Func, Module}
+use Rattle.wa_types.specs.Typing.{Around, Sig, moves, lacks, late, listed, sig, Takes, label, Typed}
 use Rattle.wa_types.specs.Modules.{func_imports, around}
 use Rattle.wa_types.specs.Validity.{broken_outside}
 

@@ -1,5 +1,5 @@
 -- The locals of flat functions, and what a suspended program keeps in its frames.
-use Rattle.std.specs.Prelude.{◌≡◌, ℕ, zero, suc, ◌+◌, ◌-◌, ◌++◌, List, [], ◌∷◌, length, reverse, take, drop, max, Option, Some, None, Bool, true, false, ◌&&◌, ◌||◌, slice_get, nat_lt, nat_eq, if◌then◌else◌}
+use Rattle.std.specs.Prelude.{◌≡◌, ℕ, zero, suc, ◌+◌, ◌-◌, ◌++◌, List, [], ◌∷◌, length, reverse, take, drop, max, Option, Some, None, Bool, true, false, ◌&&◌, slice_get, nat_lt, nat_eq, if◌then◌else◌}
 use Rattle.std.specs.List.{list_any, position, sum_by}
 use Rattle.std.specs.Int.{w32, w64, to_le_bytes}
 use Rattle.wa_types.specs.declared.values.ValType.{ValType}

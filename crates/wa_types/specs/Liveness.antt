@@ -1,7 +1,7 @@
 -- Which locals may still be read behind a call: paths through a function's code (standard, section 4.4.8).
-use Rattle.std.specs.Prelude.{◌≡◌, ℕ, zero, suc, ◌⊎◌, ◌++◌, List, [], ◌∷◌, Option, Some, None, Bool, true, false, not, ◌&&◌, ◌||◌, slice_get, nat_eq, if◌then◌else◌}
+use Rattle.std.specs.Prelude.{◌≡◌, ℕ, zero, suc, ◌⊎◌, ◌++◌, List, [], ◌∷◌, Option, Some, None, Bool, false, not, ◌&&◌, ◌||◌, slice_get, nat_eq}
 use Rattle.std.specs.List.{list_any}
-use Rattle.wa_types.specs.Syntax.{Plain, basic, local_get, local_set, local_tee, br, br_if, br_table, return, unreachable, call, call_indirect, Shape, a_block, a_loop, Code, done, plain, nest, branch, Func}
+use Rattle.wa_types.specs.Syntax.{Plain, local_get, local_set, local_tee, br, br_if, br_table, return, unreachable, Shape, a_block, a_loop, Code, done, plain, nest, branch, Func}
 use Rattle.wa_types.specs.Pruned.{pruned}
 use Rattle.wa_types.specs.Pausing.{Callee, callee, is_told}
 

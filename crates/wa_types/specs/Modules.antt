@@ -1,13 +1,13 @@
 -- What stands in a module under each index: imports first, then what is defined (standard, section 2.5.1).
-use Rattle.std.specs.Prelude.{◌≡◌, ℕ, ◌+◌, ◌-◌, ◌++◌, List, [], ◌∷◌, map, length, replicate, Option, Some, None, Bool, true, false, ◌&&◌, is_some, slice_get, nat_lt, if◌then◌else◌}
-use Rattle.std.specs.List.{filter_map, flat_map, list_all}
+use Rattle.std.specs.Prelude.{ℕ, ◌-◌, ◌++◌, List, [], map, length, replicate, Option, Some, None, slice_get, nat_lt, if◌then◌else◌}
+use Rattle.std.specs.List.{filter_map, flat_map}
 use Rattle.wa_types.specs.declared.values.ValType.{ValType}
 use Rattle.wa_types.specs.declared.syntax.Run.{Run}
 use Rattle.wa_types.specs.declared.syntax.Limits.{Limits}
 use Rattle.wa_types.specs.declared.syntax.Import.{Import}
 use Rattle.wa_types.specs.declared.syntax.ImportKind.{ImportKind}
 use Rattle.wa_types.specs.declared.syntax.ImportKind.TheVariants.{Func as a_func_import, Table as a_table_import, Memory as a_memory_import, Global as a_global_import}
-use Rattle.wa_types.specs.Syntax.{Basic, load, store, Plain, basic, Code, done, plain, nest, branch, FuncType, Func, GlobalDef, Module}
+use Rattle.wa_types.specs.Syntax.{FuncType, Func, GlobalDef, Module}
 use Rattle.wa_types.specs.Typing.{GlobalType, Around}
 
 abbrev pub imported_func : ImportKind → Option ℕ

@@ -2,7 +2,6 @@
 use Rattle.std.specs.Prelude.{◌≡◌, ◌↔◌, ℕ, suc, ◌-◌, ◌++◌, List, [], ◌∷◌, length, take, Option, Some, None, Bool, true, false, not, ◌&&◌, ◌||◌, Result, Ok, Err, slice_get, nat_eq, ◌==◌, if◌then◌else◌}
 use Rattle.std.specs.List.{filter_map, list_any, starts_with}
 use Rattle.wa_types.specs.declared.syntax.Import.{Import}
-use Rattle.wa_types.specs.declared.syntax.ImportKind.{ImportKind}
 use Rattle.wa_types.specs.Syntax.{Plain, call, call_indirect, Code, done, plain, nest, branch, Func, Module}
 use Rattle.wa_types.specs.Pruned.{pruned}
 use Rattle.wa_types.specs.Modules.{imported_func, func_sorts, defined_at}

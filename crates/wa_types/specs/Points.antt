@@ -1,8 +1,8 @@
 -- The points of code and the operands at them (standard, section 3.3).
-use Rattle.std.specs.Prelude.{◌≡◌, ℕ, suc, ◌⊎◌, ◌++◌, length, drop, List, [], ◌∷◌, Option, Some, None, Bool, true, false}
+use Rattle.std.specs.Prelude.{◌≡◌, ℕ, ◌⊎◌, ◌++◌, length, drop, List, [], ◌∷◌, Option, Some, None, Bool, true, false}
 use Rattle.wa_types.specs.declared.values.ValType.{ValType}
 use Rattle.wa_types.specs.declared.values.ValType.TheVariants.{I32}
-use Rattle.wa_types.specs.Syntax.{Plain, Shape, Code, done, plain, nest, branch, Func, Module}
+use Rattle.wa_types.specs.Syntax.{Code, done, plain, nest, branch, Func, Module}
 use Rattle.wa_types.specs.Pruned.{is_last, pruned}
 use Rattle.wa_types.specs.Typing.{Around, Sig, moves, leaves, drops, selects, lacks, late, listed, sig, Takes, label}
 use Rattle.wa_types.specs.Modules.{around}

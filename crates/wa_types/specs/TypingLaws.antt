@@ -6,7 +6,7 @@ use Rattle.wa_types.specs.Pruned.{pruned}
 use Rattle.wa_types.specs.Typing.{Around, Types, Typed}
 use Rattle.wa_types.specs.Modules.{around}
 use Rattle.wa_types.specs.Validity.{Valid, broken_outside}
-use Rattle.wa_types.specs.FirstFault.{UpTo, TypedUpTo, BodyFault, FirstFault, cut}
+use Rattle.wa_types.specs.FirstFault.{UpTo, BodyFault, FirstFault, cut}
 
 -- The pruned body of a typed body has the same type, and so has pruned code of any type.
 abbrev pub PrunedTypes : Type 0

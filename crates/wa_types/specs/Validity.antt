@@ -19,7 +19,7 @@ use Rattle.wa_types.specs.declared.syntax.Export.{Export}
 use Rattle.wa_types.specs.declared.syntax.Space.{Space}
 use Rattle.wa_types.specs.declared.syntax.Space.TheVariants.{Func as a_func, Table as a_table, Memory as a_memory, Global as a_global}
 use Rattle.wa_types.specs.Encoding.{same_type}
-use Rattle.wa_types.specs.Syntax.{Basic, const, global_get, Plain, basic, Code, done, plain, nest, branch, FuncType, Func, GlobalDef, Elem, Segment, Module}
+use Rattle.wa_types.specs.Syntax.{const, global_get, basic, Code, done, plain, FuncType, Func, GlobalDef, Elem, Segment, Module}
 use Rattle.wa_types.specs.Typing.{GlobalType, type_of, Typed}
 use Rattle.wa_types.specs.Modules.{imported_global, imported, func_sorts, func_types, all_tables, all_memories, all_globals, around}
 

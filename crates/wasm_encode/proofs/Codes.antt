@@ -129,4 +129,5 @@ branch_length_le r v w = elim (cases_eq (length w.items) 0) [
 ]
 
 pub ruleset measuring_one = (table_length, block_length, loop_length, branch_length_none, branch_length_some, branch_length_le)
+
 pub ruleset putting_one = (table_bytes, block_bytes, loop_bytes, branch_bytes, else_none, else_some, append_assoc)

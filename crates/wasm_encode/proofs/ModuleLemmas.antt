@@ -47,7 +47,7 @@ code_fits m id fs ten same few fits =
     subst (λ (i : ℕ). length (known_section i (module_of m)) < 2 ^ 64) ten fits in
     let section_fits : length (section 10 code_entry m.funcs.items) < 2 ^ 64 = subst (λ (s : List ℕ). length s < 2 ^ 64) (section_map 10 (λ (f : Func). sized (body_bytes f)) func_of m.funcs.items) known in
     let each : All (λ f. local_count f.locals.items < 2 ^ 32) m.funcs.items = λ k d h.
-        subst (λ (f : Func). local_count f.locals < 2 ^ 32) (get_or-map func_of m.funcs.items k d (func_of d) h) (few k (func_of d) (let count = length-map m.funcs.items func_of in omega (arith, count))) in
+    subst (λ (f : Func). local_count f.locals < 2 ^ 32) (get_or-map func_of m.funcs.items k d (func_of d) h) (few k (func_of d) (let count = length-map m.funcs.items func_of in omega (arith, count))) in
     subst P (sym same) (entries_fit m.funcs.items each section_fits)
 
 -- a module's places begin behind its preamble

@@ -21,6 +21,7 @@ pub section_length : {X : Type 0} (id : ℕ) (f : X → List ℕ) (xs : List X) 
 section_length id f xs h = ap length (section_some id f xs h) ∙ omega (arith, length-append (shortest (length (vector f xs))) (vector f xs))
 
 pub ruleset measuring = (section_none, section_length)
+
 pub ruleset putting = (section_none, section_some, section_length, append_assoc)
 
 -- the custom sections behind an id, from the one at i on

@@ -22,7 +22,7 @@ pub enum Operands {
     Index(u32),
     IndexAndZero(u32),
     Memory { align: u32, offset: u32 },
-Signed32(u32),
+    Signed32(u32),
     Signed64(u64),
 }
 

@@ -19,8 +19,6 @@ mod numbers;
 mod sections;
 mod types;
 
-pub use entries::body_len;
-
 ghost use Rattle.std.specs.Prelude.{◌≡◌, ◌<◌, ◌≤◌, ◌^◌, ◌↔◌, length, IfOk, ℕ, Err};
 ghost use Rattle.wa_types.specs.View.{module_of};
 ghost use Rattle.wa_types.specs.Encoding.{Enc};
@@ -28,6 +26,7 @@ ghost use Rattle.wasm_encode.specs.Modules.{FewLocals};
 
 use crate::module::{module_len, put_module};
 use bytes::BytesMut;
+pub use entries::body_len;
 use std::alloc::{AllocError, Global};
 use thiserror::Error;
 use wa_types::Module;
@@ -65,10 +64,8 @@ pub fn encode(alloc: Global, module: &Module) -> Result<BytesMut, EncodeFault>
     requires fits { length (Enc (module_of «module».now)) < 2 ^ 64 }
     ensures ok { IfOk result (λ bytes. bytes.items ≡ Enc (module_of «module».now)) }
     ensures short { IfOk result (λ _. length (Enc (module_of «module».now)) ≤ 67108864) }
-    ensures too_long {
-        (len : ℕ) → (result ≡ Err (EncodeFault.TooLong len))
-        ↔ ((67108864 < length (Enc (module_of «module».now))) × (len ≡ length (Enc (module_of «module».now))))
-    }
+    ensures too_long { (len : ℕ) → (result ≡ Err (EncodeFault.TooLong len))
+        ↔ ((67108864 < length (Enc (module_of «module».now))) × (len ≡ length (Enc (module_of «module».now)))) }
 {
     let len = module_len(module);
     if len > LONGEST {
@@ -78,3 +75,6 @@ pub fn encode(alloc: Global, module: &Module) -> Result<BytesMut, EncodeFault>
     put_module(&mut out, module)?;
     Ok(out)
 }
+
+#[cfg(test)]
+mod tests;

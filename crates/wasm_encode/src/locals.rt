@@ -34,10 +34,8 @@ fn next_run(runs: &[Run], at: &mut usize) -> Option<Run>
     requires few { local_count runs.now < 2 ^ 32 }
     ensures place { at.new ≤ length runs.now }
     ensures moves { IfSome result (λ _. at.old < at.new) }
-    ensures next {
-        MatchOption result (merged (drop at.old runs.now) ≡ [])
-        (λ run. merged (drop at.old runs.now) ≡ run ∷ merged (drop at.new runs.now))
-    }
+    ensures next { MatchOption result (merged (drop at.old runs.now) ≡ [])
+        (λ run. merged (drop at.old runs.now) ≡ run ∷ merged (drop at.new runs.now)) }
 {
     let mut run = Run {
         count: 0,

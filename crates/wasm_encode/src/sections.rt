@@ -28,7 +28,11 @@ pub fn section_len<E: Entry>(id: u8, items: &[E::Item]) -> u64
 
 /// Appends a section of these entries (standard, section 5.5.2), or nothing where there is no entry.
 #[tactic(auto, using(crate::proofs::SectionLemmas::putting))]
-pub fn put_section<E: Entry>(out: &mut BytesMut, id: u8, items: &[E::Item]) -> Result<(), AllocError>
+pub fn put_section<E: Entry>(
+    out: &mut BytesMut,
+    id: u8,
+    items: &[E::Item],
+) -> Result<(), AllocError>
     requires few { length (section id E.bytes items.now) < 2 ^ 64 }
     requires fits { All E.fits items.now }
     ensures { OnOk result (out.new.items ≡ out.old.items ++ section id E.bytes items.now) }

@@ -1,5 +1,5 @@
 -- Functions' bodies at the front of an input.
-use Rattle.std.proofs.Common.{◌≡◌, ℕ, ◌+◌, ◌<◌, ◌≤◌, ◌^◌, List, [], ◌∷◌, ◌++◌, Bool, true, refl, ap, sym, ◌∙◌, append_assoc, arith, suc, map, get_or, length, length-append}
+use Rattle.std.proofs.Common.{◌≡◌, ℕ, ◌<◌, ◌^◌, List, [], ◌∷◌, ◌++◌, true, refl, ap, sym, ◌∙◌, append_assoc, arith, suc, map, get_or, length, length-append}
 use Rattle.std.specs.List.{All, AllPass, flat_map}
 use Rattle.std.proofs.lemmas.Bool.{lt-ltb}
 use Rattle.std.proofs.lemmas.List.Sums.{AllPass-from_list_all, list_all-from_AllPass}
@@ -35,7 +35,7 @@ body_parts f tail old s h e =
       few = omega (arith, whole, inner, same, list, count_le run_bytes run_some f.locals);
       fits = omega (arith, whole);
       bytes = e ∙ append_assoc (shortest (length (body_bytes f))) (body_bytes f) tail
-        ∙ ap (λ s. shortest (length (body_bytes f)) ++ s) (append_assoc (vector run_bytes (merged f.locals)) (expression_bytes f.body) tail ∙ ap (λ rs. vector run_bytes rs ++ (expression_bytes f.body ++ tail)) s.runs);
+          ∙ ap (λ s. shortest (length (body_bytes f)) ++ s) (append_assoc (vector run_bytes (merged f.locals)) (expression_bytes f.body) tail ∙ ap (λ rs. vector run_bytes rs ++ (expression_bytes f.body ++ tail)) s.runs);
     }
 
 pub func_is : (f : Func) (sort : ℕ) (locals : List Run) (body : Code) → f.sort ≡ sort → locals ≡ f.locals → body ≡ f.body → (let u : Func = record { sort = sort; locals = locals; body = body } in u) ≡ f

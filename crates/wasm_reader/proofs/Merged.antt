@@ -1,5 +1,5 @@
 -- Merged runs: none is empty, and no two adjacent ones have one type.
-use Rattle.std.proofs.Common.{◌≡◌, ◌≢◌, ℕ, suc, ◌+◌, ◌<◌, ◌≤◌, List, [], ◌∷◌, ◌++◌, Bool, true, false, cond, Option, Some, None, refl, ap, sym, ◌∙◌, subst, arith, add-one, length, get_or, drop, drop-cons, inl, inr}
+use Rattle.std.proofs.Common.{◌≡◌, ◌≢◌, ℕ, suc, ◌+◌, ◌<◌, ◌≤◌, List, [], ◌∷◌, Bool, true, false, cond, Option, Some, None, refl, ap, sym, ◌∙◌, subst, arith, add-one, length, get_or, drop, drop-cons, inl, inr}
 use Rattle.std.proofs.lemmas.Bool.{ne_eqb}
 use Rattle.std.proofs.lemmas.Bool.Decides.{eqb_tells}
 use Rattle.std.proofs.lemmas.List.{drop_all}
@@ -93,7 +93,7 @@ pub all_merged : (rs : List Run) → merged rs ≡ rs → IsMerged None rs
 all_merged rs e = is_merged None rs e (first_apart rs)
 
 pub merged_more : (before : Option ValType) (rs : List Run) (i : ℕ) (d : Run) → i < length rs → IsMerged before (drop i rs) → ((get_or rs i d).count ≢ 0) × (before ≢ Some (get_or rs i d).ty) × IsMerged (Some (get_or rs i d).ty) (drop (i + 1) rs)
-merged_more before rs i d h m = 
+merged_more before rs i d h m =
     let P : List Run → Type 0 = λ s. IsMerged before s in
     let e : drop i rs ≡ get_or rs i d ∷ drop (i + 1) rs = rw (add-one, drop-cons rs i d) refl in subst P e m
 

@@ -1,20 +1,17 @@
 -- Small modules, section by section.
-use Rattle.std.proofs.Common.{◌≡◌, ◌≢◌, ℕ, ◌+◌, ◌<◌, ◌^◌, List, [], ◌∷◌, ◌++◌, Option, Some, None, Bool, true, Result, Err, refl, ap, subst, sym, ◌∙◌, map, suc, slice_get, arith, length, length-append}
+use Rattle.std.proofs.Common.{◌≡◌, ◌≢◌, ℕ, ◌<◌, ◌^◌, List, [], ◌∷◌, ◌++◌, Some, true, Result, Err, refl, ap, subst, sym, ◌∙◌, map, suc, slice_get, arith, length, length-append}
 use Rattle.std.specs.List.{All, AllPass, list_all, flat_map}
 use Rattle.std.proofs.lemmas.List.{append-nil}
 use Rattle.std.proofs.lemmas.List.Elements.{All-map}
 use Rattle.std.proofs.lemmas.List.Sums.{AllPass-from_list_all, list_all-from_AllPass}
-use Rattle.wa_types.specs.declared.syntax.Limits.{Limits}
-use Rattle.wa_types.specs.declared.syntax.Import.{Import}
-use Rattle.wa_types.specs.declared.syntax.Export.{Export}
 use Rattle.wa_types.specs.Encoding.{Enc, preamble, section, vector, sized, func_type_bytes, export_bytes, body_bytes}
 use Rattle.wa_types.specs.Leb.{shortest}
-use Rattle.wa_types.specs.Syntax.{FuncType, Func, GlobalDef, Elem, Segment, Custom, Module}
+use Rattle.wa_types.specs.Syntax.{FuncType, Func, Module}
 use Rattle.wa_types.specs.declared.syntax.Module.{Module as ModuleValue}
 use Rattle.wasm_reader.specs.declared.SmallFault.{SmallFault}
 use Rattle.wasm_reader.specs.declared.SmallFault.TheVariants.{Memory}
 use Rattle.wasm_reader.specs.Reading.{GivesSmall}
-use Rattle.wasm_reader.specs.Small.{is_u32, is_small_type, IsSmallFunc, IsSmallExport, IsSmallShaped}
+use Rattle.wasm_reader.specs.Small.{is_u32, is_small_type, IsSmallFunc, IsSmallShaped}
 
 abbrev pub sort_of : Func → ℕ
 sort_of f = f.sort

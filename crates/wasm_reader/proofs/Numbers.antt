@@ -1,11 +1,10 @@
 -- Numbers at the front of an input.
-use Rattle.std.proofs.Common.{lit≤, ◌≡◌, ℕ, ◌+◌, ◌-◌, ◌*◌, ◌^◌, ◌<◌, ◌≤◌, List, [], ◌∷◌, ◌++◌, Bool, true, false, cond, Result, Ok, Err, refl, ap, sym, ◌∙◌, arith, length, drop, nat_lt}
+use Rattle.std.proofs.Common.{lit≤, ◌≡◌, ℕ, ◌+◌, ◌-◌, ◌^◌, ◌<◌, ◌≤◌, List, [], ◌∷◌, ◌++◌, Bool, true, false, cond, Result, Ok, ap, sym, ◌∙◌, arith, length, drop, nat_lt}
 use Rattle.std.proofs.lemmas.List.{drop-drop}
 use Rattle.std.proofs.Math.Seq.{drop-append_seam}
 use Rattle.std.proofs.Common.{length-drop}
 use Rattle.wa_types.specs.declared.leb.LebFault.{LebFault}
-use Rattle.wa_types.specs.declared.leb.LebFault.TheVariants.{Short, Long, Bits}
-use Rattle.wa_types.specs.Leb.{unsigned_at, signed_at, last_signed, shortest, shortest_signed}
+use Rattle.wa_types.specs.Leb.{unsigned_at, signed_at, shortest, shortest_signed}
 use Rattle.wa_types.proofs.UnsignedReads.{again}
 use Rattle.wa_types.proofs.UnsignedSpelling.{shortest_spells}
 use Rattle.wa_types.proofs.SignedReads.{again as signed_again}

@@ -1,6 +1,6 @@
 -- Small modules, as they are read for now: function types of i32, functions whose bodies are lists of
 -- constants, local reads, additions and calls, and exports of functions.
-use Rattle.std.specs.Prelude.{◌≡◌, ℕ, ◌^◌, nat_lt, nat_le, ◌&&◌, List, [], ◌∷◌, length, Option, None, Bool, true, false, All}
+use Rattle.std.specs.Prelude.{◌≡◌, ℕ, ◌^◌, nat_lt, ◌&&◌, [], None, Bool, true, false, All}
 use Rattle.std.specs.List.{list_all}
 use Rattle.std.specs.Str.{IsUtf8}
 use Rattle.wa_types.specs.declared.values.ValType.{ValType}

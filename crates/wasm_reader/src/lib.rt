@@ -1,4 +1,9 @@
 //! Reads modules from bytes.
+//!
+//! For now these are small modules alone: function types of i32, functions whose bodies are lists of constants,
+//! local reads, additions and calls, and exports of functions. `read_small` keeps one law: for whatever small
+//! module the bytes are written as, the answer is that module, or there was no memory. What it answers is always
+//! small. It doesn't tell whether the bytes are a small module's: a caller writes the answer again and compares.
 #![tactic(auto)]
 
 mod bodies;
@@ -108,4 +113,59 @@ fn preamble(input: &mut Input<'_>) -> Result<(), SmallFault>
         return Err(SmallFault::NotSmall);
     }
     Ok(())
+}
+
+#[cfg(test)]
+mod tests {
+    use super::*;
+    use std::test::Fail;
+    use wa_types::{Instr, Space, ValType, Value};
+
+    #[test]
+    fn a_function_of_a_constant_is_read(rt: HostRuntime) -> Result<(), Fail> {
+        let alloc = rt.alloc();
+        let bytes =
+            b"\0asm\x01\0\0\0\x01\x05\x01\x60\0\x01\x7f\x03\x02\x01\0\x07\x07\x01\x03run\0\0\x0a\x06\x01\x04\0\x41\x07\x0b";
+        let module = read_small(alloc, bytes)?;
+        assert_eq!(rt; module.types.len(), 1);
+        assert_eq!(rt; module.types[0].params.len(), 0);
+        assert_eq!(rt;
+            module.types[0].results.as_slice(),
+            [ValType::I32].as_slice()
+        );
+        assert_eq!(rt; module.funcs.len(), 1);
+        assert_eq!(rt; module.funcs[0].sort, 0);
+        assert_eq!(rt; module.funcs[0].locals.len(), 0);
+        assert_eq!(rt; module.funcs[0].body.len(), 1);
+        assert!(rt; matches!(module.funcs[0].body[0], Instr::Const(Value::I32(7))));
+        assert_eq!(rt; module.exports.len(), 1);
+        assert_eq!(rt; module.exports[0].name.as_str(), "run");
+        assert_eq!(rt; module.exports[0].space, Space::Func);
+        assert_eq!(rt; module.exports[0].index, 0);
+        Ok(())
+    }
+
+    #[test]
+    fn a_module_of_nothing_is_read(rt: HostRuntime) -> Result<(), Fail> {
+        let module = read_small(rt.alloc(), b"\0asm\x01\0\0\0")?;
+        assert!(rt; module.types.is_empty());
+        assert!(rt; module.funcs.is_empty());
+        assert!(rt; module.exports.is_empty());
+        Ok(())
+    }
+
+    #[test]
+    fn other_bytes_are_refused(rt: HostRuntime) -> Result<(), Fail> {
+        let alloc = rt.alloc();
+        for bytes in [
+            b"".as_slice(),
+            b"\0asm\x01\0\0".as_slice(),
+            b"\0asm\x02\0\0\0".as_slice(),
+            b"\0asm\x01\0\0\0\x0b".as_slice(),
+            b"\0asm\x01\0\0\0\x03\x02\x01\0".as_slice(),
+        ] {
+            assert!(rt; matches!(read_small(alloc, bytes), Err(SmallFault::NotSmall)));
+        }
+        Ok(())
+    }
 }

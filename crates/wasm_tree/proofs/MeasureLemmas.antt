@@ -1,5 +1,5 @@
 -- Counts and depths of the code of a list of instructions, step by step.
-use Rattle.std.proofs.Common.{◌≡◌, ℕ, suc, ◌+◌, ◌<◌, ◌≤◌, max, List, [], ◌∷◌, refl, ap, sym, ◌∙◌, arith, Option, length, get_or, drop}
+use Rattle.std.proofs.Common.{◌≡◌, ℕ, ◌+◌, ◌<◌, ◌≤◌, max, List, ap, sym, ◌∙◌, arith, Option, length, get_or, drop}
 use Rattle.std.specs.Ordering.{ord_max, nat_cmp}
 use Rattle.std.proofs.lemmas.Bool.Decides.{nat_tests}
 use Rattle.std.specs.declared.vec.Vec.{Vec}
@@ -10,7 +10,7 @@ use Rattle.wa_types.specs.declared.instrs.Instr.TheVariants.{Block, Loop, If}
 use Rattle.wa_types.specs.Syntax.{Code, done, plain, nest, branch}
 use Rattle.wa_types.specs.View.{code, in_front}
 use Rattle.wa_types.specs.Counts.{count_of, depth_of}
-use Rattle.wa_types.proofs.ViewLemmas.{Kind, is_block, is_loop, is_if, is_plain, kind, in_block, in_loop, in_if, code_step, code_empty}
+use Rattle.wa_types.proofs.ViewLemmas.{is_block, is_loop, is_if, is_plain, kind, in_block, in_loop, in_if, code_step, code_empty}
 
 count_front : (x : Instr) (rest : Code) → count_of (in_front x rest) ≡ count_of (in_front x done) + count_of rest
 unfolding count_of

@@ -1,4 +1,4 @@
-use Rattle.std.proofs.Common.{rules, ◌≡◌, List, [], ◌∷◌, ◌++◌, length, sym, ap, ◌∙◌, arith}
+use Rattle.std.proofs.Common.{sym, ◌∙◌}
 use Rattle.wa_types.specs.Encoding.{preamble}
 use Rattle.wasm_reader.proofs.Fronts.{front_is}
 use Rattle.wasm_reader.proofs.preamble.Goals as goal

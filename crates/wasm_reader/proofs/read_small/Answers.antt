@@ -1,8 +1,7 @@
-use Rattle.std.proofs.Common.{rules, ◌≡◌, List, [], ◌++◌, map, sym, ap, refl, ◌∙◌, slice_get}
+use Rattle.std.proofs.Common.{[], map, sym, ap, refl, ◌∙◌, slice_get}
 use Rattle.std.specs.Prelude.{is_some}
 use Rattle.std.proofs.lemmas.Result.{err_from_is_err_and}
-use Rattle.wa_types.specs.View.{module_of, func_type_of, func_of}
-use Rattle.wasm_reader.specs.Small.{IsSmallShaped}
+use Rattle.wa_types.specs.View.{func_type_of, func_of}
 use Rattle.wasm_reader.proofs.Modules.{sort_of, from_types, from_sorts, from_exports, from_bodies, module_parts, module_is, types_are_small, funcs_are_small, gives_fault}
 use Rattle.wasm_reader.proofs.read_small.Goals as goal
 

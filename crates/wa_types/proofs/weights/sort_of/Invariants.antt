@@ -1,4 +1,4 @@
-use Rattle.std.proofs.Common.{◌≡◌, slice_get, map}
+use Rattle.std.proofs.Common.{◌≡◌, slice_get}
 use Rattle.wa_types.specs.View.{module_of}
 use Rattle.wa_types.specs.Modules.{func_sorts}
 use Rattle.wa_types.proofs.WeightLemmas.{sorts_from, defined_sorts}

@@ -1,5 +1,4 @@
-use Rattle.std.proofs.Common.{◌≡◌, List, drop, None}
-use Rattle.wa_types.specs.declared.syntax.Run.{Run}
+use Rattle.std.proofs.Common.{drop, None}
 use Rattle.wasm_reader.proofs.Merged.{IsMerged}
 use Rattle.wasm_reader.proofs.bodies.are_merged.Given as goal
 

@@ -1,4 +1,4 @@
-use Rattle.std.proofs.Common.{rules, ◌≡◌, ◌^◌, ◌<◌, List, [], ◌∷◌, ◌++◌, length, sym, ap, ◌∙◌, arith, true, false}
+use Rattle.std.proofs.Common.{rules, ◌++◌, length, sym, ap, ◌∙◌, arith}
 use Rattle.std.proofs.lemmas.Result.{err_from_is_err_and}
 use Rattle.wa_types.specs.Encoding.{vector, run_bytes, body_bytes, expression_bytes, merged}
 use Rattle.wasm_reader.proofs.Vectors.{fails}

@@ -1,4 +1,4 @@
-use Rattle.std.proofs.Common.{◌≡◌, List, ◌++◌, Ok, Some, None, sym, ap, subst}
+use Rattle.std.proofs.Common.{Ok, subst}
 use Rattle.std.specs.Prelude.{MatchOption, Option}
 use Rattle.wa_types.specs.declared.instrs.Instr.{Instr}
 use Rattle.wasm_reader.specs.Reading.{ReadsFirst, IsSmallInstr}
@@ -14,7 +14,7 @@ loop-body-init c = record {
 pub loop-body-preserved : goal.loop-body-preserved
 loop-body-preserved c = record {
   small = small_more _ _ _ c.loop-body.invariant.small c.in_ok-push.ensures.items
-  (let P : Option Instr → Type 0 = λ o. MatchOption o (Unit {0}) IsSmallInstr in subst P c.in-Some.is c.in_ok-instr.ensures.small);
+      (let P : Option Instr → Type 0 = λ o. MatchOption o (Unit {0}) IsSmallInstr in subst P c.in-Some.is c.in_ok-instr.ensures.small);
   reads = λ k tail s e.
       let g = c.loop-body.invariant.reads k tail s e in
       let P : Option Instr → Type 0 = λ o. ReadsFirst (Ok o) c.instruction.new.input g.rest tail in

@@ -1,6 +1,5 @@
-use Rattle.std.proofs.Common.{◌≡◌, ℕ, ◌<◌, ◌^◌, List, ◌++◌, length, map}
+use Rattle.std.proofs.Common.{◌≡◌, length}
 use Rattle.std.specs.List.{All}
-use Rattle.wa_types.specs.Encoding.{body_bytes, sized}
 use Rattle.wa_types.specs.View.{func_of}
 use Rattle.wasm_reader.specs.Small.{IsSmallFunc}
 use Rattle.wasm_reader.proofs.Functions.{KeepsFuncs}

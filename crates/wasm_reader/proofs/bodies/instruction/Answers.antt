@@ -1,4 +1,4 @@
-use Rattle.std.proofs.Common.{◌≡◌, ◌∷◌, ◌++◌, sym, ◌∙◌, arith}
+use Rattle.std.proofs.Common.{sym, ◌∙◌, arith}
 use Rattle.std.proofs.lemmas.Result.{err_from_is_err_and}
 use Rattle.wasm_reader.proofs.Codes.{first, reads_end, reads_call, reads_local, reads_const, reads_add, reads_none, operand_read, operand_fails, first_fails, small_call, small_local, small_const, small_add}
 use Rattle.wasm_reader.proofs.bodies.instruction.Goals as goal

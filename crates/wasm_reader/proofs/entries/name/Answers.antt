@@ -1,4 +1,4 @@
-use Rattle.std.proofs.Common.{◌≡◌, ℕ, List, ◌++◌, sym, ◌∙◌, subst, length, append_assoc}
+use Rattle.std.proofs.Common.{ℕ, List, ◌++◌, sym, ◌∙◌, subst, length, append_assoc}
 use Rattle.std.specs.Str.{IsUtf8}
 use Rattle.wa_types.specs.Leb.{shortest}
 use Rattle.wasm_reader.proofs.Fronts.{front_is}

@@ -1,10 +1,6 @@
-use Rattle.std.proofs.Common.{rules, ◌≡◌, ℕ, ◌+◌, ◌<◌, ◌^◌, List, [], ◌∷◌, ◌++◌, Ok, Err, length, true, ap, sym, ◌∙◌, refl, arith, append_assoc}
-use Rattle.std.specs.List.{All, AllPass}
-use Rattle.wa_types.specs.declared.syntax.Run.{Run}
-use Rattle.wa_types.specs.Encoding.{vector, section, type_byte, func_type_bytes, export_bytes, run_bytes}
+use Rattle.std.proofs.Common.{◌≡◌, length, true}
 use Rattle.wa_types.specs.Leb.{shortest}
-use Rattle.wa_types.specs.View.{func_type_of}
-use Rattle.wasm_reader.specs.Small.{is_i32, is_u32, is_small_type, IsSmallExport}
+use Rattle.wasm_reader.specs.Small.{is_u32}
 use Rattle.wasm_reader.proofs.Vectors.{Keeps}
 use Rattle.wasm_reader.proofs.entries.sorts.Given as goal
 

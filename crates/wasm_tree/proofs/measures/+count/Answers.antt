@@ -1,7 +1,4 @@
 use Rattle.std.proofs.Common.{rules, arith}
-use Rattle.wa_types.specs.View.{code, in_front}
-use Rattle.wa_types.specs.Syntax.{done}
-use Rattle.wa_types.specs.Counts.{count_of, depth_of}
 use Rattle.wa_types.specs.declared.instrs.Instr.{the_lemmas}
 use Rattle.wasm_tree.proofs.MeasureLemmas.{counting, count_other}
 use Rattle.wasm_tree.proofs.measures.+count.Goals as goal

@@ -1,4 +1,4 @@
-use Rattle.std.proofs.Common.{◌≡◌, Ok, Err, sym, ◌∙◌, arith}
+use Rattle.std.proofs.Common.{◌∙◌}
 use Rattle.wasm_reader.proofs.Numbers.{number_is_read, number_leaves}
 use Rattle.wasm_reader.proofs.input.Input.number.Goals as goal
 

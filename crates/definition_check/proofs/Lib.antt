@@ -1,0 +1,4 @@
+pub mod Exact
+pub mod Right
+pub mod Decided
+pub mod CaseLemmas

@@ -1,0 +1,5 @@
+use Rattle.definition_check.proofs.Decided.{module_decided}
+use Rattle.definition_check.proofs.each_module_decided.Goals as goal
+
+pub returns : goal.returns
+returns c = λ m. module_decided m

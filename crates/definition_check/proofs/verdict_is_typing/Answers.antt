@@ -1,0 +1,5 @@
+use Rattle.definition_check.proofs.Right.{passes_typed, fails_fault}
+use Rattle.definition_check.proofs.verdict_is_typing.Goals as goal
+
+pub returns : goal.returns
+returns c = λ d body. (passes_typed d body, fails_fault d body)

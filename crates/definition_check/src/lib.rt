@@ -1,0 +1,65 @@
+//! Checks that the definitions mean what they should, on small modules.
+//!
+//! Each function here does nothing: its contract is a fact on modules that are written out, which the prover
+//! computes from the definitions. So a definition that says another thing than meant shows here.
+#![tactic(auto)]
+
+ghost use Rattle.definition_check.specs.Laws.{EachModuleDecided, VerdictIsTyping};
+ghost use Rattle.definition_check.specs.Faults.{AllSay, body_cases, module_cases, valid_cases};
+ghost use Rattle.definition_check.specs.Lists.{Listings, Lists};
+ghost use Rattle.definition_check.specs.Rows.{Measures, OneCallImage, Rooms, SavedLocals};
+
+/// What is computed of a body is its typing and its first fault.
+pub fn verdict_is_typing()
+    ensures { VerdictIsTyping }
+{}
+
+/// Each module is valid or has a first fault, and which of them is computed.
+pub fn each_module_decided()
+    ensures { EachModuleDecided }
+{}
+
+/// Modules that break a rule outside their bodies, each with its first fault.
+pub fn rules_outside_bodies()
+    ensures { AllSay module_cases }
+{}
+
+/// Modules with a body that breaks a rule, each with its first fault.
+pub fn rules_in_bodies()
+    ensures { AllSay body_cases }
+{}
+
+/// Modules that are valid.
+pub fn valid_modules()
+    ensures { AllSay valid_cases }
+{}
+
+/// The bytes that suspended stacks of small programs take.
+pub fn rooms()
+    ensures { Rooms }
+{}
+
+/// The locals that frames of small programs save.
+pub fn saved_locals()
+    ensures { SavedLocals }
+{}
+
+/// What functions of small programs weigh, how many locals they get and which of their calls have numbers.
+pub fn measures()
+    ensures { Measures }
+{}
+
+/// What texts spell as lists of imports.
+pub fn lists()
+    ensures { Lists }
+{}
+
+/// Which names lists of imports list.
+pub fn listings()
+    ensures { Listings }
+{}
+
+/// What memory holds while a call waits.
+pub fn one_call_image()
+    ensures { OneCallImage }
+{}
