@@ -34,9 +34,5 @@ pub mod UniqueCode
 pub mod UnsignedReads
 pub mod UnsignedSpelling
 pub mod Vectors
-pub mod SigLemmas
-pub mod TypingLemmas
-pub mod Cuts
-pub mod FaultLemmas
 pub mod ViewLemmas
 pub mod WeightLemmas
