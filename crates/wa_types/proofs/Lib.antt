@@ -18,6 +18,7 @@ pub mod MemoryLemmas
 pub mod NumOpcodes
 pub mod NumberReading
 pub mod NumberWriting
+pub mod OneFault
 pub mod OneModule
 pub mod PlainOf
 pub mod PointLemmas
@@ -27,6 +28,7 @@ pub mod SigLemmas
 pub mod SignedReads
 pub mod SignedSpelling
 pub mod SizeBounds
+pub mod SpelledFits
 pub mod SlotLemmas
 pub mod TypingLemmas
 pub mod Unique

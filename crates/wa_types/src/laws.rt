@@ -1,7 +1,7 @@
-ghost use Rattle.std.specs.Prelude.{◌≡◌, List, ℕ, ◌++◌, ◌<◌, ◌^◌, All, length, sum_by};
+ghost use Rattle.std.specs.Prelude.{◌≡◌, List, ℕ, ◌++◌, ◌<◌, ◌^◌, All, length, take, sum_by};
 ghost use Rattle.wa_types.specs.Binary.{Section};
 ghost use Rattle.wa_types.specs.Spells.{Spells};
-ghost use Rattle.wa_types.specs.Begun.{Begun, IsWhole};
+ghost use Rattle.wa_types.specs.Begun.{Begun, FaultAt, IsWhole};
 ghost use Rattle.wa_types.specs.Encoding.{Enc};
 ghost use Rattle.wa_types.specs.Norm.{Norm};
 ghost use Rattle.wa_types.specs.Reading.{SpellsModule};
@@ -35,3 +35,18 @@ pub fn one_module_is_spelled()
 pub fn written_is_spelled()
     ensures { (m : Module) → WellFormed m → All (λ f. sum_by (λ r. r.count) f.locals < 2 ^ 32) m.funcs → length (Enc m) < 2 ^ 32 → SpellsModule (Enc m) (Norm m) }
 {}
+
+/// Law: bytes with a fault spell no file; where they go on behind it, neither do others that begin as they
+/// do up to it; and there is one such place.
+pub fn faults_spell_nothing()
+    ensures all { (bytes : List ℕ) (k : ℕ) (x : List Section) → FaultAt bytes k → Spells bytes x → ⊥ }
+    ensures beginning { (bytes : List ℕ) (k : ℕ) → FaultAt bytes k → k < length bytes → (more : List ℕ) (x : List Section) → Spells (take k bytes ++ more) x → ⊥ }
+    ensures one { (bytes : List ℕ) (j k : ℕ) → FaultAt bytes j → FaultAt bytes k → j ≡ k }
+{
+}
+
+/// Law: a module that bytes spell is well formed.
+pub fn spelled_is_well_formed()
+    ensures { (bytes : List ℕ) (m : Module) → All (λ b. b < 2 ^ 8) bytes → SpellsModule bytes m → WellFormed m }
+{
+}
