@@ -1,10 +1,10 @@
 -- Where bytes are at fault they spell nothing, and they are at fault in one place.
-use Rattle.std.proofs.Common.{◌≡◌, ℕ, ◌+◌, ◌<◌, ◌≤◌, ◌⊎◌, inl, inr, List, ◌++◌, refl, ap, sym, ◌∙◌, arith, length, take, drop}
+use Rattle.std.proofs.Common.{◌≡◌, ℕ, ◌<◌, inl, inr, List, ◌++◌, refl, sym, arith, length, take, drop}
 use Rattle.std.proofs.lemmas.List.{take-append-drop}
 use Rattle.std.proofs.lemmas.Bool.{cases_lt}
 use Rattle.wa_types.specs.Binary.{Section}
 use Rattle.wa_types.specs.Spells.{Spells}
-use Rattle.wa_types.specs.Begun.{Begun, IsWhole, FaultAt}
+use Rattle.wa_types.specs.Begun.{FaultAt}
 use Rattle.wa_types.proofs.FileReads.{spelled_whole, spelled_begun}
 
 pub fault_spells_none : (bytes : List ℕ) (k : ℕ) (x : List Section) → FaultAt bytes k → Spells bytes x → ⊥

@@ -42,11 +42,9 @@ pub fn faults_spell_nothing()
     ensures all { (bytes : List ℕ) (k : ℕ) (x : List Section) → FaultAt bytes k → Spells bytes x → ⊥ }
     ensures beginning { (bytes : List ℕ) (k : ℕ) → FaultAt bytes k → k < length bytes → (more : List ℕ) (x : List Section) → Spells (take k bytes ++ more) x → ⊥ }
     ensures one { (bytes : List ℕ) (j k : ℕ) → FaultAt bytes j → FaultAt bytes k → j ≡ k }
-{
-}
+{}
 
 /// Law: a module that bytes spell is well formed.
 pub fn spelled_is_well_formed()
     ensures { (bytes : List ℕ) (m : Module) → All (λ b. b < 2 ^ 8) bytes → SpellsModule bytes m → WellFormed m }
-{
-}
+{}
