@@ -5,9 +5,9 @@ pub mod SmallBodies
 pub mod SmallLocals
 pub mod SmallModules
 pub mod SmallNames
+pub mod SmallSeven
 pub mod SmallSizes
 pub mod SmallSteps
 pub mod SmallWhole
 pub mod Transforming
 pub mod Written
-pub mod SmallSeven

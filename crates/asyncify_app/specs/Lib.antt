@@ -3,8 +3,8 @@ pub mod Command
 pub mod Heights
 pub mod Lines
 pub mod Locals
+pub mod Seven
 pub mod Small
 pub mod SmallParts
 pub mod Transforms
 pub mod Words
-pub mod Seven

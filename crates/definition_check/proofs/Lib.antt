@@ -1,7 +1,5 @@
 pub mod CaseLemmas
 pub mod Decided
 pub mod Exact
-pub mod Right
-pub mod Decided
-pub mod CaseLemmas
 pub mod PauseLemmas
+pub mod Right

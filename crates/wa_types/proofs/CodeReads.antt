@@ -1,13 +1,13 @@
 -- Goals of code.
-use Rattle.std.proofs.Common.{◌≡◌, ℕ, suc, zero, ◌+◌, ◌-◌, ◌<◌, ◌≤◌, ◌⊎◌, List, [], ◌∷◌, ◌++◌, Option, Some, None, refl, ap, sym, ◌∙◌, subst, arith, add-zero, append_assoc, append-nil, length, length-append, Bool, true, false, inl, inr, cond, nat_eq, nat_le, eqb-true, IsTrue, ◌&&◌}
+use Rattle.std.proofs.Common.{◌≡◌, ℕ, suc, zero, ◌+◌, ◌<◌, ◌≤◌, ◌⊎◌, List, [], ◌∷◌, ◌++◌, Option, Some, None, refl, ap, sym, ◌∙◌, subst, arith, append_assoc, length, length-append, Bool, true, false, inl, inr, cond, nat_eq, nat_le, eqb-true, IsTrue}
 use Rattle.wa_types.specs.Opcodes.{Follows, no_operand, a_zero, an_index, an_index_and_zero, an_access, some_labels, a_constant, a_float, follows, shape, within, is_nest}
 use Rattle.wa_types.specs.Binary.{Placed, Operands, nothing, zero_byte, index, index_and_zero, access, labels, constant, float, RawCode, ended, otherwise, instr, nested, branched}
-use Rattle.wa_types.specs.Begun.{Goal, code, exact, number, signed, float_bytes, count, block_type, entries, some_indices, IsItem, wants, next, where_true, operands, operands_of, behind_opcode, an_unsigned}
+use Rattle.wa_types.specs.Begun.{Goal, code, exact, number, count, block_type, entries, some_indices, next, where_true, operands, operands_of, behind_opcode, an_unsigned}
 use Rattle.wa_types.specs.Spells.{◌▸◌, Exactly, Number, SignedNumber, Vector, Byte, BlockType, OperandsOf, CodeOf}
 use Rattle.wa_types.proofs.Runs.{some_same, not_none}
-use Rattle.wa_types.proofs.Going.{Any, Reads, ReadsNext, reads_none, reads_then, reads_as, Begins, reads_first, Goes, First, takes_one, gives_one, to_left, to_right, on_right, on_left}
+use Rattle.wa_types.proofs.Going.{Any, Reads, reads_none, reads_then, reads_as, Begins, reads_first, Goes, takes_one, gives_one, to_right, on_right}
 use Rattle.wa_types.proofs.Leaves.{reads_number, reads_signed, reads_exact, reads_float, reads_block_type, tested, alone, with_nothing}
-use Rattle.wa_types.proofs.Vectors.{reads_count, reads_append}
+use Rattle.wa_types.proofs.Vectors.{reads_count}
 
 pub reads_index : Reads (entries some_indices 1 ∷ []) (Any Number)
 unfolding next
@@ -252,7 +252,7 @@ code_sound (suc n) first_arm more last at bytes h g =
     (by_opcode n first_arm more last at t.op t.new t.back (code_sound n) (omega (arith, h, ap length t.whole)) t.stands t.goes)
 
 -- an opcode of one kind is of no other
-nest_range : (op : ℕ) → IsTrue (is_nest op) → (op ≡ 2) ⊎ (op ≡ 3)
+pub nest_range : (op : ℕ) → IsTrue (is_nest op) → (op ≡ 2) ⊎ (op ≡ 3)
 nest_range zero h = let e : false ≡ true = h in absurd (cc)
 nest_range (suc zero) h = let e : false ≡ true = h in absurd (cc)
 nest_range (suc (suc zero)) h = inl refl
@@ -265,13 +265,13 @@ nest_next first_arm op h = elim (nest_range op h) [
   | inr e ↦ subst (λ z. behind_opcode first_arm z ≡ Some (block_type ∷ code false ∷ code first_arm ∷ [])) (sym e) refl
 ]
 
-refuted : (op k : ℕ) (f : Follows) → follows op ≡ Some f → follows k ≡ None → nat_eq op k ≡ false
+pub refuted : (op k : ℕ) (f : Follows) → follows op ≡ Some f → follows k ≡ None → nat_eq op k ≡ false
 refuted op k f e n = elim (tested op k) [
   | inl s ↦ absurd (not_followed f (sym n ∙ ap follows (sym s) ∙ e))
   | inr r ↦ r
 ]
 
-none_nest : (op : ℕ) (f : Follows) → follows op ≡ Some f → is_nest op ≡ false
+pub none_nest : (op : ℕ) (f : Follows) → follows op ≡ Some f → is_nest op ≡ false
 unfolding follows
 none_nest op f e = elim (by_test (is_nest op)) [
   | inr r ↦ r

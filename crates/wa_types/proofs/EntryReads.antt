@@ -1,12 +1,10 @@
 -- Goals of entries, kind by kind.
-use Rattle.std.proofs.Common.{◌≡◌, ℕ, suc, zero, ◌+◌, ◌-◌, ◌<◌, ◌≤◌, ◌⊎◌, List, [], ◌∷◌, ◌++◌, Option, Some, None, refl, ap, sym, ◌∙◌, subst, arith, add-zero, append_assoc, append-nil, length, length-append, Bool, true, false, inl, inr, cond, nat_eq, nat_le, eqb-true, IsTrue}
-use Rattle.wa_types.specs.declared.syntax.Export.{Export}
-use Rattle.wa_types.specs.Leb.{IsUnsigned}
+use Rattle.std.proofs.Common.{◌≡◌, ℕ, ◌+◌, List, [], ◌∷◌, ◌++◌, Option, Some, None, refl, ap, sym, ◌∙◌, subst, arith, append_assoc, append-nil, length, length-append, false, nat_eq, eqb-true, IsTrue}
 use Rattle.wa_types.specs.Opcodes.{is_value_type}
-use Rattle.wa_types.specs.Binary.{Placed, RawCode, RawType, RawImport, RawGlobal, RawElem, RawRun, RawBody, RawSegment}
-use Rattle.wa_types.specs.Begun.{Goal, code, number, name, value_type, mutable, import_kind, space, limits, count, entries, until, name_of, Kind, some_types, some_imports, some_functions, some_tables, some_memories, some_globals, some_exports, some_elements, some_bodies, some_segments, some_value_types, some_runs, some_indices, some_bytes, a_byte, an_unsigned, IsItem, wants, next, and_then, where_true, behind_flag}
-use Rattle.wa_types.specs.Spells.{◌▸◌, Exactly, Number, Items, Vector, Filling, Text, ValueType, FunctionType, LimitsOf, TableType, CodeOf, ImportKindOf, ImportOf, GlobalOf, ExportOf, ElementOf, RunOf, BodyOf, SegmentOf}
-use Rattle.wa_types.proofs.Going.{Any, Reads, ReadsNext, reads_none, reads_then, reads_as, Begins, reads_first, Goes, next_where, Ends, reads_until, to_left, to_right}
+use Rattle.wa_types.specs.Binary.{RawGlobal}
+use Rattle.wa_types.specs.Begun.{Goal, code, number, name, value_type, mutable, import_kind, space, limits, count, entries, until, name_of, some_types, some_imports, some_functions, some_tables, some_memories, some_globals, some_exports, some_elements, some_bodies, some_segments, some_value_types, some_runs, some_indices, some_bytes, a_byte, an_unsigned, next, and_then, where_true, behind_flag}
+use Rattle.wa_types.specs.Spells.{◌▸◌, Exactly, Number, Items, Vector, Text, ValueType, FunctionType, LimitsOf, TableType, CodeOf, ImportKindOf, ImportOf, GlobalOf, ExportOf, ElementOf, RunOf, BodyOf, SegmentOf}
+use Rattle.wa_types.proofs.Going.{Any, Reads, ReadsNext, reads_none, reads_then, reads_as, Begins, reads_first, next_where, Ends, reads_until, to_left, to_right}
 use Rattle.wa_types.proofs.Leaves.{reads_number, reads_value_type, reads_mutable, Mutability, SpaceOf, reads_space, reads_limits, reads_name, reads_import_kind, alone, with_nothing, NameOf, reads_name_of, text_from, text_to, Flagged, next_flag, limits_from, limits_to}
 use Rattle.wa_types.proofs.Vectors.{reads_count, reads_append, reads_alone}
 use Rattle.wa_types.proofs.CodeReads.{reads_code, reads_index}

@@ -1,17 +1,17 @@
 -- Sections that are spelled lead to the end of a file; and what a whole file is.
-use Rattle.std.proofs.Common.{◌≡◌, ℕ, suc, zero, ◌+◌, ◌-◌, ◌<◌, ◌≤◌, ◌⊎◌, List, [], ◌∷◌, ◌++◌, map, flat_map, Option, Some, None, refl, ap, sym, ◌∙◌, subst, arith, add-zero, append_assoc, append-nil, length, length-append, Bool, true, false, not, ◌&&◌, ◌||◌, inl, inr, cond, nat_eq, nat_le, nat_lt, eqb-true, IsTrue}
-use Rattle.std.proofs.lemmas.Bool.{ltb-true, lt-ltb}
+use Rattle.std.proofs.Common.{◌≡◌, ℕ, suc, zero, ◌+◌, ◌<◌, ◌≤◌, List, [], ◌∷◌, ◌++◌, map, flat_map, Some, refl, ap, sym, ◌∙◌, subst, arith, add-zero, append_assoc, append-nil, length, length-append, true, ◌&&◌, nat_eq, nat_lt}
+use Rattle.std.proofs.lemmas.Bool.{lt-ltb}
 use Rattle.wa_types.specs.Leb.{IsUnsigned}
 use Rattle.wa_types.specs.Encoding.{preamble}
-use Rattle.wa_types.specs.Binary.{RawBody, Section, custom, types, imports, functions, tables, memories, globals, exports, start, elements, bodies, segments, section_id}
-use Rattle.wa_types.specs.Begun.{Goal, exact, sections, size, head, until, rest, entries, Kind, some_types, some_imports, some_functions, some_tables, some_memories, some_globals, some_exports, some_elements, some_bodies, some_segments, an_unsigned, next, Inside, settled, where_true, some_of, name_of, may_follow, content, Leads, arrived, item, IsWhole, Begun, BegunFrom, ends, part, start as start_goals}
-use Rattle.wa_types.specs.Spells.{◌▸◌, Exactly, Number, Items, Vector, Filling, Sized, Text, FunctionType, LimitsOf, TableType, ImportOf, GlobalOf, ExportOf, ElementOf, BodyOf, SegmentOf, ContentOf, SectionOf, Rising, Spells, sorts_in, bodies_in}
+use Rattle.wa_types.specs.Binary.{Section, custom, types, imports, functions, tables, memories, globals, exports, start, elements, bodies, segments}
+use Rattle.wa_types.specs.Begun.{Goal, exact, sections, size, head, until, rest, entries, Kind, some_types, some_imports, some_functions, some_tables, some_memories, some_globals, some_exports, some_elements, some_bodies, some_segments, next, Inside, settled, where_true, some_of, name_of, may_follow, content, Leads, arrived, IsWhole, Begun, part, start as start_goals}
+use Rattle.wa_types.specs.Spells.{◌▸◌, Exactly, Number, Items, Vector, Sized, Text, FunctionType, LimitsOf, TableType, ImportOf, GlobalOf, ExportOf, ElementOf, BodyOf, SegmentOf, SectionOf, Rising, Spells, sorts_in, bodies_in}
 use Rattle.wa_types.proofs.Runs.{some_same, leads_on, begun_front}
-use Rattle.wa_types.proofs.Going.{Any, Reads, Goes, First, takes_one, gives_one, leads_one, Ends, reads_until, reads_none, reads_then, reads_as, to_left, to_right, on_right}
-use Rattle.wa_types.proofs.Leaves.{NameOf, reads_name_of, text_to, reads_exact}
-use Rattle.wa_types.proofs.Vectors.{Many, reads_some}
+use Rattle.wa_types.proofs.Going.{Any, Reads, Goes, gives_one, reads_until, reads_none, reads_then, reads_as}
+use Rattle.wa_types.proofs.Leaves.{reads_name_of, text_to, reads_exact}
+use Rattle.wa_types.proofs.Vectors.{reads_some}
 use Rattle.wa_types.proofs.EntryReads.{reads_type, reads_import, reads_function, reads_table, reads_memory, reads_global, reads_export, reads_element, reads_body, reads_segment}
-use Rattle.wa_types.proofs.SectionReads.{UpTo, reads_rest, Balanced, Filed, sections_sound}
+use Rattle.wa_types.proofs.SectionReads.{reads_rest, Balanced, sections_sound}
 
 sections_next : (last owed v at : ℕ) → next (sections last owed) v at ≡ where_true (may_follow v last owed) (size v last owed ∷ [])
 unfolding next

@@ -1,6 +1,6 @@
 -- From goals on, bytes lead to the end of a file. A goal reads what a spelling says where these are the same.
-use Rattle.std.proofs.Common.{◌≡◌, ℕ, suc, zero, ◌+◌, ◌-◌, ◌<◌, ◌≤◌, ◌⊎◌, List, [], ◌∷◌, ◌++◌, Option, Some, None, refl, ap, sym, ◌∙◌, subst, arith, add-zero, add_assoc, append_assoc, append-nil, length, length-append, Bool, true, false, inl, inr, cond, nat_eq, eqb-true, IsTrue}
-use Rattle.wa_types.specs.Begun.{Goal, sections, until, rest, Item, a_byte, an_unsigned, a_signed, a_name, a_constant_of, IsItem, wants, Steps, Leads, arrived, item, Inside, end_of, Closing, open_ended, must, must_not_before, closing, passed, settled, next, where_true}
+use Rattle.std.proofs.Common.{◌≡◌, ℕ, ◌+◌, List, [], ◌∷◌, ◌++◌, Option, Some, None, refl, ap, sym, ◌∙◌, subst, arith, add-zero, append_assoc, length, length-append, Bool, true, false, cond, nat_eq, eqb-true, IsTrue}
+use Rattle.wa_types.specs.Begun.{Goal, sections, until, Item, IsItem, wants, Steps, Leads, arrived, item, Inside, open_ended, closing, settled, next, where_true}
 use Rattle.wa_types.specs.Spells.{◌▸◌, Exactly}
 use Rattle.wa_types.proofs.Items.{item_some, place_of}
 use Rattle.wa_types.proofs.Runs.{some_same, not_none, steps_inside}

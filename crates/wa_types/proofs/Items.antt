@@ -1,5 +1,5 @@
 -- One item at the front of bytes.
-use Rattle.std.proofs.Common.{◌≡◌, ℕ, suc, zero, ◌+◌, ◌<◌, ◌≤◌, ◌⊎◌, List, [], ◌∷◌, ◌++◌, Result, Ok, Err, refl, ap, sym, ◌∙◌, subst, arith, append_assoc, append-nil, length, length-append, inl, inr}
+use Rattle.std.proofs.Common.{◌≡◌, ℕ, ◌+◌, ◌<◌, ◌⊎◌, List, [], ◌∷◌, ◌++◌, Result, Ok, Err, refl, ap, sym, ◌∙◌, arith, append-nil, length, length-append, inl, inr}
 use Rattle.wa_types.specs.declared.leb.LebFault.{LebFault}
 use Rattle.wa_types.specs.declared.leb.LebFault.TheVariants.{Short, Long, Bits}
 use Rattle.wa_types.specs.Leb.{IsUnsigned, IsSigned, unsigned_at, signed_at}

@@ -1,6 +1,6 @@
 -- Items one after another, whatever the grammar.
-use Rattle.std.proofs.Common.{◌≡◌, ℕ, suc, zero, ◌+◌, ◌-◌, ◌<◌, ◌≤◌, ◌⊎◌, List, [], ◌∷◌, ◌++◌, Option, Some, None, refl, ap, sym, ◌∙◌, subst, arith, add-zero, append_assoc, append-nil, length, length-append, Bool, true, false, inl, inr, cond, nat_eq, eqb-true}
-use Rattle.wa_types.specs.Begun.{Goal, until, IsItem, IsPart, wants, Steps, Leads, arrived, item, BegunFrom, ends, part, then, Inside, IsBefore, end_of, Closing, open_ended, must, must_not_before, closing, passed, settled, next, head, rest, Item, content, where_true, name_of, some_of, some_types, some_imports, some_functions, some_tables, some_memories, some_globals, some_exports, some_elements, some_bodies, some_segments}
+use Rattle.std.proofs.Common.{◌≡◌, ℕ, ◌+◌, ◌<◌, ◌≤◌, ◌⊎◌, List, [], ◌∷◌, ◌++◌, Option, Some, None, refl, ap, sym, ◌∙◌, subst, arith, add-zero, append_assoc, append-nil, length, length-append, Bool, true, false, inl, inr, cond, nat_eq, eqb-true}
+use Rattle.wa_types.specs.Begun.{Goal, until, IsItem, IsPart, wants, Steps, Leads, arrived, item, BegunFrom, ends, part, then, Inside, IsBefore, end_of, open_ended, must, must_not_before, closing, passed, settled, next, head, rest, content, where_true, name_of, some_of, some_types, some_imports, some_functions, some_tables, some_memories, some_globals, some_exports, some_elements, some_bodies, some_segments}
 use Rattle.wa_types.proofs.Items.{item_front, part_front, item_some, item_whole, one_item, meet, same_cut, place_of, some_left}
 
 chosen : {A : Type 0} → (b : Bool) (x y z : A) → cond b x y ≡ z → ((b ≡ true) × (x ≡ z)) ⊎ ((b ≡ false) × (y ≡ z))

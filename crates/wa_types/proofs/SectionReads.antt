@@ -1,15 +1,14 @@
 -- Sections, and whole files.
-use Rattle.std.proofs.Common.{◌≡◌, ℕ, suc, zero, ◌+◌, ◌-◌, ◌<◌, ◌≤◌, ◌⊎◌, List, [], ◌∷◌, ◌++◌, map, Option, Some, None, refl, ap, sym, ◌∙◌, subst, arith, add-zero, append_assoc, append-nil, length, length-append, Bool, true, false, not, ◌&&◌, ◌||◌, inl, inr, cond, nat_eq, nat_le, nat_lt, eqb-true, IsTrue}
+use Rattle.std.proofs.Common.{◌≡◌, ℕ, suc, zero, ◌+◌, ◌-◌, ◌<◌, ◌≤◌, ◌⊎◌, List, [], ◌∷◌, ◌++◌, Some, refl, ap, sym, ◌∙◌, subst, arith, add-zero, append_assoc, append-nil, length, length-append, Bool, true, false, not, ◌&&◌, inl, inr, nat_eq, nat_le, nat_lt, eqb-true}
 use Rattle.std.proofs.lemmas.Bool.{ltb-true, ltb-false, lt-ltb}
 use Rattle.wa_types.specs.Leb.{IsUnsigned}
-use Rattle.wa_types.specs.Encoding.{preamble}
-use Rattle.wa_types.specs.Binary.{RawBody, Section, custom, types, imports, functions, tables, memories, globals, exports, start, elements, bodies, segments, section_id}
-use Rattle.wa_types.specs.Begun.{Goal, exact, sections, size, head, until, rest, entries, Kind, some_types, some_imports, some_functions, some_tables, some_memories, some_globals, some_exports, some_elements, some_bodies, some_segments, a_byte, an_unsigned, IsItem, wants, next, Inside, settled, passed, must_not_before, where_true, some_of, name_of, may_follow, content, Leads, arrived, item, IsWhole, start as start_goals}
-use Rattle.wa_types.specs.Spells.{◌▸◌, Exactly, Number, Items, Vector, Filling, Sized, Text, FunctionType, LimitsOf, TableType, ImportOf, GlobalOf, ExportOf, ElementOf, BodyOf, SegmentOf, ContentOf, SectionOf, Rising}
+use Rattle.wa_types.specs.Binary.{Section, custom, types, imports, functions, tables, memories, globals, exports, start, elements, bodies, segments}
+use Rattle.wa_types.specs.Begun.{Goal, sections, size, head, until, rest, entries, Kind, some_types, some_imports, some_functions, some_tables, some_memories, some_globals, some_exports, some_elements, some_bodies, some_segments, next, settled, where_true, some_of, name_of, may_follow, content, Leads, arrived, item}
+use Rattle.wa_types.specs.Spells.{◌▸◌, Exactly, Number, Items, Vector, Sized, FunctionType, LimitsOf, TableType, ImportOf, GlobalOf, ExportOf, ElementOf, BodyOf, SegmentOf, SectionOf, Rising}
 use Rattle.wa_types.proofs.Runs.{some_same, not_none}
-use Rattle.wa_types.proofs.Going.{Any, Reads, Goes, First, takes_one, gives_one, leads_one, is_sections, Ends, reads_until, to_left, to_right, on_right, first_item}
-use Rattle.wa_types.proofs.Leaves.{NameOf, reads_name_of, text_from, text_to}
-use Rattle.wa_types.proofs.Vectors.{Many, reads_some}
+use Rattle.wa_types.proofs.Going.{Any, Reads, Goes, First, takes_one, leads_one, reads_until, first_item}
+use Rattle.wa_types.proofs.Leaves.{reads_name_of, text_from}
+use Rattle.wa_types.proofs.Vectors.{reads_some}
 use Rattle.wa_types.proofs.EntryReads.{reads_type, reads_import, reads_function, reads_table, reads_memory, reads_global, reads_export, reads_element, reads_body, reads_segment}
 
 -- any bytes up to an end

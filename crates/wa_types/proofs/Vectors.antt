@@ -1,10 +1,10 @@
 -- Goals of counted entries.
-use Rattle.std.proofs.Common.{◌≡◌, ℕ, suc, zero, ◌+◌, ◌-◌, ◌<◌, ◌≤◌, ◌⊎◌, List, [], ◌∷◌, ◌++◌, Option, Some, None, refl, ap, sym, ◌∙◌, subst, arith, add-zero, append_assoc, append-nil, length, length-append, Bool, true, false, inl, inr, cond, nat_eq, nat_le, eqb-true, IsTrue}
+use Rattle.std.proofs.Common.{◌≡◌, ℕ, suc, zero, ◌+◌, ◌-◌, List, [], ◌∷◌, ◌++◌, Option, Some, None, refl, ap, sym, ◌∙◌, subst, arith, append_assoc, append-nil, length, false, nat_eq, nat_le}
 use Rattle.wa_types.specs.Leb.{IsUnsigned}
-use Rattle.wa_types.specs.Begun.{Goal, count, entries, Kind, Item, a_byte, an_unsigned, IsItem, wants, next, entry, others, and_then, some_of}
-use Rattle.wa_types.specs.Spells.{◌▸◌, Exactly, Number, Items, Vector}
+use Rattle.wa_types.specs.Begun.{Goal, count, entries, Kind, an_unsigned, next, entry, others, and_then, some_of}
+use Rattle.wa_types.specs.Spells.{◌▸◌, Exactly, Items, Vector}
 use Rattle.wa_types.proofs.Runs.{some_same, not_none}
-use Rattle.wa_types.proofs.Going.{Any, Reads, ReadsNext, reads_none, reads_then, reads_as, Begins, reads_first, Goes, First, takes_one, gives_one, to_left, to_right, on_right, on_left}
+use Rattle.wa_types.proofs.Going.{Any, Reads, reads_none, reads_then, reads_as, Begins, reads_first, Goes, takes_one, gives_one, to_left, to_right, on_right}
 
 pub reads_append : (gs hs : List Goal) (F G : ℕ → List ℕ → Type 0) → Reads gs F → Reads hs G → Reads (gs ++ hs) (F ▸ G)
 reads_append gs hs F G r s = record {

@@ -1,5 +1,5 @@
 -- A module as its shortest spelling keeps it.
-use Rattle.std.specs.Prelude.{ℕ, zero, suc, List, [], ◌∷◌, ◌++◌, map, filter, min, Option, Some, None, Bool, true, false, ◌==◌, if◌then◌else◌}
+use Rattle.std.specs.Prelude.{ℕ, suc, List, [], ◌∷◌, ◌++◌, map, filter, min, Option, Some, None, Bool, true, false, ◌==◌, if◌then◌else◌}
 use Rattle.wa_types.specs.Syntax.{Func, Custom, Module}
 use Rattle.wa_types.specs.Encoding.{merged}
 

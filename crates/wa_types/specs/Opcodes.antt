@@ -1,6 +1,6 @@
 -- The opcodes of the binary format, by what follows them, and which of them are floats (standard, sections 5.3
 -- and 5.4).
-use Rattle.std.specs.Prelude.{ℕ, List, length, Option, Some, None, Bool, nat_le, ◌==◌, ◌&&◌, ◌||◌, if◌then◌else◌}
+use Rattle.std.specs.Prelude.{ℕ, length, Option, Some, None, Bool, nat_le, ◌==◌, ◌&&◌, ◌||◌, if◌then◌else◌}
 use Rattle.wa_types.specs.Binary.{Operands, nothing, zero_byte, index, index_and_zero, access, labels, constant, float}
 
 -- What follows an opcode: nothing, a zero byte, an index, an index and a zero byte, an alignment exponent and an

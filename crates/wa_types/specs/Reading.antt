@@ -1,7 +1,6 @@
 -- Which module the sections of a file are, where they hold no float (standard, sections 2 and 5).
-use Rattle.std.specs.Prelude.{◌≡◌, ℕ, ◌+◌, List, [], ◌∷◌, map, length, flat_map, filter, sum_by, Option, Some, None, Bool, true, false, IsTrue, option_to_list, nat_le, if◌then◌else◌, ◌&&◌, get_or, ◌++◌}
+use Rattle.std.specs.Prelude.{◌≡◌, ℕ, List, [], ◌∷◌, map, flat_map, IsTrue, option_to_list}
 use Rattle.wa_types.specs.declared.values.ValType.{ValType}
-use Rattle.wa_types.specs.declared.values.Value.{Value}
 use Rattle.wa_types.specs.declared.values.Value.TheVariants.{I32 as value_32, I64 as value_64}
 use Rattle.wa_types.specs.declared.syntax.Run.{Run}
 use Rattle.wa_types.specs.declared.syntax.ImportKind.{ImportKind}
@@ -12,7 +11,7 @@ use Rattle.wa_types.specs.declared.syntax.Export.{Export}
 use Rattle.wa_types.specs.Operators.{opcode_of}
 use Rattle.wa_types.specs.Encoding.{type_byte, block_type_byte, shape_byte}
 use Rattle.wa_types.specs.Syntax.{Basic, nop, drop, select, const, num, global_get, global_set, load, store, memory_size, memory_grow, Plain, basic, local_get, local_set, local_tee, br, br_if, br_table, return, unreachable, call, call_indirect, Code, done, plain, nest, branch, FuncType, Func, GlobalDef, Elem, Segment, Custom, Module}
-use Rattle.wa_types.specs.Binary.{Placed, Operands, nothing, zero_byte, index, index_and_zero, access, labels, constant, float, RawCode, ended, otherwise, instr, nested, branched, RawType, RawKind, raw_func, raw_table, raw_memory, raw_global, RawImport, RawGlobal, RawElem, RawRun, RawBody, RawSegment, Section, custom, types, imports, functions, tables, memories, globals, exports, start, elements, bodies, segments, section_id}
+use Rattle.wa_types.specs.Binary.{Placed, Operands, nothing, zero_byte, index, index_and_zero, access, labels, constant, RawCode, ended, otherwise, instr, nested, branched, RawType, RawKind, raw_func, raw_table, raw_memory, raw_global, RawImport, RawGlobal, RawElem, RawRun, RawBody, RawSegment, Section, custom, types, imports, tables, memories, globals, exports, start, elements, segments, section_id}
 use Rattle.wa_types.specs.Opcodes.{is_load_op, is_store_op}
 use Rattle.wa_types.specs.Spells.{Spells, sorts_in, bodies_in}
 

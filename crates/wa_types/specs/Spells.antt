@@ -2,7 +2,6 @@
 -- that they are the parts of what they spell, one behind another.
 use Rattle.std.specs.Prelude.{◌≡◌, ℕ, ◌+◌, ◌<◌, List, [], ◌∷◌, ◌++◌, length, Option, Some, None, Bool, true, false, IsTrue, IsUtf8, flat_map}
 use Rattle.wa_types.specs.declared.syntax.Limits.{Limits}
-use Rattle.wa_types.specs.declared.syntax.Space.{Space}
 use Rattle.wa_types.specs.declared.syntax.Export.{Export}
 use Rattle.wa_types.specs.Leb.{IsUnsigned, IsSigned}
 use Rattle.wa_types.specs.Encoding.{space_byte, mutable_byte, preamble}

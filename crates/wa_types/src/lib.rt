@@ -3,13 +3,17 @@
 //! A module is a tree of plain Rust values (`Module`, `Func`, `Instr`). Contracts speak of it through a view
 //! into plain data of the same shape, `specs/Syntax.antt` with `specs/View.antt`, in which two modules are
 //! equal where they hold the same things, whatever memory their vectors have. On that data stand the
-//! definitions that every crate above cites: how a number is spelled (`specs/Leb.antt`) and which bytes a
-//! module is written as (`specs/Encoding.antt`).
+//! definitions that every crate above cites: how a number is spelled (`specs/Leb.antt`), which bytes spell a
+//! file (`specs/Spells.antt` over `specs/Binary.antt`) and a module (`specs/Reading.antt`), which bytes begin one
+//! (`specs/Begun.antt`), and which bytes a module is written as (`specs/Encoding.antt`). Their laws are the
+//! contracts of functions with an empty body.
 #![tactic(auto)]
 
 mod control;
+mod copy;
 mod frame_laws;
 mod instrs;
+mod laws;
 mod leb;
 mod names;
 mod operators;
@@ -18,8 +22,13 @@ mod typing_laws;
 mod values;
 mod weights;
 
+pub use copy::copy_module;
 pub use frame_laws::{live_is_path, one_each_call, slots_are_pairs};
 pub use instrs::Instr;
+pub use laws::{
+    beginnings_are_begun, faults_spell_nothing, one_file_is_spelled, one_module_is_spelled,
+    spelled_is_well_formed, whole_is_spelled, written_is_spelled,
+};
 pub use leb::{
     LebFault, Spelling, read_s32, read_s64, read_u32, signed_spelling_laws, unsigned_spelling_laws,
     write_s32, write_s64, write_u32,
