@@ -1,0 +1,114 @@
+-- What stands in a module under each index: imports first, then what is defined (standard, section 2.5.1).
+use Rattle.std.specs.Prelude.{◌≡◌, ℕ, ◌+◌, ◌-◌, ◌++◌, List, [], ◌∷◌, map, length, replicate, Option, Some, None, Bool, true, false, ◌&&◌, is_some, slice_get, nat_lt, if◌then◌else◌}
+use Rattle.std.specs.List.{filter_map, flat_map, list_all}
+use Rattle.wa_types.specs.declared.values.ValType.{ValType}
+use Rattle.wa_types.specs.declared.syntax.Run.{Run}
+use Rattle.wa_types.specs.declared.syntax.Limits.{Limits}
+use Rattle.wa_types.specs.declared.syntax.Import.{Import}
+use Rattle.wa_types.specs.declared.syntax.ImportKind.{ImportKind}
+use Rattle.wa_types.specs.declared.syntax.ImportKind.TheVariants.{Func as a_func_import, Table as a_table_import, Memory as a_memory_import, Global as a_global_import}
+use Rattle.wa_types.specs.Accesses.{load_row, store_row}
+use Rattle.wa_types.specs.Syntax.{Basic, load, store, Plain, basic, Code, done, plain, nest, branch, FuncType, Func, GlobalDef, Module}
+use Rattle.wa_types.specs.Typing.{GlobalType, Around}
+
+abbrev pub imported_func : ImportKind → Option ℕ
+imported_func (a_func_import sort) = Some sort
+imported_func _ = None
+
+abbrev pub imported_table : ImportKind → Option Limits
+imported_table (a_table_import l) = Some l
+imported_table _ = None
+
+abbrev pub imported_memory : ImportKind → Option Limits
+imported_memory (a_memory_import l) = Some l
+imported_memory _ = None
+
+abbrev pub imported_global : ImportKind → Option GlobalType
+imported_global (a_global_import t mutable) = Some (record { ty = t; mutable = mutable })
+imported_global _ = None
+
+-- the imports of one kind, in order
+abbrev pub imported : {X : Type 0} → (ImportKind → Option X) → Module → List X
+imported of_kind m = filter_map (λ (i : Import). of_kind i.kind) m.imports
+
+-- the indices of the types of all functions
+abbrev pub func_sorts : Module → List ℕ
+func_sorts m = imported imported_func m ++ map (λ (f : Func). f.sort) m.funcs
+
+-- the number of imported functions: the index of the first defined one
+abbrev pub func_imports : Module → ℕ
+func_imports m = length (imported imported_func m)
+
+abbrev pub all_tables : Module → List Limits
+all_tables m = imported imported_table m ++ m.tables
+
+abbrev pub all_memories : Module → List Limits
+all_memories m = imported imported_memory m ++ m.memories
+
+abbrev pub global_type : GlobalDef → GlobalType
+global_type g = record { ty = g.ty; mutable = g.mutable }
+
+abbrev pub all_globals : Module → List GlobalType
+all_globals m = imported imported_global m ++ map global_type m.globals
+
+abbrev pub empty_type : FuncType
+empty_type = record { params = []; results = [] }
+
+abbrev pub or_empty : Option FuncType → FuncType
+or_empty None = empty_type
+or_empty (Some t) = t
+
+-- the type of this index; one that isn't there counts no parameters
+abbrev pub type_at : Module → ℕ → FuncType
+type_at m sort = or_empty (slice_get m.types sort)
+
+-- the types of all functions
+abbrev pub func_types : Module → List FuncType
+func_types m = map (type_at m) (func_sorts m)
+
+-- the type of the function of this index; one that isn't there counts no parameters
+abbrev pub func_type_at : Module → ℕ → FuncType
+func_type_at m x = or_empty (slice_get (func_types m) x)
+
+-- the types of declared locals, one for each (2.5.3)
+abbrev pub declared_locals : List Run → List ValType
+declared_locals runs = flat_map (λ (r : Run). replicate r.count r.ty) runs
+
+-- the types of a function's parameters and declared locals (2.5.3)
+abbrev pub locals_of : Module → Func → List ValType
+locals_of m f = (type_at m f.sort).params ++ declared_locals f.locals
+
+-- what stands around the body of a defined function (3.4.10)
+abbrev pub around : Module → Func → Around
+around m f = record {
+  types = m.types;
+  funcs = func_types m;
+  table = nat_lt 0 (length (all_tables m));
+  memory = nat_lt 0 (length (all_memories m));
+  globals = all_globals m;
+  locals = locals_of m f;
+  result = slice_get (type_at m f.sort).results 0;
+}
+
+-- the defined function of this index
+abbrev pub defined_at : Module → ℕ → Option Func
+defined_at m x = if nat_lt x (func_imports m) then None else slice_get m.funcs (x - func_imports m)
+
+-- an instruction of the syntax: a load's opcode is one of a load, a store's one of a store
+abbrev pub is_instruction : Plain → Bool
+is_instruction (basic (load op align offset)) = is_some (load_row op)
+is_instruction (basic (store op align offset)) = is_some (store_row op)
+is_instruction _ = true
+
+unfoldable pub is_syntax : Code → Bool
+is_syntax done = true
+is_syntax (plain p rest) = is_instruction p && is_syntax rest
+is_syntax (nest s r body rest) = is_syntax body && is_syntax rest
+is_syntax (branch r a b rest) = is_syntax a && is_syntax b && is_syntax rest
+
+-- All code of the module is of the syntax; a value of which this isn't so is no module (2.4, 2.5).
+pub record IsModule (m : Module) : Type 0 where
+  pub bodies : list_all (λ (f : Func). is_syntax f.body) m.funcs ≡ true
+  pub globals : list_all (λ g. is_syntax g.init) m.globals ≡ true
+  pub elems : list_all (λ e. is_syntax e.offset) m.elems ≡ true
+  pub segments : list_all (λ s. is_syntax s.offset) m.segments ≡ true
