@@ -7,6 +7,7 @@ pub mod Frames
 pub mod Leb
 pub mod Liveness
 pub mod Modules
+pub mod Memory
 pub mod Operators
 pub mod Runtime
 pub mod Pausing

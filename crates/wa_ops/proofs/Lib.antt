@@ -1,0 +1,2 @@
+mod BitCounts
+mod Shifts

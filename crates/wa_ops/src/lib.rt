@@ -1,0 +1,72 @@
+//! The operations on integers.
+#![tactic(auto)]
+
+ghost use Rattle.std.specs.Prelude.{◌≡◌, [], ◌∷◌, Some, Ok};
+ghost use Rattle.wa_types.specs.Operators.{operand_types};
+ghost use Rattle.wa_ops.specs.declared.class.OperatorClass.TheVariants.{Unary, Conversion, Comparison, Binary};
+ghost use Rattle.wa_ops.specs.Operate.{operate, class_of, type_of};
+
+mod class;
+mod narrow;
+mod wide;
+
+pub use class::OperatorClass;
+
+use wa_types::{NumOp, Trap, Value};
+
+pub fn unary(op: NumOp, a: Value) -> Value
+    requires class { class_of op ≡ Unary }
+    requires types { operand_types op ≡ type_of a ∷ [] }
+    ensures { operate op (a ∷ []) ≡ Some (Ok result) }
+{
+    match (op, a) {
+        (NumOp::I32Eqz, Value::I32(i)) => Value::I32(u32::from(i == 0)),
+        (NumOp::I64Eqz, Value::I64(i)) => Value::I32(u32::from(i == 0)),
+        (NumOp::I32Clz, Value::I32(i)) => Value::I32(i.leading_zeros()),
+        (NumOp::I32Ctz, Value::I32(i)) => Value::I32(i.trailing_zeros()),
+        (NumOp::I32Popcnt, Value::I32(i)) => Value::I32(i.count_ones()),
+        (NumOp::I64Clz, Value::I64(i)) => Value::I64(u64::from(i.leading_zeros())),
+        (NumOp::I64Ctz, Value::I64(i)) => Value::I64(u64::from(i.trailing_zeros())),
+        (NumOp::I64Popcnt, Value::I64(i)) => Value::I64(u64::from(i.count_ones())),
+        _ => unreachable!(),
+    }
+}
+
+pub fn convert(op: NumOp, a: Value) -> Value
+    requires class { class_of op ≡ Conversion }
+    requires types { operand_types op ≡ type_of a ∷ [] }
+    ensures { operate op (a ∷ []) ≡ Some (Ok result) }
+{
+    match (op, a) {
+        (NumOp::I32WrapI64, Value::I64(i)) => Value::I32((i % (1 << 32)) as u32),
+        (NumOp::I64ExtendI32S, Value::I32(i)) => {
+            Value::I64(i64::from(i.cast_signed()).cast_unsigned())
+        }
+        (NumOp::I64ExtendI32U, Value::I32(i)) => Value::I64(u64::from(i)),
+        _ => unreachable!(),
+    }
+}
+
+pub fn compare(op: NumOp, a: Value, b: Value) -> Value
+    requires class { class_of op ≡ Comparison }
+    requires types { operand_types op ≡ type_of b ∷ type_of a ∷ [] }
+    ensures { operate op (b ∷ a ∷ []) ≡ Some (Ok result) }
+{
+    match (a, b) {
+        (Value::I32(i), Value::I32(j)) => Value::I32(u32::from(narrow::compare(op, i, j))),
+        (Value::I64(i), Value::I64(j)) => Value::I32(u32::from(wide::compare(op, i, j))),
+        _ => unreachable!(),
+    }
+}
+
+pub fn binary(op: NumOp, a: Value, b: Value) -> Result<Value, Trap>
+    requires class { class_of op ≡ Binary }
+    requires types { operand_types op ≡ type_of b ∷ type_of a ∷ [] }
+    ensures { operate op (b ∷ a ∷ []) ≡ Some result }
+{
+    match (a, b) {
+        (Value::I32(i), Value::I32(j)) => Ok(Value::I32(narrow::binary(op, i, j)?)),
+        (Value::I64(i), Value::I64(j)) => Ok(Value::I64(wide::binary(op, i, j)?)),
+        _ => unreachable!(),
+    }
+}
