@@ -15,5 +15,6 @@ pub mod Points
 pub mod Pruned
 pub mod Syntax
 pub mod Typing
+pub mod TypingLaws
 pub mod Validity
 pub mod View

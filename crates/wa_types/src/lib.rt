@@ -12,6 +12,7 @@ mod leb;
 mod names;
 mod operators;
 mod syntax;
+mod typing_laws;
 mod values;
 
 pub use instrs::Instr;
@@ -21,5 +22,9 @@ pub use operators::NumOp;
 pub use syntax::{
     Custom, Elem, Export, Func, FuncType, GlobalDef, Import, ImportKind, Limits, Module, Run,
     Segment, Space,
+};
+pub use typing_laws::{
+    fault_is_first, one_first_fault, pruned_types, up_to_is_cut, valid_has_no_fault,
+    valid_is_all_hold,
 };
 pub use values::{Trap, ValType, Value};
