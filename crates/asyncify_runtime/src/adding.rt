@@ -1,6 +1,8 @@
-ghost use Rattle.std.specs.Prelude.{◌≡◌, ◌<◌, ◌^◌, ◌+◌, ◌++◌, ◌↔◌, length, map, count_by, IfOk, OnOk, IsErrOf, Some};
+ghost use Rattle.std.specs.Prelude.{◌≡◌, ◌<◌, ◌^◌, ◌+◌, ◌++◌, ◌↔◌, length, map, count_by, is_some, IfOk, OnOk, IsErrOf, Some};
 ghost use Rattle.wa_types.specs.View.{code, onto, module_of, func_of, global_of, func_type_of};
-ghost use Rattle.wa_types.specs.Runtime.{with_runtime, func_space, global_space, is_func_kind, is_memory_kind, is_global_kind, added_memories, runtime_types, runtime_globals, runtime_funcs, runtime_func, runtime_exports, func_export, zero_global, start_code, stop_code, state_code, test_code};
+ghost use Rattle.std.specs.List.{filter_map, list_any};
+ghost use Rattle.wa_types.specs.Modules.{imported_func, imported_memory, imported_global};
+ghost use Rattle.wa_types.specs.Runtime.{with_runtime, func_space, global_space, added_memories, runtime_types, runtime_globals, runtime_funcs, runtime_func, runtime_exports, func_export, zero_global, start_code, stop_code, state_code, test_code};
 ghost use Rattle.asyncify_runtime.specs.Ids.{ids_behind};
 ghost use Rattle.asyncify_runtime.specs.Reserved.{reserved_at};
 ghost use Rattle.asyncify_runtime.specs.declared.adding.RuntimeFault.TheVariants.{Reserved};
@@ -75,6 +77,7 @@ pub fn add_runtime(alloc: Global, module: Module) -> Result<WithRuntime, Runtime
 }
 
 // The numbers of the parts to come.
+#[tactic(auto, using(crate::proofs::Counts::counting))]
 fn ids_behind(module: &Module) -> RuntimeIds
     requires funcs { func_space (module_of «module».now) < 2 ^ 31 }
     requires globals { global_space (module_of «module».now) < 2 ^ 31 }
@@ -89,7 +92,7 @@ fn ids_behind(module: &Module) -> RuntimeIds
 }
 
 fn imported_globals(imports: &[Import]) -> usize
-    ensures { result ≡ count_by (λ (i : Import). is_global_kind i.kind) imports.now }
+    ensures { result ≡ count_by (λ (i : Import). is_some (imported_global i.kind)) imports.now }
 {
     imports
         .iter()
@@ -98,7 +101,7 @@ fn imported_globals(imports: &[Import]) -> usize
 }
 
 fn imported_funcs(imports: &[Import]) -> usize
-    ensures { result ≡ count_by (λ (i : Import). is_func_kind i.kind) imports.now }
+    ensures { result ≡ count_by (λ (i : Import). is_some (imported_func i.kind)) imports.now }
 {
     imports
         .iter()
@@ -106,22 +109,25 @@ fn imported_funcs(imports: &[Import]) -> usize
         .count()
 }
 
-fn imported_memories(imports: &[Import]) -> usize
-    ensures { result ≡ count_by (λ (i : Import). is_memory_kind i.kind) imports.now }
+fn has_imported_memory(imports: &[Import]) -> bool
+    ensures { result ≡ list_any (λ (i : Import). is_some (imported_memory i.kind)) imports.now }
 {
     imports
         .iter()
-        .filter(|import| matches!(import.kind, ImportKind::Memory(_)))
-        .count()
+        .any(|import| matches!(import.kind, ImportKind::Memory(_)))
 }
 
 // One page, where there is no memory.
 fn add_memory(imports: &[Import], memories: &mut Vec<Limits>) -> Result<(), AllocError>
-    ensures { OnOk result (memories.new.items ≡ memories.old.items ++ added_memories (count_by (λ (i : Import). is_memory_kind i.kind) imports.now + length memories.old.items)) }
+    ensures { OnOk result (memories.new.items ≡ memories.old.items ++ added_memories (filter_map (λ (i : Import). imported_memory i.kind) imports.now ++ memories.old.items)) }
 {
-    if memories.is_empty() && imported_memories(imports) == 0 {
-        memories.push(ONE_PAGE)?;
+    if !memories.is_empty() {
+        return Ok(());
     }
+    if has_imported_memory(imports) {
+        return Ok(());
+    }
+    memories.push(ONE_PAGE)?;
     Ok(())
 }
 

@@ -76,3 +76,12 @@ signed_spelled (suc k) bits n =
 -- the shortest spelling of a signed number, as so many bits of two's complement
 abbrev pub shortest_signed : ℕ → ℕ → List ℕ
 shortest_signed bits n = signed_spelled 10 bits n
+
+-- these bits of two's complement take more bytes than one
+pub record IsLong (bits n : ℕ) : Type 0 where
+  pub above_low : min 64 (2 ^ (bits - 1)) ≤ n
+  pub below_minus : n + 64 < 2 ^ bits
+
+-- these bits of two's complement are spelled by this one byte
+pub record IsOneByte (bits n b : ℕ) : Type 0 where
+  pub byte : (k : ℕ) → signed_spelled (suc k) bits n ≡ b ∷ []

@@ -5,44 +5,27 @@ use Rattle.wa_types.specs.declared.values.ValType.TheVariants.{I32}
 use Rattle.wa_types.specs.declared.values.Value.TheVariants.{I32 as value_32}
 use Rattle.wa_types.specs.declared.operators.NumOp.TheVariants.{I32GtU}
 use Rattle.wa_types.specs.declared.syntax.Limits.{Limits}
-use Rattle.wa_types.specs.declared.syntax.ImportKind.{ImportKind}
-use Rattle.wa_types.specs.declared.syntax.ImportKind.TheVariants.{Func as a_func_import, Table as a_table_import, Memory as a_memory_import, Global as a_global_import}
-use Rattle.wa_types.specs.declared.syntax.Import.{Import}
 use Rattle.wa_types.specs.declared.syntax.Space.TheVariants.{Func as a_func}
 use Rattle.wa_types.specs.declared.syntax.Export.{Export}
+use Rattle.wa_types.specs.Modules.{func_sorts, all_memories, all_globals}
 use Rattle.wa_types.specs.Syntax.{const, num, global_get, global_set, load, basic, local_get, unreachable, Code, done, plain, branch, FuncType, Func, GlobalDef, Module}
 
-abbrev pub is_func_kind : ImportKind → Bool
-is_func_kind (a_func_import x) = true
-is_func_kind _ = false
-
-abbrev pub is_memory_kind : ImportKind → Bool
-is_memory_kind (a_memory_import l) = true
-is_memory_kind _ = false
-
-abbrev pub is_global_kind : ImportKind → Bool
-is_global_kind (a_global_import t m) = true
-is_global_kind _ = false
-
--- how many functions the index space has, imports included (standard, section 2.5.1)
+-- how many functions the index space has, imports included (2.5.1)
 abbrev pub func_space : Module → ℕ
-func_space m = count_by (λ (i : Import). is_func_kind i.kind) m.imports + length m.funcs
-
--- how many memories, imports included
-abbrev pub memory_space : Module → ℕ
-memory_space m = count_by (λ (i : Import). is_memory_kind i.kind) m.imports + length m.memories
+func_space m = length (func_sorts m)
 
 -- how many globals, imports included
 abbrev pub global_space : Module → ℕ
-global_space m = count_by (λ (i : Import). is_global_kind i.kind) m.imports + length m.globals
+global_space m = length (all_globals m)
 
 -- one page at least and at most
 abbrev pub one_page : Limits
 one_page = record { min = 1; max = Some 1 }
 
 -- the memory of a module that has none
-abbrev pub added_memories : ℕ → List Limits
-added_memories space = if space == 0 then one_page ∷ [] else []
+abbrev pub added_memories : List Limits → List Limits
+added_memories [] = one_page ∷ []
+added_memories _ = []
 
 -- [i32] -> [], [] -> [] and [] -> [i32]
 abbrev pub runtime_types : List FuncType
@@ -119,7 +102,7 @@ with_runtime m = record {
   imports = m.imports;
   funcs = m.funcs ++ runtime_funcs (length m.types) (global_space m) (global_space m + 1);
   tables = m.tables;
-  memories = m.memories ++ added_memories (memory_space m);
+  memories = m.memories ++ added_memories (all_memories m);
   globals = m.globals ++ runtime_globals;
   exports = m.exports ++ runtime_exports (func_space m);
   start = m.start;

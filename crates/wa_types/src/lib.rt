@@ -16,7 +16,7 @@ mod typing_laws;
 mod values;
 
 pub use instrs::Instr;
-pub use leb::LebFault;
+pub use leb::{LebFault, Spelling, read_s32, read_s64, read_u32, write_s32, write_s64, write_u32};
 pub use names::Name;
 pub use operators::NumOp;
 pub use syntax::{

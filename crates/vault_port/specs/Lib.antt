@@ -1,0 +1,4 @@
+pub mod Counts
+pub mod Told
+pub mod Files
+pub mod Taken

@@ -1,0 +1,36 @@
+ghost use Rattle.std.specs.Prelude.{◌≡◌, ◌≤◌, ℕ, List, length, take, Option, IfOk, OnErr, IsErrOf};
+ghost use Rattle.vault_port.specs.Counts.{HasRisen};
+ghost use Rattle.vault_port.specs.Told.{Becomes};
+ghost use Rattle.vault_port.specs.Taken.{Appends};
+
+use thiserror::Error;
+
+/// Why a sink took nothing.
+#[derive(Clone, Copy, Debug, PartialEq, Eq, Error)]
+pub enum SinkFail {
+    #[error("the output could not be written")]
+    Failed,
+    #[error("out of memory")]
+    Memory,
+}
+
+/// Where printed bytes go.
+pub trait Sink {
+    /// The bytes taken so far, where the sink tells them.
+    ghost taken: { Self → Option (List ℕ) };
+
+    /// How many calls have failed.
+    ghost faults: { Self → ℕ };
+
+    /// Takes the first bytes of a piece and answers how many: at least one, unless the piece is empty. After an
+    /// error nothing was taken. `Failed`: only after a fault.
+    fn put(&mut self, piece: &[u8]) -> Result<usize, SinkFail>
+        ensures count { IfOk result (λ n. n ≤ length piece.now) }
+        ensures some { IfOk result (λ n. n ≡ 0 → length piece.now ≡ 0) }
+        ensures taken { IfOk result (λ n. Becomes (taken self.old) (taken self.new)
+            (Appends (take n piece.now))) }
+        ensures kept { OnErr result (taken self.new ≡ taken self.old) }
+
+        ensures failed { IsErrOf result SinkFail.Failed → HasRisen (faults self.old) (faults self.new) }
+        ensures rising { faults self.old ≤ faults self.new };
+}

@@ -1,0 +1,58 @@
+-- The shortest spelling of signed numbers, byte by byte.
+use Rattle.std.proofs.Common.{◌≡◌, ℕ, suc, ◌+◌, ◌-◌, ◌*◌, ◌/◌, ◌%◌, ◌^◌, ◌<◌, ◌≤◌, inl, inr, List, [], ◌∷◌, ◌++◌, min, refl, append_assoc, ap, sym, ◌∙◌, arith, length}
+use Rattle.std.proofs.lemmas.Bool.{lt-ltb, le-ltb, le-leb, lt-leb, cases_lt}
+use Rattle.std.proofs.Math.Pow.{pow_mono}
+use Rattle.std.proofs.lemmas.List.{length_push}
+use Rattle.wa_types.proofs.LebLemmas.{pow_split, pow_half}
+use Rattle.wa_types.specs.Leb.{signed_spelled, IsLong, IsOneByte}
+
+-- a number from 0 up to 63 is one byte
+pub signed_low : (k bits n : ℕ) → n < 64 → n < 2 ^ (bits - 1) → signed_spelled (suc k) bits n ≡ n ∷ []
+unfolding signed_spelled
+signed_low k bits n h small = rw (lt-ltb _ _ (let m : n < min 64 (2 ^ (bits - 1)) = omega arith in m)) refl
+
+-- so is one from -64 up to -1
+pub signed_minus : (k bits n : ℕ) → 1 ≤ bits → 2 ^ (bits - 1) ≤ n → 2 ^ bits ≤ n + 64 → signed_spelled (suc k) bits n ≡ (n + 128 - 2 ^ bits) ∷ []
+unfolding signed_spelled
+signed_minus k bits n some h small =
+    rw (le-ltb _ _ (let m : min 64 (2 ^ (bits - 1)) ≤ n = omega arith in m), le-leb _ _ small) refl
+
+-- of any other the low seven bits come first
+pub signed_high : (k bits n : ℕ) → min 64 (2 ^ (bits - 1)) ≤ n → n + 64 < 2 ^ bits → signed_spelled (suc k) bits n ≡ (n % 128 + 128) ∷ signed_spelled k (bits - 7) (n / 128)
+unfolding signed_spelled
+signed_high k bits n h large = rw (le-ltb _ _ h, lt-leb _ _ large) refl
+
+-- the number above the low seven bits fits the bits that are left
+pub high_fits : (bits n : ℕ) → 7 < bits → n < 2 ^ bits → n / 128 < 2 ^ (bits - 7)
+high_fits bits n many h = let e : 2 ^ bits ≡ 128 * 2 ^ (bits - 7) = pow_split bits many in omega arith
+
+-- a number that is not one byte has more than seven bits
+pub high_many : (bits n : ℕ) → IsLong bits n → 1 ≤ bits → 7 < bits
+high_many bits n long some = elim (cases_lt 7 bits) [
+  | inl many ↦ many
+  | inr few ↦ absurd (let low : 2 ^ (bits - 1) ≤ 2 ^ 6 = pow_mono {i = bits - 1} {j = 6} (omega arith) in let e : 2 ^ bits ≡ 2 * 2 ^ (bits - 1) = pow_half bits some in omega arith)
+]
+
+pub one_low : (bits n : ℕ) → n < 64 → n < 2 ^ (bits - 1) → IsOneByte bits n n
+one_low bits n h small = record { byte = λ k. signed_low k bits n h small }
+
+pub one_minus : (bits n b : ℕ) → 1 ≤ bits → 2 ^ (bits - 1) ≤ n → 2 ^ bits ≤ n + 64 → b + 2 ^ bits ≡ n + 128 → IsOneByte bits n b
+one_minus bits n b some h small e =
+    let is : n + 128 - 2 ^ bits ≡ b = omega arith in
+    record { byte = λ k. signed_minus k bits n some h small ∙ ap (λ c. c ∷ []) is }
+
+-- behind these bytes, the number's byte ends the spelling
+pub signed_last : (text new whole : List ℕ) (width n b : ℕ) → length text < 10 → IsOneByte width n b → new ≡ text ++ b ∷ [] → text ++ signed_spelled (10 - length text) width n ≡ whole → new ≡ whole
+signed_last text new whole width n b room one e before =
+    let k : 10 - length text ≡ suc (9 - length text) = omega arith in
+    e ∙ ap (λ s. text ++ s) (sym (ap (λ i. signed_spelled i width n) k ∙ one.byte _)) ∙ before
+
+pub signed_more : (text new whole : List ℕ) (width n : ℕ) → length text < 10 → IsLong width n → new ≡ text ++ (n % 128 + 128) ∷ [] → text ++ signed_spelled (10 - length text) width n ≡ whole → new ++ signed_spelled (10 - length new) (width - 7) (n / 128) ≡ whole
+signed_more text new whole width n room long e before =
+    let k : 10 - length text ≡ suc (9 - length text) = omega arith in
+    let longer : length new ≡ length text + 1 = ap length e ∙ length_push text _ in
+    let left : 10 - length new ≡ 9 - length text = omega arith in
+    ap (λ i. new ++ signed_spelled i (width - 7) (n / 128)) left ∙ ap (λ s. s ++ signed_spelled (9 - length text) (width - 7) (n / 128)) e ∙ append_assoc text _ _
+    ∙ ap (λ s. text ++ s) (sym (ap (λ i. signed_spelled i width n) k ∙ signed_high _ width n long.above_low long.below_minus)) ∙ before
+
+pub ruleset signed_writing = (signed_last, signed_more, high_many, high_fits)

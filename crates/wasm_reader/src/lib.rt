@@ -1,0 +1,2 @@
+//! Reads modules from bytes.
+#![tactic(auto)]
