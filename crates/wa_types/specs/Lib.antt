@@ -13,7 +13,6 @@ pub mod Runtime
 pub mod Pausing
 pub mod Points
 pub mod Pruned
-pub mod Runtime
 pub mod Syntax
 pub mod Typing
 pub mod TypingLaws
