@@ -1,10 +1,12 @@
 -- What stands at one moment of a run: the store and the activations (standard, section 4.2).
 use Rattle.std.specs.Prelude.{ℕ, suc, ◌+◌, ◌-◌, ◌++◌, List, [], ◌∷◌, length, map, Option, Some, None}
 use Rattle.wa_types.specs.declared.values.Value.{Value}
-use Rattle.wa_types.specs.Syntax.{Code, done, plain, nest, branch, Func, Module}
+use Rattle.wa_types.specs.Syntax.{Code, Func, Module}
+use Rattle.wa_types.specs.Pruned.{pruned}
 use Rattle.wa_types.specs.Modules.{defined_at}
+use Rattle.wa_types.specs.Pausing.{calls_of, calls_in}
+use Rattle.wa_types.specs.Frames.{Suspended}
 use Rattle.wa_model.specs.Store.{Store}
-use Rattle.wa_model.specs.Counting.{call_count}
 
 -- A label: what a branch to it goes on with, and the instructions left behind it (4.2.12.1). `height` is the number
 -- of the function's operands below the construct.
@@ -42,14 +44,9 @@ abbrev pub waiting : ℕ → (locals operands taken : List Value) → Code → L
 waiting fn ls ops taken code labels =
     record { func = fn; locals = ls; operands = ops; taken = taken; code = code; labels = labels }
 
--- An activation that is suspended at a call, as it stood just before: the function's index, the place of the call among
--- those of its pruned body in order of code, from 0, its locals, and its operands, the topmost first, with those that the
--- call took.
-pub record Suspended : Type 0 where
-  pub func : ℕ
-  pub place : ℕ
-  pub locals : List Value
-  pub operands : List Value
+-- how many calls stand in code that can be reached
+abbrev pub call_count : Code → ℕ
+call_count code = length (calls_of (pruned code))
 
 -- how many calls of the pruned body stand behind, past the ends of the constructs around
 abbrev pub calls_outside : List Label → ℕ
@@ -60,8 +57,9 @@ calls_outside (loop_label height body rest ∷ labels) = call_count rest + calls
 -- the place of the call just before this code: all calls of the body without those from here on, and without it
 abbrev pub place_of : Option Func → Code → List Label → ℕ
 place_of None code labels = 0
-place_of (Some f) code labels = call_count f.body - suc (call_count code + calls_outside labels)
+place_of (Some f) code labels = length (calls_in f) - suc (call_count code + calls_outside labels)
 
+-- an activation that waits at a call, as it stood just before
 abbrev pub suspended : Module → Activation → Suspended
 suspended m a =
     record { func = a.func; place = place_of (defined_at m a.func) a.code a.labels; locals = a.locals; operands = a.taken ++ a.operands }

@@ -1,7 +1,10 @@
+pub mod Blocking
 pub mod Configuration
-pub mod Counting
+pub mod Instantiation
 pub mod Machine
 pub mod Outside
+pub mod Plan
+pub mod Protocol
 pub mod Step
 pub mod Store
 pub mod View
