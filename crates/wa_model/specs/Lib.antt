@@ -1,5 +1,7 @@
+pub mod Behaves
 pub mod Blocking
 pub mod Configuration
+pub mod Expected
 pub mod Instantiation
 pub mod Machine
 pub mod Outside
@@ -7,4 +9,5 @@ pub mod Plan
 pub mod Protocol
 pub mod Step
 pub mod Store
+pub mod Untouched
 pub mod View
