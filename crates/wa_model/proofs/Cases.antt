@@ -1,0 +1,293 @@
+-- Small runs that the definitions compute.
+use Rattle.std.proofs.Common.{◌≡◌, ℕ, List, [], ◌∷◌, ◌++◌, map, Some, None, Bool, true, false, refl, length}
+use Rattle.std.specs.Prelude.{Option, slice_get, replicate, codes}
+use Rattle.wa_types.specs.declared.values.ValType.{ValType}
+use Rattle.wa_types.specs.declared.values.ValType.TheVariants.{I32, I64}
+use Rattle.wa_types.specs.declared.values.Value.{Value}
+use Rattle.wa_types.specs.declared.values.Value.TheVariants as V
+use Rattle.wa_types.specs.declared.values.Trap.TheVariants.{DivideByZero, UndefinedElement, UninitializedElement, TypeMismatch, StackExhausted, Unreachable}
+use Rattle.wa_types.specs.declared.operators.NumOp.TheVariants.{I32Eqz, I32Add, I32Sub, I32Eq, I64DivU, I64ExtendI32U}
+use Rattle.wa_types.specs.declared.syntax.Run.{Run}
+use Rattle.wa_types.specs.declared.syntax.Limits.{Limits}
+use Rattle.wa_types.specs.declared.syntax.Import.{Import}
+use Rattle.wa_types.specs.declared.syntax.ImportKind.TheVariants as K
+use Rattle.wa_types.specs.declared.syntax.Export.{Export}
+use Rattle.wa_types.specs.declared.syntax.Space.TheVariants as Sp
+use Rattle.wa_types.specs.Syntax.{Basic, drop, const, num, global_get, load, store, memory_grow, basic, local_get, local_set, local_tee, br, br_if, br_table, call, call_indirect, Code, done, plain, nest, branch, a_block, a_loop, FuncType, Func, Elem, Module}
+use Rattle.wa_types.specs.Pruned.{pruned}
+use Rattle.wa_types.specs.Pausing.{calls_of, save_all, save_live}
+use Rattle.wa_types.specs.Points.{points, call_points}
+use Rattle.wa_types.specs.Liveness.{behind_calls, live}
+use Rattle.wa_types.specs.Runtime.{with_runtime}
+use Rattle.wa_model.specs.declared.answers.Area.{Area}
+use Rattle.wa_model.specs.declared.events.End.TheVariants.{Done, Trapped, UnwindTrap, BadAnswer, BadPoke, PauseInStart, Broken, ElementsOut}
+use Rattle.wa_model.specs.Outside.{Poke, Answer, Event, called, answered, paused, returned, ended}
+use Rattle.wa_model.specs.Store.{Store, works, act}
+use Rattle.wa_model.specs.Configuration.{running, waiting}
+use Rattle.wa_model.specs.Step.{traps, step}
+use Rattle.wa_model.specs.Plan.{Entry, Plan, Outcome, given}
+use Rattle.wa_model.specs.Blocking.{Note, events_of, Blocking, blocking_run}
+use Rattle.wa_model.specs.Protocol.{Protocol}
+use Rattle.wa_model.specs.Expected.{Expected}
+
+abbrev i32 : ℕ → Value
+i32 n = V.I32 n
+
+abbrev then : Basic → Code → Code
+then b rest = plain (basic b) rest
+
+-- [i32] -> [i32]
+abbrev one_to_one : FuncType
+one_to_one = record { params = I32 ∷ []; results = I32 ∷ [] }
+
+abbrev import_of : ℕ → Import
+import_of sort = record { «module» = codes "env"; base = codes "pause"; kind = K.Func sort }
+
+abbrev export_of : ℕ → Export
+export_of x = record { name = codes "run"; space = Sp.Func; index = x }
+
+abbrev answer : Option Value → ℕ → Outcome
+answer v ticks = given (record { value = v; pokes = []; ticks = ticks })
+
+abbrev call_of : ℕ → List Value → Event
+call_of i args = called (record { import = i; args = args })
+
+-- an import of one_to_one as function 0, and a function of this type behind it
+abbrev module_with : Func → Module
+module_with f = record {
+  types = one_to_one ∷ [];
+  imports = import_of 0 ∷ [];
+  funcs = f ∷ [];
+  tables = [];
+  memories = [];
+  globals = [];
+  exports = export_of 1 ∷ [];
+  start = None;
+  elems = [];
+  segments = [];
+  customs = [];
+}
+
+abbrev plan_of : ℕ → List Entry → Plan
+plan_of len entries = record { globals = []; entries = entries; area = record { at = 0; len = len }; listed = Some (true ∷ []) }
+
+abbrev entry : ℕ → List Value → Entry
+entry x args = record { func = x; args = args }
+
+-- ---- the selector: block (i32) 5; block (i32) 9; local.get 0; br_table [0] 1; end; add; end; call 0
+abbrev selector : Module
+selector = module_with (record {
+  sort = 0;
+  locals = [];
+  body = nest a_block (Some I32) (then (const (i32 5)) (nest a_block (Some I32) (then (const (i32 9)) (plain (local_get 0) (plain (br_table (0 ∷ []) 1) done))) (then (num I32Add) done))) (plain (call 0) done);
+})
+
+abbrev both : List Entry
+both = entry 1 (i32 0 ∷ []) ∷ entry 1 (i32 1 ∷ []) ∷ []
+
+selects : events_of (Blocking selector (plan_of 64 both) (answer (Some (i32 1)) 0 ∷ answer (Some (i32 2)) 0 ∷ []) 60).events ≡ call_of 0 (i32 14 ∷ []) ∷ answered (Some (i32 1)) ∷ returned 0 (Some (i32 1)) ∷ call_of 0 (i32 9 ∷ []) ∷ answered (Some (i32 2)) ∷ returned 1 (Some (i32 2)) ∷ ended Done ∷ []
+selects = refl
+
+-- with pauses: each takes 28 bytes of the area
+selects_paused : events_of (Expected selector save_all (record { at = 0; len = 64 }) (Blocking selector (plan_of 64 both) (answer (Some (i32 1)) 1 ∷ answer (Some (i32 2)) 1 ∷ []) 60).events) ≡ call_of 0 (i32 14 ∷ []) ∷ paused 1 28 ∷ answered (Some (i32 1)) ∷ returned 0 (Some (i32 1)) ∷ call_of 0 (i32 9 ∷ []) ∷ paused 1 28 ∷ answered (Some (i32 2)) ∷ returned 1 (Some (i32 2)) ∷ ended Done ∷ []
+unfolding pruned calls_of points
+selects_paused = refl
+
+-- ---- the countdown loop with one pause
+abbrev countdown : Module
+countdown = module_with (record {
+  sort = 0;
+  locals = record { count = 1; ty = I32 } ∷ [];
+  body = nest a_loop None (plain (local_get 1) (then (const (i32 0)) (branch (Some I32) (then (const (i32 100)) done) (plain (local_get 0) (plain (call 0) done)) (then (num I32Add) (plain (local_set 1) (plain (local_get 0) (then (const (i32 1)) (then (num I32Sub) (plain (local_tee 0) (plain (br_if 0) done))))))))))
+    (plain (local_get 1) done);
+})
+
+abbrev tens : List Outcome
+tens = answer (Some (i32 10)) 0 ∷ answer (Some (i32 20)) 4 ∷ answer (Some (i32 30)) 0 ∷ []
+
+abbrev counted : ℕ → List Event
+counted room = call_of 0 (i32 3 ∷ []) ∷ answered (Some (i32 10)) ∷ call_of 0 (i32 2 ∷ []) ∷ paused 4 room ∷ answered (Some (i32 20)) ∷ call_of 0 (i32 1 ∷ []) ∷ answered (Some (i32 30)) ∷ returned 0 (Some (i32 60)) ∷ ended Done ∷ []
+
+counts : events_of (Expected countdown save_all (record { at = 0; len = 64 }) (Blocking countdown (plan_of 64 (entry 1 (i32 3 ∷ []) ∷ [])) tens 100).events) ≡ counted 28
+unfolding pruned calls_of points
+counts = refl
+
+-- under policy `live`
+counts_live : events_of (Expected countdown save_live (record { at = 0; len = 64 }) (Blocking countdown (plan_of 64 (entry 1 (i32 3 ∷ []) ∷ [])) tens 100).events) ≡ counted 24
+unfolding pruned calls_of points call_points behind_calls live
+counts_live = refl
+
+-- in an area of 27 bytes the frame doesn't fit
+short : events_of (Expected countdown save_all (record { at = 0; len = 27 }) (Blocking countdown (plan_of 27 (entry 1 (i32 3 ∷ []) ∷ [])) tens 100).events) ≡ call_of 0 (i32 3 ∷ []) ∷ answered (Some (i32 10)) ∷ call_of 0 (i32 2 ∷ []) ∷ ended (UnwindTrap Unreachable 8 27) ∷ []
+unfolding pruned calls_of points
+short = refl
+
+-- ---- division by zero after a pause
+abbrev divides : Module
+divides = record {
+  types = one_to_one ∷ record { params = []; results = I64 ∷ [] } ∷ [];
+  imports = import_of 0 ∷ [];
+  funcs = record {
+    sort = 1;
+    locals = record { count = 1; ty = I64 } ∷ [];
+    body = then (const (i32 1)) (then memory_grow (then drop (then (const (V.I64 5000000000)) (plain (local_set 0) (plain (local_get 0) (then (const (i32 2)) (plain (call 0) (then (num I64ExtendI32U) (then (num I64DivU) done)))))))));
+  } ∷ [];
+  tables = [];
+  memories = record { min = 1; max = None } ∷ [];
+  globals = [];
+  exports = export_of 1 ∷ [];
+  start = None;
+  elems = [];
+  segments = [];
+  customs = [];
+}
+
+divides_by : ℕ → List Event
+divides_by n = events_of (Expected divides save_all (record { at = 0; len = 64 }) (Blocking divides (plan_of 64 (entry 1 [] ∷ [])) (answer (Some (i32 n)) 1 ∷ []) 40).events)
+
+by_thousand : divides_by 1000 ≡ call_of 0 (i32 2 ∷ []) ∷ paused 1 44 ∷ answered (Some (i32 1000)) ∷ returned 0 (Some (V.I64 5000000)) ∷ ended Done ∷ []
+unfolding divides_by pruned calls_of points
+by_thousand = refl
+
+by_zero : divides_by 0 ≡ call_of 0 (i32 2 ∷ []) ∷ paused 1 44 ∷ answered (Some (i32 0)) ∷ ended (Trapped DivideByZero) ∷ []
+unfolding divides_by pruned calls_of points
+by_zero = refl
+
+-- ---- memory growth at its bound: past the declared maximum it gives -1, within it the old size
+abbrev one_page_store : Store
+one_page_store = record { globals = []; memory = replicate 65536 0; table = [] }
+
+grows_not : act (Some 1) memory_grow one_page_store (i32 1 ∷ []) ≡ works one_page_store (i32 4294967295 ∷ [])
+grows_not = refl
+
+grows : act (Some 2) memory_grow one_page_store (i32 1 ∷ []) ≡ works (record { globals = []; memory = replicate 131072 0; table = [] }) (i32 0x1 ∷ [])
+grows = refl
+
+-- ---- the traps of call_indirect: past the table, no element, another type
+abbrev indirect : ℕ → Module
+indirect i = record {
+  types = one_to_one ∷ record { params = []; results = I32 ∷ [] } ∷ [];
+  imports = import_of 0 ∷ [];
+  funcs = record { sort = 1; locals = []; body = then (const (i32 7)) (then (const (i32 i)) (plain (call_indirect 0) done)) } ∷ [];
+  tables = record { min = 3; max = None } ∷ [];
+  memories = [];
+  globals = [];
+  exports = export_of 1 ∷ [];
+  start = None;
+  elems = record { table = 0; offset = then (const (i32 1)) done; funcs = 0 ∷ 1 ∷ [] } ∷ [];
+  segments = [];
+  customs = [];
+}
+
+abbrev indirectly : ℕ → ℕ → List Event
+indirectly i n = events_of (blocking_run (indirect i) (plan_of 64 (entry 1 [] ∷ [])) (answer (Some (i32 9)) 0 ∷ []) n).events
+
+past_table : indirectly 3 20 ≡ ended (Trapped UndefinedElement) ∷ []
+past_table = refl
+
+not_initialized : indirectly 0 20 ≡ ended (Trapped UninitializedElement) ∷ []
+not_initialized = refl
+
+other_type : indirectly 2 20 ≡ ended (Trapped TypeMismatch) ∷ []
+other_type = refl
+
+-- a call that traps pays its parameter: 1, 1, 1 and 2
+pays_parameters : indirectly 2 4 ≡ []
+pays_parameters = refl
+
+pays_no_more : indirectly 2 5 ≡ ended (Trapped TypeMismatch) ∷ []
+pays_no_more = refl
+
+-- the table may hold the import itself
+table_import : indirectly 1 20 ≡ call_of 0 (i32 7 ∷ []) ∷ answered (Some (i32 9)) ∷ returned 0 (Some (i32 9)) ∷ ended Done ∷ []
+table_import = refl
+
+-- ---- costs: a module that returns 7 takes 1 for the entry, 1 for the constant and 1 for the end
+abbrev seven : Module
+seven = record {
+  types = record { params = []; results = I32 ∷ [] } ∷ [];
+  imports = [];
+  funcs = record { sort = 0; locals = []; body = then (const (i32 7)) done } ∷ [];
+  tables = [];
+  memories = [];
+  globals = [];
+  exports = export_of 0 ∷ [];
+  start = None;
+  elems = [];
+  segments = [];
+  customs = [];
+}
+
+abbrev sevens : ℕ → List Event
+sevens n = events_of (blocking_run seven (plan_of 64 (entry 0 [] ∷ [])) [] n).events
+
+within_three : sevens 3 ≡ returned 0 (Some (i32 7)) ∷ ended Done ∷ []
+within_three = refl
+
+not_within_two : sevens 2 ≡ []
+not_within_two = refl
+
+-- an if with a false condition and no else costs 2: 1 for the entry, 1 for the constant, 2, and 1 for the end
+abbrev empty_arm : ℕ → List Event
+empty_arm n = events_of (blocking_run (record seven { types = record { params = []; results = [] } ∷ []; funcs = record { sort = 0; locals = []; body = then (const (i32 0)) (branch None (then (const (i32 1)) (then drop done)) done done) } ∷ [] }) (plan_of 64 (entry 0 [] ∷ [])) [] n).events
+
+arm_within_five : empty_arm 5 ≡ returned 0 None ∷ ended Done ∷ []
+arm_within_five = refl
+
+arm_not_within_four : empty_arm 4 ≡ []
+arm_not_within_four = refl
+
+-- ---- answers that end a run
+abbrev asks_once : Module
+asks_once = module_with (record { sort = 0; locals = []; body = plain (local_get 0) (plain (call 0) done) })
+
+abbrev asked_with : Answer → List Event
+asked_with a = events_of (Blocking asks_once (plan_of 64 (entry 1 (i32 7 ∷ []) ∷ [])) (given a ∷ []) 20).events
+
+-- of a wrong type
+wrong_type : asked_with (record { value = Some (V.I64 5); pokes = []; ticks = 1 }) ≡ call_of 0 (i32 7 ∷ []) ∷ ended (BadAnswer 0 (Some (V.I64 5))) ∷ []
+wrong_type = refl
+
+no_value : asked_with (record { value = None; pokes = []; ticks = 0 }) ≡ call_of 0 (i32 7 ∷ []) ∷ ended (BadAnswer 0 None) ∷ []
+no_value = refl
+
+-- with a poke into the area, of which byte 63 is the last
+pokes_area : asked_with (record { value = Some (i32 5); pokes = record { at = 64; bytes = 1 ∷ 2 ∷ [] } ∷ record { at = 63; bytes = 1 ∷ 2 ∷ [] } ∷ []; ticks = 0 }) ≡ call_of 0 (i32 7 ∷ []) ∷ ended (BadPoke 63 2) ∷ []
+pokes_area = refl
+
+-- with a poke past the memory
+pokes_past : asked_with (record { value = Some (i32 5); pokes = record { at = 65533; bytes = 1 ∷ 2 ∷ 3 ∷ 4 ∷ [] } ∷ []; ticks = 0 }) ≡ call_of 0 (i32 7 ∷ []) ∷ ended (BadPoke 65533 4) ∷ []
+pokes_past = refl
+
+-- ---- a pause in start
+abbrev starts : Module
+starts = record {
+  types = one_to_one ∷ record { params = []; results = [] } ∷ [];
+  imports = import_of 0 ∷ [];
+  funcs = record { sort = 1; locals = []; body = then (const (i32 0)) (plain (call 0) (then drop done)) } ∷ [];
+  tables = [];
+  memories = [];
+  globals = [];
+  exports = [];
+  start = Some 1;
+  elems = [];
+  segments = [];
+  customs = [];
+}
+
+abbrev start_paused : ℕ → List Event
+start_paused ticks = events_of (Blocking starts (plan_of 64 []) (answer (Some (i32 1)) ticks ∷ []) 20).events
+
+pause_in_start : start_paused 1 ≡ call_of 0 (i32 0 ∷ []) ∷ ended (PauseInStart 0) ∷ []
+pause_in_start = refl
+
+no_pause_in_start : start_paused 0 ≡ call_of 0 (i32 0 ∷ []) ∷ answered (Some (i32 1)) ∷ ended Done ∷ []
+no_pause_in_start = refl
+
+-- ---- two calls in a row, of which none is instrumented: the second comes while the program unwinds
+abbrev asks_twice : Module
+asks_twice = module_with (record { sort = 0; locals = []; body = plain (local_get 0) (plain (call 0) (plain (call 0) done)) })
+
+breaks_rule_one : events_of (Protocol (with_runtime asks_twice) (record (plan_of 64 (entry 1 (i32 7 ∷ []) ∷ [])) { listed = None }) (answer (Some (i32 1)) 1 ∷ []) 60).events ≡ call_of 0 (i32 7 ∷ []) ∷ ended (Broken 1) ∷ []
+unfolding with_runtime
+breaks_rule_one = refl
