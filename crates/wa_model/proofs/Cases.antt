@@ -22,6 +22,8 @@ use Rattle.wa_types.specs.Runtime.{with_runtime}
 use Rattle.wa_model.specs.declared.answers.Area.{Area}
 use Rattle.wa_model.specs.declared.events.End.TheVariants.{Done, Trapped, UnwindTrap, BadAnswer, BadPoke, PauseInStart, Broken, ElementsOut}
 use Rattle.wa_model.specs.Outside.{Poke, Answer, Event, called, answered, paused, returned, ended}
+use Rattle.wa_types.specs.Memory.{bytes_at}
+use Rattle.wa_types.specs.Frames.{Suspended}
 use Rattle.wa_model.specs.Store.{Store, works, act}
 use Rattle.wa_model.specs.Configuration.{running, waiting}
 use Rattle.wa_model.specs.Step.{traps, step}
@@ -291,3 +293,76 @@ asks_twice = module_with (record { sort = 0; locals = []; body = plain (local_ge
 breaks_rule_one : events_of (Protocol (with_runtime asks_twice) (record (plan_of 64 (entry 1 (i32 7 ∷ []) ∷ [])) { listed = None }) (answer (Some (i32 1)) 1 ∷ []) 60).events ≡ call_of 0 (i32 7 ∷ []) ∷ ended (Broken 1) ∷ []
 unfolding with_runtime
 breaks_rule_one = refl
+
+-- ---- a module rewritten by hand, whose run asks with its argument: it pauses, and goes on
+abbrev two_if : ℕ → Code → Code → Code
+two_if n body rest = then (global_get 0) (then (const (i32 n)) (then (num I32Eq) (branch None body done rest)))
+
+-- the address of the top frame, moved by 12 bytes up or down
+abbrev location : Code → Code
+location rest = then (global_get 1) (then (load 0x28 2 0) rest)
+
+abbrev by_hand : Module
+by_hand = with_runtime (module_with (record {
+  sort = 0;
+  locals = record { count = 2; ty = I32 } ∷ [];
+  body =
+    two_if 2 (then (global_get 1) (location (then (const (i32 12)) (then (num I32Sub) (then (store 0x36 2 0)
+        (location (then (load 0x28 2 0) (plain (local_set 0) (location (then (load 0x28 2 4) (plain (local_set 1) done)))))))))))
+    (two_if 0 (plain (local_get 0) (plain (local_set 1) done))
+    (plain (local_get 1) (plain (call 0) (plain (local_set 2)
+    (two_if 1 (location (plain (local_get 0) (then (store 0x36 2 0) (location (plain (local_get 1) (then (store 0x36 2 4) (location (then (const (i32 0)) (then (store 0x36 2 8)
+        (then (global_get 1) (location (then (const (i32 12)) (then (num I32Add) (then (store 0x36 2 0) done))))))))))))))
+    (plain (local_get 2) done))))));
+}))
+
+abbrev by_hand_plan : Plan
+by_hand_plan = record { globals = []; entries = entry 1 (i32 7 ∷ []) ∷ []; area = record { at = 1024; len = 64 }; listed = Some (true ∷ []) }
+
+abbrev by_hand_events : ℕ → List Event
+by_hand_events n = events_of (Protocol by_hand by_hand_plan (answer (Some (i32 42)) 5 ∷ []) n).events
+
+pauses_and_goes_on : by_hand_events 200 ≡ call_of 0 (i32 7 ∷ []) ∷ paused 5 20 ∷ answered (Some (i32 42)) ∷ returned 0 (Some (i32 42)) ∷ ended Done ∷ []
+unfolding with_runtime
+pauses_and_goes_on = refl
+
+-- the note of the pause has the frame behind the two words: the argument, the slot and the number of the call
+abbrev bytes_of_note : Option Note → ℕ → ℕ → List ℕ
+bytes_of_note None at len = []
+bytes_of_note (Some x) at len = bytes_at x.store.memory at len
+
+frame_at_pause : bytes_of_note (slice_get (Protocol by_hand by_hand_plan (answer (Some (i32 42)) 5 ∷ []) 200).events 1) 1024 20 ≡ 0x14 ∷ 4 ∷ 0 ∷ 0 ∷ 0x40 ∷ 4 ∷ 0 ∷ 0 ∷ 7 ∷ 0 ∷ 0 ∷ 0 ∷ 7 ∷ 0 ∷ 0 ∷ 0 ∷ 0 ∷ 0 ∷ 0 ∷ 0 ∷ []
+unfolding with_runtime
+frame_at_pause = refl
+
+-- and that of the answer the location at its start again
+frame_at_answer : bytes_of_note (slice_get (Protocol by_hand by_hand_plan (answer (Some (i32 42)) 5 ∷ []) 200).events 2) 1024 20 ≡ 8 ∷ 4 ∷ 0 ∷ 0 ∷ 0x40 ∷ 4 ∷ 0 ∷ 0 ∷ 7 ∷ 0 ∷ 0 ∷ 0 ∷ 7 ∷ 0 ∷ 0 ∷ 0 ∷ 0 ∷ 0 ∷ 0 ∷ 0 ∷ []
+unfolding with_runtime
+frame_at_answer = refl
+
+-- ---- the stack at a call: the call in the second arm of an if is the second one of its function
+abbrev calls_in_arms : Module
+calls_in_arms = module_with (record {
+  sort = 0;
+  locals = record { count = 1; ty = I64 } ∷ [];
+  body = then (const (i32 5)) (plain (local_get 0) (branch (Some I32) (then (const (i32 8)) (plain (call 0) done)) (then (const (i32 9)) (plain (call 0) done)) (then (num I32Add) (plain (call 0) done))));
+})
+
+abbrev stack_of_note : Option Note → List Suspended
+stack_of_note None = []
+stack_of_note (Some x) = x.stack
+
+abbrev stack_in_arms : ℕ → ℕ → List Suspended
+stack_in_arms x i = stack_of_note (slice_get (Blocking calls_in_arms (plan_of 64 (entry 1 (i32 x ∷ []) ∷ [])) (answer (Some (i32 1)) 0 ∷ answer (Some (i32 2)) 0 ∷ []) 40).events i)
+
+first_arm : stack_in_arms 3 0 ≡ record { func = 1; place = 0; locals = i32 3 ∷ V.I64 0 ∷ []; operands = i32 8 ∷ i32 5 ∷ [] } ∷ []
+unfolding pruned calls_of
+first_arm = refl
+
+second_arm : stack_in_arms 0 0 ≡ record { func = 1; place = 1; locals = i32 0 ∷ V.I64 0 ∷ []; operands = i32 9 ∷ i32 5 ∷ [] } ∷ []
+unfolding pruned calls_of
+second_arm = refl
+
+behind_arms : stack_in_arms 0 2 ≡ record { func = 1; place = 2; locals = i32 0 ∷ V.I64 0 ∷ []; operands = i32 6 ∷ [] } ∷ []
+unfolding pruned calls_of
+behind_arms = refl

@@ -1,1 +1,5 @@
 mod Cases
+pub mod Compose
+pub mod Follow
+pub mod Moments
+pub mod Runs
