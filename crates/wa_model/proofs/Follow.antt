@@ -16,20 +16,20 @@ Alike Q [] (y ∷ ys) = ⊥
 Alike Q (x ∷ xs) [] = ⊥
 Alike Q (x ∷ xs) (y ∷ ys) = Q x y × Alike Q xs ys
 
-alike_on : {A B : Type 0} (Q : A → B → Type 0) (xs xs' : List A) (ys ys' : List B) → Alike Q xs ys → Alike Q xs' ys' → Alike Q (xs ++ xs') (ys ++ ys')
+pub alike_on : {A B : Type 0} (Q : A → B → Type 0) (xs xs' : List A) (ys ys' : List B) → Alike Q xs ys → Alike Q xs' ys' → Alike Q (xs ++ xs') (ys ++ ys')
 alike_on Q [] xs' [] ys' h g = g
 alike_on Q [] xs' (y ∷ ys) ys' h g = absurd h
 alike_on Q (x ∷ xs) xs' [] ys' h g = absurd h
 alike_on Q (x ∷ xs) xs' (y ∷ ys) ys' h g = (h.0, alike_on Q xs xs' ys ys' h.1 g)
 
-begins_on : {A B : Type 0} (Q : A → B → Type 0) (xs xs' : List A) (ys ys' : List B) → Alike Q xs ys → Begins Q xs' ys' → Begins Q (xs ++ xs') (ys ++ ys')
+pub begins_on : {A B : Type 0} (Q : A → B → Type 0) (xs xs' : List A) (ys ys' : List B) → Alike Q xs ys → Begins Q xs' ys' → Begins Q (xs ++ xs') (ys ++ ys')
 begins_on Q [] xs' [] ys' h g = g
 begins_on Q [] xs' (y ∷ ys) ys' h g = absurd h
 begins_on Q (x ∷ xs) xs' [] ys' h g = absurd h
 begins_on Q (x ∷ xs) xs' (y ∷ ys) ys' h g = (h.0, begins_on Q xs xs' ys ys' h.1 g)
 
 -- a beginning of a longer list
-begins_more : {A B : Type 0} (Q : A → B → Type 0) (xs xs' : List A) (ys : List B) → Begins Q xs ys → Begins Q (xs ++ xs') ys
+pub begins_more : {A B : Type 0} (Q : A → B → Type 0) (xs xs' : List A) (ys : List B) → Begins Q xs ys → Begins Q (xs ++ xs') ys
 begins_more Q xs xs' [] h = tt
 begins_more Q [] xs' (y ∷ ys) h = absurd h
 begins_more Q (x ∷ xs) xs' (y ∷ ys) h = (h.0, begins_more Q xs xs' ys h.1)
