@@ -1,6 +1,8 @@
 -- Laws of runs, for any machine.
-use Rattle.std.proofs.Common.{◌≡◌, ℕ, zero, suc, ◌+◌, ◌-◌, ◌≤◌, ◌<◌, List, [], ◌++◌, refl, sym, ap, ◌∙◌, subst, arith, append_assoc}
+use Rattle.std.proofs.Common.{◌≡◌, ℕ, zero, suc, ◌+◌, ◌-◌, ◌≤◌, ◌<◌, List, [], ◌++◌, refl, sym, ap, ◌∙◌, subst, ⊎_elim, arith, append_assoc, append-nil}
+use Rattle.std.proofs.lemmas.Bool.{cases_lt}
 use Rattle.std.specs.Prelude.{nat_lt, if◌then◌else◌, Bool, true, false}
+use Rattle.wa_model.specs.Behaves.{IsPrefix}
 use Rattle.wa_model.specs.Machine.{Turn, stops, goes, Ran, after, still, pay, run_with, run, Leads, stays, moves}
 
 pub lt_true : (k n : ℕ) → k < n → nat_lt k n ≡ true
@@ -8,6 +10,14 @@ lt_true k n h = grind arith
 
 pub lt_false : (k n : ℕ) → n ≤ k → nat_lt k n ≡ false
 lt_false k n h = grind arith
+
+-- a turn and a run with their states mapped
+abbrev pub turned : {S T E : Type 0} → (S → T) → Turn S E → Turn T E
+turned f stops = stops
+turned f (goes k es t) = goes k es (f t)
+
+abbrev pub mapped : {S T E : Type 0} → (S → T) → Ran S E → Ran T E
+mapped f r = record { events = r.events; last = f r.last }
 
 module _ (S E : Type 0) (next : S → Turn S E) where
   -- a turn that is paid, and one that is not
@@ -69,3 +79,100 @@ module _ (S E : Type 0) (next : S → Turn S E) where
   leads_on s t u k n es fs stays r = let e : n ≡ 0 + n = omega arith in subst (λ m. Leads next s m fs u) e r
   leads_on s t u k n es fs (moves {t = mid} {k = k1} {n = n1} {es = es1} {fs = fs1} e l em eg) r =
       moves e (leads_on mid t u n1 n fs1 fs l r) (omega arith) (ap (λ xs. xs ++ fs) eg ∙ append_assoc es1 fs1 fs)
+
+  -- a longer run makes the same events, and then more
+  prefix_on : (es xs ys : List E) → IsPrefix xs ys → IsPrefix (es ++ xs) (es ++ ys)
+  prefix_on es xs ys h = (h.0, ap (λ zs. es ++ zs) h.1 ∙ sym (append_assoc es xs h.0))
+
+  prefix_of_none : (xs ys : List E) → xs ≡ [] → IsPrefix xs ys
+  prefix_of_none xs ys e = (ys, ap (λ zs. zs ++ ys) (sym e))
+
+  pub prefix_of_longer : (fuel n more : ℕ) (s : S) → n ≤ fuel → IsPrefix (run next n s).events (run next (n + more) s).events
+  prefix_of_longer zero n more s le =
+      let z : n ≡ 0 = omega arith in prefix_of_none (run next n s).events (run next (n + more) s).events (ap (λ k. (run next k s).events) z)
+  prefix_of_longer (suc fuel) n more s le = by_turn (λ n' t h. prefix_of_longer fuel n' more t h) (next s) refl
+    where
+      by_turn : ((n' : ℕ) (t : S) → n' ≤ fuel → IsPrefix (run next n' t).events (run next (n' + more) t).events) → (o : Turn S E) → next s ≡ o → IsPrefix (run next n s).events (run next (n + more) s).events
+      by_turn ih stops e = prefix_of_none (run next n s).events (run next (n + more) s).events (ap (λ r. r.events) (no_move n s e))
+      by_turn ih (goes k es t) e =
+          ⊎_elim
+          (λ lt. prefix_of_none (run next n s).events (run next (n + more) s).events (ap (λ r. r.events) (too_dear k n es s t e (omega arith))))
+          (λ ge.
+          let z : n ≡ suc (k + (n - suc k)) = omega arith in
+          let z' : n + more ≡ suc (k + (n - suc k + more)) = omega arith in
+          let a : (run next n s).events ≡ es ++ (run next (n - suc k) t).events = ap (λ j. (run next j s).events) z ∙ ap (λ r. r.events) (one_move k (n - suc k) es s t e) in
+          let b : (run next (n + more) s).events ≡ es ++ (run next (n - suc k + more) t).events = ap (λ j. (run next j s).events) z' ∙ ap (λ r. r.events) (one_move k (n - suc k + more) es s t e) in
+          rw (a, b) (prefix_on es (run next (n - suc k) t).events (run next (n - suc k + more) t).events (ih (n - suc k) t (omega arith))))
+          (cases_lt n (suc k))
+
+  -- stretches of one cost are one
+  pub leads_one : (s t u : S) (n : ℕ) (es fs : List E) → Leads next s n es t → Leads next s n fs u → (es ≡ fs) × (t ≡ u)
+  leads_one s t u n es fs a b =
+      let ra : run next (n + 0) s ≡ after es (run next 0 t) = leads_run s t n 0 es a in
+      let rb : run next (n + 0) s ≡ after fs (run next 0 u) = leads_run s u n 0 fs b in
+      let both : after es (run next 0 t) ≡ after fs (run next 0 u) = sym ra ∙ rb in
+      (sym (append-nil es) ∙ ap (λ r. r.events) both ∙ append-nil fs, ap (λ r. r.last) both)
+
+  -- what stands next costs more than is left, or there is nothing
+  pub data Halted (left : ℕ) : Turn S E → Type 0 where
+    has_stopped : Halted left stops
+    is_dearer : (k : ℕ) (es : List E) (t : S) → left ≤ k → Halted left (goes k es t)
+
+  -- a run is a stretch of moves, after which nothing more can be paid
+  pub record Runs_to (n : ℕ) (s : S) (r : Ran S E) : Type 0 where
+    pub cost : ℕ
+    pub within : cost ≤ n
+    pub leads : Leads next s cost r.events r.last
+    pub halted : Halted (n - cost) (next r.last)
+
+  runs_still : (n : ℕ) (s : S) → Halted n (next s) → Runs_to n s (still s)
+  runs_still n s h = let z : n ≡ n - 0 = omega arith in record { cost = 0; within = omega arith; leads = stays; halted = subst (λ k. Halted k (next s)) z h }
+
+  halted_by : (n : ℕ) (o o' : Turn S E) → o ≡ o' → Halted n o' → Halted n o
+  halted_by n o o' e h = subst (Halted n) (sym e) h
+
+  pub run_leads : (fuel n : ℕ) (s : S) → n ≤ fuel → Runs_to n s (run next n s)
+  run_leads fuel n s le = by_fuel fuel n s le
+    where
+      poor : (n : ℕ) (s : S) (o : Turn S E) → next s ≡ o → n ≡ 0 → Runs_to n s (run next n s)
+      poor n s o e z = subst (Runs_to n s) (sym (ap (λ k. run next k s) z)) (runs_still n s (halted_by n (next s) o e (none_left o)))
+        where
+          none_left : (o : Turn S E) → Halted n o
+          none_left stops = has_stopped
+          none_left (goes k es t) = is_dearer k es t (omega arith)
+
+      by_turn : (fuel n : ℕ) (s : S) → n ≤ suc fuel → ((n' : ℕ) (t : S) → n' ≤ fuel → Runs_to n' t (run next n' t)) → (o : Turn S E) → next s ≡ o → Runs_to n s (run next n s)
+      by_turn fuel n s le ih stops e = subst (Runs_to n s) (sym (no_move n s e)) (runs_still n s (halted_by n (next s) stops e has_stopped))
+      by_turn fuel n s le ih (goes k es t) e =
+          ⊎_elim
+          (λ lt. let few : n ≤ k = omega arith in subst (Runs_to n s) (sym (too_dear k n es s t e few)) (runs_still n s (halted_by n (next s) (goes k es t) e (is_dearer k es t few))))
+          (λ ge.
+          let z : n ≡ suc (k + (n - suc k)) = omega arith in
+          let r : run next n s ≡ after es (run next (n - suc k) t) = ap (λ j. run next j s) z ∙ one_move k (n - suc k) es s t e in
+          let on = ih (n - suc k) t (omega arith) in
+          let within = on.within in
+          let left : n - suc k - on.cost ≡ n - (suc k + on.cost) = omega arith in
+          subst (Runs_to n s) (sym r) (record {
+            cost = suc k + on.cost;
+            within = omega arith;
+            leads = moves e on.leads refl refl;
+            halted = subst (λ j. Halted j (next (run next (n - suc k) t).last)) left on.halted;
+          }))
+          (cases_lt n (suc k))
+
+      by_fuel : (fuel n : ℕ) (s : S) → n ≤ fuel → Runs_to n s (run next n s)
+      by_fuel zero n s le = poor n s (next s) refl (omega arith)
+      by_fuel (suc fuel) n s le = by_turn fuel n s le (λ n' t h. by_fuel fuel n' t h) (next s) refl
+
+-- a machine whose moves are those of another, its states mapped
+pub run_mapped : (S T E : Type 0) (na : S → Turn S E) (nb : T → Turn T E) (f : S → T) → ((s : S) → nb (f s) ≡ turned f (na s)) → (most n : ℕ) (s : S) → run_with nb most n (f s) ≡ mapped f (run_with na most n s)
+run_mapped S T E na nb f h zero n s = refl
+run_mapped S T E na nb f h (suc most) n s = ap (pay (run_with nb most) n (f s)) (h s) ∙ by_turn (λ n t. run_mapped S T E na nb f h most n t) (na s)
+  where
+    by_turn : ((n : ℕ) (t : S) → run_with nb most n (f t) ≡ mapped f (run_with na most n t)) → (o : Turn S E) → pay (run_with nb most) n (f s) (turned f o) ≡ mapped f (pay (run_with na most) n s o)
+    by_turn ih stops = refl
+    by_turn ih (goes k es t) = by_cost (nat_lt k n)
+      where
+        by_cost : (b : Bool) → (if b then after es (run_with nb most (n - suc k) (f t)) else still (f s)) ≡ mapped f (if b then after es (run_with na most (n - suc k) t) else still s)
+        by_cost true = ap (after es) (ih (n - suc k) t)
+        by_cost false = refl

@@ -7,6 +7,7 @@ pub mod Machine
 pub mod Outside
 pub mod Plan
 pub mod Protocol
+pub mod Pruning
 pub mod Step
 pub mod Store
 pub mod Untouched
