@@ -11,15 +11,16 @@ use Rattle.wa_types.specs.Modules.{imported, imported_func, func_imports, func_s
 use Rattle.wa_types.specs.Pausing.{calls_of, calls_in}
 use Rattle.wa_types.specs.Frames.{Suspended}
 use Rattle.wa_model.specs.declared.events.End.{End}
-use Rattle.wa_model.specs.Outside.{Answer}
+use Rattle.wa_model.specs.Outside.{Answer, answered, returned}
 use Rattle.wa_model.specs.Machine.{Turn, stops, goes, Ran, after, run}
 use Rattle.wa_model.specs.Store.{Store, Did, works, fails, lacks, takes, act}
 use Rattle.wa_model.specs.Configuration.{Label, block_label, loop_label, Activation, Configuration, running, waiting, call_count, calls_outside, place_of, suspended, stack_of}
 use Rattle.wa_model.specs.Step.{Next, steps, asks, returns, traps, stuck, keep, result_count, leave, jump, finish, did, with_top, with_number, choose, arity_of, zero_of, entered, invoke, param_count, same_func_type, through, memory_max, step_plain, step_at, step}
 use Rattle.wa_model.specs.Plan.{Entry, Plan, Outcome, given, refused, based}
 use Rattle.wa_model.specs.Pruning.{pruned_func, pruned_module}
-use Rattle.wa_model.specs.Blocking.{Note, fault_of, Task, the_start, an_entry, Left, with_outcomes, Asker, inside, outermost, store_at, stack_at, in_start, State, between, begins, runs, halts, on_to, next_entry, task_back, go_on, tested, asked, by_step, enters, enter_next, start_called, blocking, poked, resumed, call_note, pause_of, done_notes}
-use Rattle.wa_model.proofs.Runs.{turned, mapped}
+use Rattle.wa_model.specs.Blocking.{Note, note, value_of_results, fault_of, Task, the_start, an_entry, Left, with_outcomes, Asker, inside, outermost, store_at, stack_at, in_start, State, between, begins, runs, halts, on_to, next_entry, task_back, go_on, tested, asked, by_step, enters, enter_next, start_called, blocking, poked, resumed, call_note, pause_of, done_notes, all_left, begun, continued, blocking_run}
+use Rattle.wa_model.specs.Instantiation.{Opening, fails_as, opens, opening}
+use Rattle.wa_model.proofs.Runs.{turned, mapped, run_mapped}
 
 -- pruning again changes nothing
 pub pruned_twice : (c : Code) → pruned (pruned c) ≡ pruned c
@@ -227,3 +228,104 @@ module _ (m : Module) where
 
   pub step_pruned : (c : Configuration) → step (pruned_module m) (pruned_config c) ≡ pruned_next (step m c)
   step_pruned c = step_at_pruned c.store c.here.func c.under c.here.locals c.here.operands c.here.labels c.here.code
+
+-- ---- runs with blocking imports
+
+abbrev pub pruned_state : State → State
+pruned_state (between s l) = between s l
+pruned_state (begins x s l) = begins x s l
+pruned_state (runs task c l) = runs task (pruned_config c) l
+pruned_state (halts s) = halts s
+
+abbrev pruned_asker : Asker → Asker
+pruned_asker (inside task c) = inside task (pruned_config c)
+pruned_asker (outermost s) = outermost s
+
+abbrev pruned_turn : Turn State Note → Turn State Note
+pruned_turn t = turned pruned_state t
+
+store_at_same : (w : Asker) → store_at (pruned_asker w) ≡ store_at w
+store_at_same (inside task c) = refl
+store_at_same (outermost s) = refl
+
+in_start_same : (w : Asker) → in_start (pruned_asker w) ≡ in_start w
+in_start_same (inside task c) = refl
+in_start_same (outermost s) = refl
+
+on_to_pruned : (s : Store) (l : Left) (es : List Entry) → on_to s l es ≡ pruned_state (on_to s l es)
+on_to_pruned s l [] = refl
+on_to_pruned s l (e ∷ es) = refl
+
+goes_pruned : (k : ℕ) (notes : List Note) (s : Store) (l : Left) (es : List Entry) → goes k notes (on_to s l es) ≡ pruned_turn (goes k notes (on_to s l es))
+goes_pruned k notes s l es = ap (goes k notes) (on_to_pruned s l es)
+
+task_back_pruned : (k : ℕ) (task : Task) (results : List Value) (s : Store) (l : Left) → task_back k task results s l ≡ pruned_turn (task_back k task results s l)
+task_back_pruned k the_start results s l = ap (goes k (done_notes s l.entries)) (on_to_pruned s l l.entries)
+task_back_pruned k (an_entry e) results s l = goes_pruned k (note (returned l.number (value_of_results results)) s ∷ done_notes s l.entries) s (next_entry l) l.entries
+
+go_on_pruned : (k : ℕ) (x : Note) (a : Answer) (s : Store) (l : Left) (w : Asker) → go_on k x a s l (pruned_asker w) ≡ pruned_turn (go_on k x a s l w)
+go_on_pruned k x a s l (inside task c) = refl
+go_on_pruned k x a s l (outermost old) = goes_pruned k (x ∷ note (answered a.value) s ∷ done_notes s l.entries) s l l.entries
+
+module _ (m : Module) (plan : Plan) where
+  abbrev p : Module
+  p = pruned_module m
+
+  stack_at_same : (w : Asker) → stack_at p (pruned_asker w) ≡ stack_at m w
+  stack_at_same (inside task c) = stack_same m c
+  stack_at_same (outermost s) = refl
+
+  tested_pruned : (k import : ℕ) (args : List Value) (w : Asker) (l : Left) (a : Answer) (o : Option End) → tested p k import args (pruned_asker w) l a o ≡ pruned_turn (tested m k import args w l a o)
+  tested_pruned k import args w l a (Some e) = rw (store_at_same w, stack_at_same w) refl
+  tested_pruned k import args w l a None = rw (store_at_same w, stack_at_same w) (go_on_pruned k (call_note import args (store_at w) (stack_at m w) (pause_of a.ticks)) a (poked (store_at w) a.pokes) l w)
+
+  asked_pruned : (k import : ℕ) (args : List Value) (w : Asker) (l : Left) (os : List Outcome) → asked p plan k import args (pruned_asker w) l os ≡ pruned_turn (asked m plan k import args w l os)
+  asked_pruned k import args w l [] = rw (store_at_same w, stack_at_same w) refl
+  asked_pruned k import args w l (refused e ∷ os) = rw (store_at_same w, stack_at_same w) refl
+  asked_pruned k import args w l (given a ∷ os) =
+      ap (λ (t : FuncType). tested p k import args (pruned_asker w) (with_outcomes l os) a (fault_of t.results (length (store_at (pruned_asker w)).memory) plan (in_start (pruned_asker w)) import a)) (types_same m import)
+      ∙ ap (λ (s : Store). tested p k import args (pruned_asker w) (with_outcomes l os) a (fault_of (func_type_at m import).results (length s.memory) plan (in_start (pruned_asker w)) import a)) (store_at_same w)
+      ∙ ap (λ b. tested p k import args (pruned_asker w) (with_outcomes l os) a (fault_of (func_type_at m import).results (length (store_at w).memory) plan b import a)) (in_start_same w)
+      ∙ tested_pruned k import args w (with_outcomes l os) a (fault_of (func_type_at m import).results (length (store_at w).memory) plan (in_start w) import a)
+
+  by_step_pruned : (task : Task) (l : Left) (o : Next) → by_step p plan task l (pruned_next o) ≡ pruned_turn (by_step m plan task l o)
+  by_step_pruned task l (steps k d) = refl
+  by_step_pruned task l (asks k import args d) = asked_pruned k import args (inside task d) l l.outcomes
+  by_step_pruned task l (returns k results s) = task_back_pruned k task results s l
+  by_step_pruned task l (traps k trap s) = refl
+  by_step_pruned task l stuck = refl
+
+  enters_pruned : (e : Entry) (s : Store) (l : Left) (o : Option Func) → enters e s l (option_map pruned_func o) ≡ pruned_turn (enters e s l o)
+  enters_pruned e s l None = refl
+  enters_pruned e s l (Some f) = refl
+
+  enter_next_pruned : (s : Store) (l : Left) (es : List Entry) → enter_next p s l es ≡ pruned_turn (enter_next m s l es)
+  enter_next_pruned s l [] = refl
+  enter_next_pruned s l (e ∷ es) = ap (enters e s (record { number = l.number; entries = es; outcomes = l.outcomes })) (defined_pruned m e.func) ∙ enters_pruned e s (record { number = l.number; entries = es; outcomes = l.outcomes }) (defined_at m e.func)
+
+  start_pruned : (x : ℕ) (s : Store) (l : Left) (o : Option Func) → start_called p plan x s l (option_map pruned_func o) ≡ pruned_turn (start_called m plan x s l o)
+  start_pruned x s l (Some f) = refl
+  start_pruned x s l None = by_import (nat_lt x (func_imports m))
+    where
+      by_import : (b : Bool) → (if b then asked p plan 0 x [] (outermost s) l l.outcomes else stops) ≡ pruned_turn (if b then asked m plan 0 x [] (outermost s) l l.outcomes else stops)
+      by_import true = asked_pruned 0 x [] (outermost s) l l.outcomes
+      by_import false = refl
+
+  blocking_pruned : (s : State) → blocking p plan (pruned_state s) ≡ turned pruned_state (blocking m plan s)
+  blocking_pruned (between s l) = enter_next_pruned s l l.entries
+  blocking_pruned (begins x s l) = ap (start_called p plan x s l) (defined_pruned m x) ∙ start_pruned x s l (defined_at m x)
+  blocking_pruned (runs task c l) = ap (by_step p plan task l) (step_pruned m c) ∙ by_step_pruned task l (step m c)
+  blocking_pruned (halts s) = refl
+
+  begun_pruned : (start : Option ℕ) (l : Left) (o : Opening) → (begun start l o).last ≡ pruned_state (begun start l o).last
+  begun_pruned start l (fails_as e) = refl
+  begun_pruned None l (opens s) = on_to_pruned s l l.entries
+  begun_pruned (Some x) l (opens s) = refl
+
+  continued_pruned : (n : ℕ) (r : Ran State Note) → r.last ≡ pruned_state r.last → continued p plan n r ≡ mapped pruned_state (continued m plan n r)
+  continued_pruned n r e =
+      ap (λ s. after r.events (run (blocking p plan) n s)) e
+      ∙ ap (after r.events) (run_mapped State State Note (blocking m plan) (blocking p plan) pruned_state blocking_pruned n n r.last)
+
+  pub blocking_run_pruned : (os : List Outcome) (n : ℕ) → blocking_run p plan os n ≡ mapped pruned_state (blocking_run m plan os n)
+  blocking_run_pruned os n = continued_pruned n (begun m.start (all_left plan os) (opening m plan.globals)) (begun_pruned m.start (all_left plan os) (opening m plan.globals))
