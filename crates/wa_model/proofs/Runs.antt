@@ -3,7 +3,7 @@ use Rattle.std.proofs.Common.{◌≡◌, ℕ, zero, suc, ◌+◌, ◌-◌, ◌�
 use Rattle.std.proofs.lemmas.Bool.{cases_lt}
 use Rattle.std.specs.Prelude.{nat_lt, if◌then◌else◌, Bool, true, false}
 use Rattle.wa_model.specs.Behaves.{IsPrefix}
-use Rattle.wa_model.specs.Machine.{Turn, stops, goes, Ran, after, still, pay, run_with, run, Leads, stays, moves}
+use Rattle.wa_model.specs.Machine.{Turn, stops, goes, Ran, after, still, pay, run_with, run, Leads, stays, moves, CostsMore, IsRun}
 
 pub lt_true : (k n : ℕ) → k < n → nat_lt k n ≡ true
 lt_true k n h = grind arith
@@ -81,7 +81,7 @@ module _ (S E : Type 0) (next : S → Turn S E) where
       moves e (leads_on mid t u n1 n fs1 fs l r) (omega arith) (ap (λ xs. xs ++ fs) eg ∙ append_assoc es1 fs1 fs)
 
   -- a longer run makes the same events, and then more
-  prefix_on : (es xs ys : List E) → IsPrefix xs ys → IsPrefix (es ++ xs) (es ++ ys)
+  pub prefix_on : (es xs ys : List E) → IsPrefix xs ys → IsPrefix (es ++ xs) (es ++ ys)
   prefix_on es xs ys h = (h.0, ap (λ zs. es ++ zs) h.1 ∙ sym (append_assoc es xs h.0))
 
   prefix_of_none : (xs ys : List E) → xs ≡ [] → IsPrefix xs ys
@@ -113,54 +113,42 @@ module _ (S E : Type 0) (next : S → Turn S E) where
       let both : after es (run next 0 t) ≡ after fs (run next 0 u) = sym ra ∙ rb in
       (sym (append-nil es) ∙ ap (λ r. r.events) both ∙ append-nil fs, ap (λ r. r.last) both)
 
-  -- what stands next costs more than is left, or there is nothing
-  pub data Halted (left : ℕ) : Turn S E → Type 0 where
-    has_stopped : Halted left stops
-    is_dearer : (k : ℕ) (es : List E) (t : S) → left ≤ k → Halted left (goes k es t)
+  runs_still : (n : ℕ) (s : S) → CostsMore n (next s) → IsRun next n s (still s)
+  runs_still n s h = let z : n ≡ n - 0 = omega arith in record { cost = 0; within = omega arith; leads = stays; dearer = subst (λ k. CostsMore k (next s)) z h }
 
-  -- a run is a stretch of moves, after which nothing more can be paid
-  pub record Runs_to (n : ℕ) (s : S) (r : Ran S E) : Type 0 where
-    pub cost : ℕ
-    pub within : cost ≤ n
-    pub leads : Leads next s cost r.events r.last
-    pub halted : Halted (n - cost) (next r.last)
+  dearer_by : (n : ℕ) (o o' : Turn S E) → o ≡ o' → CostsMore n o' → CostsMore n o
+  dearer_by n o o' e h = subst (CostsMore n) (sym e) h
 
-  runs_still : (n : ℕ) (s : S) → Halted n (next s) → Runs_to n s (still s)
-  runs_still n s h = let z : n ≡ n - 0 = omega arith in record { cost = 0; within = omega arith; leads = stays; halted = subst (λ k. Halted k (next s)) z h }
-
-  halted_by : (n : ℕ) (o o' : Turn S E) → o ≡ o' → Halted n o' → Halted n o
-  halted_by n o o' e h = subst (Halted n) (sym e) h
-
-  pub run_leads : (fuel n : ℕ) (s : S) → n ≤ fuel → Runs_to n s (run next n s)
-  run_leads fuel n s le = by_fuel fuel n s le
+  pub run_is_run : (fuel n : ℕ) (s : S) → n ≤ fuel → IsRun next n s (run next n s)
+  run_is_run fuel n s le = by_fuel fuel n s le
     where
-      poor : (n : ℕ) (s : S) (o : Turn S E) → next s ≡ o → n ≡ 0 → Runs_to n s (run next n s)
-      poor n s o e z = subst (Runs_to n s) (sym (ap (λ k. run next k s) z)) (runs_still n s (halted_by n (next s) o e (none_left o)))
+      poor : (n : ℕ) (s : S) (o : Turn S E) → next s ≡ o → n ≡ 0 → IsRun next n s (run next n s)
+      poor n s o e z = subst (IsRun next n s) (sym (ap (λ k. run next k s) z)) (runs_still n s (dearer_by n (next s) o e (none_left o)))
         where
-          none_left : (o : Turn S E) → Halted n o
-          none_left stops = has_stopped
-          none_left (goes k es t) = is_dearer k es t (omega arith)
+          none_left : (o : Turn S E) → CostsMore n o
+          none_left stops = tt
+          none_left (goes k es t) = omega arith
 
-      by_turn : (fuel n : ℕ) (s : S) → n ≤ suc fuel → ((n' : ℕ) (t : S) → n' ≤ fuel → Runs_to n' t (run next n' t)) → (o : Turn S E) → next s ≡ o → Runs_to n s (run next n s)
-      by_turn fuel n s le ih stops e = subst (Runs_to n s) (sym (no_move n s e)) (runs_still n s (halted_by n (next s) stops e has_stopped))
+      by_turn : (fuel n : ℕ) (s : S) → n ≤ suc fuel → ((n' : ℕ) (t : S) → n' ≤ fuel → IsRun next n' t (run next n' t)) → (o : Turn S E) → next s ≡ o → IsRun next n s (run next n s)
+      by_turn fuel n s le ih stops e = subst (IsRun next n s) (sym (no_move n s e)) (runs_still n s (dearer_by n (next s) stops e tt))
       by_turn fuel n s le ih (goes k es t) e =
           ⊎_elim
-          (λ lt. let few : n ≤ k = omega arith in subst (Runs_to n s) (sym (too_dear k n es s t e few)) (runs_still n s (halted_by n (next s) (goes k es t) e (is_dearer k es t few))))
+          (λ lt. let few : n ≤ k = omega arith in subst (IsRun next n s) (sym (too_dear k n es s t e few)) (runs_still n s (dearer_by n (next s) (goes k es t) e few)))
           (λ ge.
           let z : n ≡ suc (k + (n - suc k)) = omega arith in
           let r : run next n s ≡ after es (run next (n - suc k) t) = ap (λ j. run next j s) z ∙ one_move k (n - suc k) es s t e in
           let on = ih (n - suc k) t (omega arith) in
           let within = on.within in
           let left : n - suc k - on.cost ≡ n - (suc k + on.cost) = omega arith in
-          subst (Runs_to n s) (sym r) (record {
+          subst (IsRun next n s) (sym r) (record {
             cost = suc k + on.cost;
             within = omega arith;
             leads = moves e on.leads refl refl;
-            halted = subst (λ j. Halted j (next (run next (n - suc k) t).last)) left on.halted;
+            dearer = subst (λ j. CostsMore j (next (run next (n - suc k) t).last)) left on.dearer;
           }))
           (cases_lt n (suc k))
 
-      by_fuel : (fuel n : ℕ) (s : S) → n ≤ fuel → Runs_to n s (run next n s)
+      by_fuel : (fuel n : ℕ) (s : S) → n ≤ fuel → IsRun next n s (run next n s)
       by_fuel zero n s le = poor n s (next s) refl (omega arith)
       by_fuel (suc fuel) n s le = by_turn fuel n s le (λ n' t h. by_fuel fuel n' t h) (next s) refl
 

@@ -3,6 +3,7 @@ pub mod Blocking
 pub mod Configuration
 pub mod Expected
 pub mod Instantiation
+pub mod Laws
 pub mod Machine
 pub mod Outside
 pub mod Plan

@@ -1,5 +1,5 @@
 -- A machine that moves by itself: each move has a cost of at least 1 and makes events.
-use Rattle.std.specs.Prelude.{◌≡◌, ℕ, zero, suc, ◌+◌, ◌-◌, nat_lt, if◌then◌else◌, List, [], ◌++◌}
+use Rattle.std.specs.Prelude.{◌≡◌, ℕ, zero, suc, ◌+◌, ◌-◌, ◌≤◌, nat_lt, if◌then◌else◌, List, [], ◌++◌}
 
 -- What comes next: nothing, or a move that costs `suc k`.
 pub data Turn (S E : Type 0) : Type 0 where
@@ -36,3 +36,15 @@ run next n s = run_with next n n s
 pub data Leads {S E : Type 0} (next : S → Turn S E) : S → ℕ → List E → S → Type 0 where
   stays : {s : S} → Leads next s 0 [] s
   moves : {s t u : S} {k n m : ℕ} {es fs gs : List E} → next s ≡ goes k es t → Leads next t n fs u → m ≡ suc k + n → gs ≡ es ++ fs → Leads next s m gs u
+
+-- a turn costs more than is left, or there is none
+abbrev pub CostsMore : {S E : Type 0} → (left : ℕ) → Turn S E → Type 0
+CostsMore left stops = Unit {0}
+CostsMore left (goes k es t) = left ≤ k
+
+-- The moves from a state that can be paid with n: they cost at most n, and the next one would pass it.
+pub record IsRun {S E : Type 0} (next : S → Turn S E) (n : ℕ) (s : S) (r : Ran S E) : Type 0 where
+  pub cost : ℕ
+  pub within : cost ≤ n
+  pub leads : Leads next s cost r.events r.last
+  pub dearer : CostsMore (n - cost) (next r.last)

@@ -1,0 +1,12 @@
+use Rattle.std.proofs.Common.{◌≡◌, ℕ, suc, refl, sym, ap, ◌∙◌}
+use Rattle.wa_types.specs.Syntax.{Module}
+use Rattle.wa_model.specs.Configuration.{Configuration}
+use Rattle.wa_model.specs.Step.{Step, steps, step}
+use Rattle.wa_model.proofs.laws.one_next_configuration.Goals as goal
+
+pub returns : goal.returns
+returns c = λ m c0 d e j k a b.
+    let same : steps a.0 d ≡ steps b.0 e = sym a.1 ∙ b.1 in
+    let same_cost : a.0 ≡ b.0 = cc in
+    let same_next : d ≡ e = cc in
+    (same_next, a.2 ∙ ap suc same_cost ∙ sym b.2)
