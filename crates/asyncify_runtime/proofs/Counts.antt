@@ -5,7 +5,7 @@ use Rattle.std.proofs.lemmas.List.Recursion.{is_count_by}
 use Rattle.std.specs.Prelude.{is_some}
 use Rattle.std.specs.List.{filter_map, list_any}
 use Rattle.wa_types.specs.declared.syntax.Limits.{Limits}
-use Rattle.wa_types.specs.Runtime.{added_memories, one_page}
+use Rattle.wa_types.specs.Base.{added_memories, one_page}
 
 step : {X Y : Type 0} → (f : X → Option Y) → (x : X) (xs : List X) (o : Option Y) → f x ≡ o → length (filter_map f (x ∷ xs)) ≡ cond (is_some (f x)) (1 + length (filter_map f xs)) (length (filter_map f xs))
 step f x xs None e = rw e refl

@@ -1,4 +1,4 @@
-ghost use Rattle.std.specs.Prelude.{◌≡◌, ◌+◌, ◌*◌, ◌^◌, ◌<◌, ◌≤◌, ◌⊎◌, ◌↔◌, IsTrue, IsSome, IfOk, IfSome, OnErr, OnSome, IfNone, length, replicate, Some, None};
+ghost use Rattle.std.specs.Prelude.{◌≡◌, ◌+◌, ◌*◌, ◌^◌, ◌<◌, ◌≤◌, ◌⊎◌, ◌↔◌, IsSome, IfOk, IfSome, IfNone, OnSome, OnErr, length, replicate, Some, None};
 ghost use Rattle.std.specs.Bool.{OnTrue, OnFalse};
 ghost use Rattle.std.specs.Option.{SomeIff};
 ghost use Rattle.wa_types.specs.Memory.{page_size, pages_of, number_at, bytes_at, with_piece, with_number, page_bound, grown};
@@ -7,11 +7,13 @@ use std::alloc::{AllocError, Global};
 use std::marker::Model;
 
 /// The bytes of a page (standard, section 4.2.8).
-const PAGE: usize = 65_536;
+const PAGE_SIZE: usize = 65_536;
 
-/// The greatest number of pages that a memory may have here.
+/// The greatest number of pages that any memory may grow to.
 const MOST_PAGES: u32 = 1_024;
 
+/// A linear memory (standard, section 4.2.8). Contracts see its bytes, and the greatest number of pages that
+/// its type declares.
 #[derive(Debug, Drop)]
 pub struct Pages {
     bytes: Vec<u8>,
@@ -29,35 +31,40 @@ impl Model for Pages {
 }
 
 impl Pages {
+    /// A memory of `min` pages of zeros, whose type declares the maximum `max`, in pages.
     pub fn new(alloc: Global, min: u32, max: Option<u32>) -> Result<Pages, AllocError>
         requires { min ≤ 1024 }
         ensures bytes { IfOk result (λ m. m.bytes ≡ replicate (min * page_size) 0) }
         ensures max { IfOk result (λ m. m.max ≡ max) }
     {
-        Ok(Pages {
-            bytes: vec![in alloc; 0u8; min as usize * PAGE]?,
-            max,
-        })
+        let mut bytes = Vec::new(alloc);
+        bytes.resize(min as usize * PAGE_SIZE, 0)?;
+        Ok(Pages { bytes, max })
     }
 
+    /// The number of pages (standard, section 4.4.4.3).
     pub fn size(&self) -> u32
         ensures pages { result ≡ pages_of self.now.bytes }
         ensures whole { length self.now.bytes ≡ result * page_size }
         ensures bounded { result ≤ 1024 }
     {
-        (self.bytes.len() / PAGE) as u32
+        (self.bytes.len() / PAGE_SIZE) as u32
     }
 
+    /// All bytes.
     pub fn bytes(&self) -> &[u8]
         ensures { result.now ≡ self.now.bytes }
     {
         self.bytes.as_slice()
     }
 
+    /// The number that `width` bytes at an address spell, the lowest first, or None exactly where they reach
+    /// past the end (standard, section 4.4.4.1). No sign is extended.
+    #[inline]
     pub fn load(&self, addr: u64, width: u32) -> Option<u64>
         requires { (width ≡ 1) ⊎ (width ≡ 2) ⊎ (width ≡ 4) ⊎ (width ≡ 8) }
         ensures value { result ≡ number_at self.now.bytes addr width }
-        ensures small { IfSome result (λ n. n < 256 ^ width) }
+        ensures fits { IfSome result (λ n. n < 256 ^ width) }
     {
         match width {
             1 => Some(u64::from(self.array_at::<1>(addr)?[0])),
@@ -67,6 +74,9 @@ impl Pages {
         }
     }
 
+    /// Writes the low `width` bytes of `value` at an address, the lowest first. False exactly where they reach
+    /// past the end, and then nothing changes (standard, section 4.4.4.2).
+    #[inline]
     pub fn store(&mut self, addr: u64, width: u32, value: u64) -> bool
         requires { (width ≡ 1) ⊎ (width ≡ 2) ⊎ (width ≡ 4) ⊎ (width ≡ 8) }
         ensures ok { OnTrue result (with_number self.old.bytes addr width value ≡ Some self.new.bytes) }
@@ -82,6 +92,8 @@ impl Pages {
         }
     }
 
+    /// Writes a piece at an address. False exactly where it reaches past the end, and then nothing changes.
+    #[inline]
     pub fn write(&mut self, addr: u64, piece: &[u8]) -> bool
         ensures ok { OnTrue result (with_piece self.old.bytes addr piece.now ≡ Some self.new.bytes) }
         ensures past_end { OnFalse result (with_piece self.old.bytes addr piece.now ≡ None) }
@@ -95,6 +107,9 @@ impl Pages {
         true
     }
 
+    /// Appends `by` pages of zeros, and gives the size before, in pages. None exactly where the new size would
+    /// pass the declared maximum or 1,024 pages. After None, and without memory, nothing has changed (standard,
+    /// section 4.4.4.4).
     pub fn grow(&mut self, by: u32) -> Result<Option<u32>, AllocError>
         ensures grows { IfOk result (λ before. OnSome before (grown self.old by ≡ Some self.new)) }
         ensures size { IfOk result (λ before. IfSome before (λ pages. pages ≡ pages_of self.old.bytes)) }
@@ -105,14 +120,14 @@ impl Pages {
         let size = self.size();
         match size.checked_add(by) {
             Some(pages) if pages <= self.bound() => {
-                self.bytes.resize(pages as usize * PAGE, 0)?;
+                self.bytes.resize(pages as usize * PAGE_SIZE, 0)?;
                 Ok(Some(size))
             }
             _ => Ok(None),
         }
     }
 
-    /// The greatest number of pages that this memory may have.
+    /// The greatest number of pages that this memory may grow to.
     fn bound(&self) -> u32
         ensures { result ≡ page_bound self.now.max }
     {
@@ -122,7 +137,8 @@ impl Pages {
         }
     }
 
-    /// The index of the first of so many bytes, where all of them lie inside.
+    /// The index of the first of `len` bytes at an address, where all of them lie inside.
+    #[inline]
     fn place(&self, addr: u64, len: usize) -> Option<usize>
         ensures { SomeIff result (addr + len ≤ length self.now.bytes) addr }
     {
@@ -134,7 +150,8 @@ impl Pages {
         }
     }
 
-    /// The bytes at an address, where all of them lie inside.
+    /// The `N` bytes at an address, where all of them lie inside.
+    #[inline]
     fn array_at<const N: usize>(&self, addr: u64) -> Option<&[u8; N]>
         ensures inside { IsSome result ↔ (addr + N ≤ length self.now.bytes) }
         ensures value { IfSome result (λ bytes. bytes.now ≡ bytes_at self.now.bytes addr N) }
@@ -143,3 +160,6 @@ impl Pages {
         self.bytes[at..].first_chunk()
     }
 }
+
+#[cfg(test)]
+mod tests;

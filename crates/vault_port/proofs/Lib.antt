@@ -1,3 +1,4 @@
 pub mod Telling
 pub mod Rising
 pub mod Pieces
+pub mod Shelf

@@ -1,5 +1,5 @@
 -- What is told, over several calls.
-use Rattle.std.proofs.Common.{Option, Some, None}
+use Rattle.std.proofs.Common.{Result, Ok, Err, OnErr, Option, Some, None}
 use Rattle.vault_port.specs.Told.{WhereTold, Becomes}
 
 -- what stays the same is related so, where each value is so to itself
@@ -38,3 +38,8 @@ told_weaker P Q weaker (Some x) p = weaker x p
 pub told_both : {A : Type 0} (P Q S : A → Type 0) → ((x : A) → P x → Q x → S x) → (o : Option A) → WhereTold o P → WhereTold o Q → WhereTold o S
 told_both P Q S both None p q = tt
 told_both P Q S both (Some x) p q = both x p q
+
+-- a fact holds whatever the result is
+pub OnErr_by : {T E P : Type 0} (r : Result T E) → P → OnErr r P
+OnErr_by (Ok x) p = tt
+OnErr_by (Err e) p = p

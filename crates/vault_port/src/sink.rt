@@ -1,8 +1,10 @@
 ghost use Rattle.std.specs.Prelude.{◌≡◌, ◌≤◌, ℕ, List, length, take, Option, IfOk, OnErr, IsErrOf};
+ghost use Rattle.vault_port.specs.declared.sink.SinkFail.TheVariants.{Memory};
 ghost use Rattle.vault_port.specs.Counts.{HasRisen};
 ghost use Rattle.vault_port.specs.Told.{Becomes};
 ghost use Rattle.vault_port.specs.Taken.{Appends};
 
+use std::alloc::AllocError;
 use thiserror::Error;
 
 /// Why a sink took nothing.
@@ -12,6 +14,14 @@ pub enum SinkFail {
     Failed,
     #[error("out of memory")]
     Memory,
+}
+
+impl From<AllocError> for SinkFail {
+    ghost from_gives = { λ _ fail. fail ≡ Memory };
+
+    fn from(_: AllocError) -> SinkFail {
+        SinkFail::Memory
+    }
 }
 
 /// Where printed bytes go.

@@ -1,8 +1,10 @@
 ghost use Rattle.std.specs.Prelude.{◌≡◌, ◌≢◌, ◌≤◌, ◌↔◌, ℕ, List, ◌++◌, length, take, Option, None, IfOk, OnErr, IsErrOf};
+ghost use Rattle.vault_port.specs.declared.vault.VaultFail.TheVariants.{Memory};
 ghost use Rattle.vault_port.specs.Counts.{HasRisen};
 ghost use Rattle.vault_port.specs.Told.{WhereTold, Becomes};
 ghost use Rattle.vault_port.specs.Files.{Files, bytes_of, IsFetched, ChangesOnly, ChangesAtMost};
 
+use std::alloc::AllocError;
 use thiserror::Error;
 
 /// Why a call of a vault did nothing or not all of its work.
@@ -14,6 +16,14 @@ pub enum VaultFail {
     Failed,
     #[error("out of memory")]
     Memory,
+}
+
+impl From<AllocError> for VaultFail {
+    ghost from_gives = { λ _ fail. fail ≡ Memory };
+
+    fn from(_: AllocError) -> VaultFail {
+        VaultFail::Memory
+    }
 }
 
 /// Files by name, as a program reads and writes them.

@@ -1,17 +1,14 @@
 -- Counts of bits: those of the definitions are the ones of Rust's methods.
-use Rattle.std.proofs.Common.{◌≡◌, ℕ, zero, suc, ◌+◌, ◌-◌, ◌*◌, ◌/◌, ◌%◌, ◌^◌, ◌<◌, ◌≤◌, Bool, true, false, cond, eqb, List, [], ◌∷◌, ◌++◌, length, refl, sym, ◌∙◌, ap, subst, inl, inr, arith}
+use Rattle.std.proofs.Common.{◌≡◌, ℕ, zero, suc, ◌+◌, ◌/◌, ◌%◌, ◌^◌, ◌<◌, Bool, cond, eqb, List, [], ◌∷◌, ◌++◌, length, refl, sym, ◌∙◌, ap, subst, inl, inr, arith}
 use mathlib.Core.List.{reverse, reverse-cons}
 use Rattle.std.proofs.lemmas.List.{length-reverse}
 use lib.Count.{count_leading_zeros, count_trailing_zeros, ones, under, ones_step, leading_of_zero, leading_top}
-use Rattle.std.specs.List.{prefix_len, suffix_len}
+use Rattle.std.specs.List.{prefix_len}
 use Rattle.std.proofs.lemmas.List.Sums.{sum_by-cons}
 use Rattle.std.proofs.lemmas.Bool.{cases_lt}
 use Rattle.std.proofs.lemmas.Bool.Decides.{nat_tests}
 use Rattle.std.proofs.Math.Nat.{pow-suc}
 use Rattle.wa_ops.specs.Integers.{bits_of, iclz, ictz, ipopcnt}
-
-is_zero : ℕ → Bool
-is_zero b = eqb b 0
 
 counts_zero : (b k : ℕ) → cond (eqb b 0) (1 + k) 0 ≡ under b k
 counts_zero zero k = omega arith
@@ -75,13 +72,13 @@ iclz_is (suc N) i h = ap (prefix_len (λ x. eqb x 0)) (reverse-cons (i % 2) (bit
     top zero p e = all_zero 0 0 (e ∙ leading_of_zero N) ∙ omega arith
     top (suc n) p e =
         elim (cases_lt 0 (suc n / 2)) [
-          inl above ↦
-            stays (reverse (bits_of N (suc n / 2))) (suc n % 2)
+          | inl above ↦
+              stays (reverse (bits_of N (suc n / 2))) (suc n % 2)
               (subst (λ (m : ℕ). prefix_len (λ x. eqb x 0) (reverse (bits_of N (suc n / 2))) < m) (sym (size (suc n / 2)))
-                (subst (λ (m : ℕ). m < N) (sym e) (leading_below N (suc n / 2) above (half_below N (suc n) p)))) ∙ e
-        | inr none ↦
-            let zero_above : suc n / 2 ≡ 0 = omega arith in
-            let all : count_leading_zeros N (suc n / 2) ≡ N = ap (count_leading_zeros N) zero_above ∙ leading_of_zero N in
-            let one : suc n % 2 ≡ 1 = omega arith in
-            all_zero (suc n % 2) (suc n / 2) (e ∙ all) ∙ ap (λ (b : ℕ). N + under b 0) one ∙ omega arith ∙ sym all
+              (subst (λ (m : ℕ). m < N) (sym e) (leading_below N (suc n / 2) above (half_below N (suc n) p)))) ∙ e
+          | inr none ↦
+              let zero_above : suc n / 2 ≡ 0 = omega arith in
+              let all : count_leading_zeros N (suc n / 2) ≡ N = ap (count_leading_zeros N) zero_above ∙ leading_of_zero N in
+              let one : suc n % 2 ≡ 1 = omega arith in
+              all_zero (suc n % 2) (suc n / 2) (e ∙ all) ∙ ap (λ (b : ℕ). N + under b 0) one ∙ omega arith ∙ sym all
         ]

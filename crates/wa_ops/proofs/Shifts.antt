@@ -1,9 +1,8 @@
 -- Shifts and rotations: those of the definitions are the ones of Rust's operators and methods.
-use Rattle.std.proofs.Common.{◌≡◌, ℕ, Bool, true, false, cond, ltb, zero, suc, ◌+◌, ◌-◌, ◌*◌, ◌/◌, ◌%◌, ◌^◌, ◌<◌, ◌≤◌, refl, sym, ◌∙◌, ap, subst, inl, inr, arith}
+use Rattle.std.proofs.Common.{◌≡◌, ℕ, Bool, true, false, cond, ltb, zero, suc, ◌+◌, ◌-◌, ◌*◌, ◌/◌, ◌%◌, ◌^◌, ◌<◌, ◌≤◌, sym, ◌∙◌, ap, subst, arith}
 use Rattle.std.specs.Prelude.{bit_or, pos, negsuc}
 use Rattle.std.specs.Int.{w32, w64, cast_signed, cast_unsigned, int_shr}
 use Rattle.std.proofs.lemmas.Nat.{pow-add, or_shifted, or_comm, shl-shr, shr_below, div-mul-add, div-add-mod', mod_below, pow_pos}
-use Rattle.std.proofs.lemmas.Bool.{cases_lt}
 use Rattle.std.proofs.Math.Nat.{mul-mod_left, mod-eq_of_lt, mod_self, div-eq_of_lt, zero-mul, add-mul, suc-mul}
 use lib.Bits.{or_self}
 use lib.Pow.{mod-pow-add, pow_mono}
@@ -49,9 +48,9 @@ rotr_is N (suc k) i h p =
     let turn : (N - suc k) % N ≡ N - suc k = mod-eq_of_lt (omega arith) in
     let back : N - (N - suc k) ≡ suc k = omega arith in
     let low : i * 2 ^ (N - suc k) % 2 ^ N ≡ i % 2 ^ suc k * 2 ^ (N - suc k) =
-      shifted_low N (N - suc k) i (omega arith) ∙ ap (λ (n : ℕ). i % 2 ^ n * 2 ^ (N - suc k)) back in
+    shifted_low N (N - suc k) i (omega arith) ∙ ap (λ (n : ℕ). i % 2 ^ n * 2 ^ (N - suc k)) back in
     let below : i / 2 ^ suc k < 2 ^ (N - suc k) =
-      shr_below i (N - suc k) (suc k) (let e : N ≡ N - suc k + suc k = omega arith in subst (λ (n : ℕ). i < 2 ^ n) e p) in
+    shr_below i (N - suc k) (suc k) (let e : N ≡ N - suc k + suc k = omega arith in subst (λ (n : ℕ). i < 2 ^ n) e p) in
     ap (λ (t : ℕ). bit_or (i / 2 ^ suc k) (i * 2 ^ t % 2 ^ N)) turn
     ∙ ap (λ (x : ℕ). bit_or (i / 2 ^ suc k) x) low
     ∙ or_comm (i / 2 ^ suc k) (i % 2 ^ suc k * 2 ^ (N - suc k))
@@ -65,28 +64,28 @@ shr-complement N k i h p =
     let r = i % 2 ^ k in
     let d = 2 ^ (N - k) - suc q in
     let below : q < 2 ^ (N - k) =
-      shr_below i (N - k) k (let e : N ≡ N - k + k = omega arith in subst (λ (n : ℕ). i < 2 ^ n) e p) in
+    shr_below i (N - k) k (let e : N ≡ N - k + k = omega arith in subst (λ (n : ℕ). i < 2 ^ n) e p) in
     let parts : q * 2 ^ k + r ≡ i = div-add-mod' i (2 ^ k) in
     let rest : r < 2 ^ k = mod_below i (2 ^ k) (pow_pos k) in
     let all : 2 ^ N ≡ 2 ^ (N - k) * 2 ^ k =
-      (let e : N ≡ N - k + k = omega arith in ap (λ (n : ℕ). 2 ^ n) e ∙ pow-add 2 (N - k) k) in
+    (let e : N ≡ N - k + k = omega arith in ap (λ (n : ℕ). 2 ^ n) e ∙ pow-add 2 (N - k) k) in
     let high : 2 ^ (N - k) ≡ suc q + d = omega arith in
     let product : 2 ^ N ≡ q * 2 ^ k + 2 ^ k + d * 2 ^ k =
-      all ∙ ap (λ (m : ℕ). m * 2 ^ k) high ∙ add-mul (suc q) d (2 ^ k) ∙ ap (λ (m : ℕ). m + d * 2 ^ k) (suc-mul q (2 ^ k)) in
+    all ∙ ap (λ (m : ℕ). m * 2 ^ k) high ∙ add-mul (suc q) d (2 ^ k) ∙ ap (λ (m : ℕ). m + d * 2 ^ k) (suc-mul q (2 ^ k)) in
     let complement : 2 ^ N - suc i ≡ d * 2 ^ k + (2 ^ k - suc r) = omega arith in
     let quotient : (2 ^ N - suc i) / 2 ^ k ≡ d =
-      ap (λ (m : ℕ). m / 2 ^ k) complement ∙ div-mul-add d (2 ^ k) (2 ^ k - suc r) (omega arith) in
+    ap (λ (m : ℕ). m / 2 ^ k) complement ∙ div-mul-add d (2 ^ k) (2 ^ k - suc r) (omega arith) in
     let fits : 2 ^ (N - k) ≤ 2 ^ N = pow_mono (let e : N - k ≤ N = omega arith in e) in
     ap (λ (m : ℕ). 2 ^ N - suc m) quotient ∙ omega arith
 
 -- the shift of a signed number of 32 bits: copies of the highest bit come in
 pub shr_s_32 : (i k : ℕ) → i < 2 ^ 32 → k < 32
     → cast_unsigned w32 (int_shr (cast_signed w32 i) k)
-      ≡ i / 2 ^ k + cond (ltb i (2 ^ 31)) 0 (2 ^ 32 - 2 ^ (32 - k))
+    ≡ i / 2 ^ k + cond (ltb i (2 ^ 31)) 0 (2 ^ 32 - 2 ^ (32 - k))
 shr_s_32 i k h p = at_sign (ltb i (2 ^ 31))
   where
     at_sign : (low : Bool)
-      → cast_unsigned w32 (int_shr (cond low (pos i) (negsuc (2 ^ 32 - suc i))) k)
+        → cast_unsigned w32 (int_shr (cond low (pos i) (negsuc (2 ^ 32 - suc i))) k)
         ≡ i / 2 ^ k + cond low 0 (2 ^ 32 - 2 ^ (32 - k))
     at_sign true = omega arith
     at_sign false = shr-complement 32 k i (omega arith) h
@@ -94,11 +93,11 @@ shr_s_32 i k h p = at_sign (ltb i (2 ^ 31))
 -- the shift of a signed number of 64 bits: copies of the highest bit come in
 pub shr_s_64 : (i k : ℕ) → i < 2 ^ 64 → k < 64
     → cast_unsigned w64 (int_shr (cast_signed w64 i) k)
-      ≡ i / 2 ^ k + cond (ltb i (2 ^ 63)) 0 (2 ^ 64 - 2 ^ (64 - k))
+    ≡ i / 2 ^ k + cond (ltb i (2 ^ 63)) 0 (2 ^ 64 - 2 ^ (64 - k))
 shr_s_64 i k h p = at_sign (ltb i (2 ^ 63))
   where
     at_sign : (low : Bool)
-      → cast_unsigned w64 (int_shr (cond low (pos i) (negsuc (2 ^ 64 - suc i))) k)
+        → cast_unsigned w64 (int_shr (cond low (pos i) (negsuc (2 ^ 64 - suc i))) k)
         ≡ i / 2 ^ k + cond low 0 (2 ^ 64 - 2 ^ (64 - k))
     at_sign true = omega arith
     at_sign false = shr-complement 64 k i (omega arith) h

@@ -1,6 +1,6 @@
 -- The operations on integers (standard, section 4.3), over the width N in bits. An integer is its unsigned
 -- number, below 2 ^ N.
-use Rattle.std.specs.Prelude.{ℕ, zero, suc, ◌+◌, ◌-◌, ◌*◌, ◌/◌, ◌%◌, ◌^◌, Bool, true, false, not, ◌==◌, nat_lt, nat_le, if◌then◌else◌, ℤ, pos, negsuc, ◌-ℤ◌, int_lt, int_le, int_div, int_rem, List, [], ◌∷◌, sum, Result, Ok, Err, bit_and, bit_or, bit_xor}
+use Rattle.std.specs.Prelude.{ℕ, zero, suc, ◌+◌, ◌-◌, ◌*◌, ◌/◌, ◌%◌, ◌^◌, Bool, not, ◌==◌, nat_lt, nat_le, if◌then◌else◌, ℤ, pos, negsuc, ◌-ℤ◌, int_lt, int_le, int_div, int_rem, List, [], ◌∷◌, sum, Result, Ok, Err, bit_and, bit_or, bit_xor}
 use Rattle.std.specs.List.{prefix_len, suffix_len}
 use Rattle.std.specs.Ordering.{int_eq}
 use Rattle.wa_types.specs.declared.values.Trap.{Trap}
@@ -63,7 +63,7 @@ abbrev pub idiv_s : ℕ → ℕ → ℕ → Result ℕ Trap
 idiv_s N i j =
     if j == 0 then Err DivideByZero else
     (if int_eq (int_div (signed N i) (signed N j)) (pos (2 ^ (N - 1))) then Err IntegerOverflow else
-     Ok (unsigned N (int_div (signed N i) (signed N j))))
+    Ok (unsigned N (int_div (signed N i) (signed N j))))
 
 abbrev pub irem_u : ℕ → ℕ → Result ℕ Trap
 irem_u i j = if j == 0 then Err DivideByZero else Ok (i % j)

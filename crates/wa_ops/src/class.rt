@@ -1,17 +1,56 @@
 ghost use Rattle.std.specs.Prelude.{◌≡◌};
-ghost use Rattle.wa_ops.specs.Operate.{class_of};
 
 use wa_types::NumOp;
 
-/// The call of this crate that takes an operator.
+/// Which of this crate's calls takes an operator (standard, section 2.4.1).
 #[derive(Clone, Copy, Debug, PartialEq, Eq)]
 pub enum OperatorClass {
-    /// One operand: counts of bits, and the test for zero.
+    /// `unary`: counts of bits, and the test for zero.
     Unary,
-    /// One operand, and a result of the other type.
+    /// `convert`: a result of another type than the operand's.
     Conversion,
-    /// Two operands, and an i32 of 0 or 1.
+    /// `compare`: 0 or 1 of two operands.
     Comparison,
-    /// Two operands, and a result of their type or a trap.
+    /// `binary`: arithmetic, bits, shifts and rotations of two operands.
     Binary,
+}
+
+impl OperatorClass {
+    ghost use Rattle.wa_ops.specs.Operate.{class_of};
+
+    /// The class of an operator.
+    pub fn of(op: NumOp) -> OperatorClass
+        ensures { result ≡ class_of op }
+    {
+        match op {
+            NumOp::I32Eqz | NumOp::I32Clz | NumOp::I32Ctz | NumOp::I32Popcnt =>
+                OperatorClass::Unary,
+            NumOp::I64Eqz | NumOp::I64Clz | NumOp::I64Ctz | NumOp::I64Popcnt =>
+                OperatorClass::Unary,
+            NumOp::I32WrapI64 | NumOp::I64ExtendI32S | NumOp::I64ExtendI32U => {
+                OperatorClass::Conversion
+            }
+            NumOp::I32Eq
+            | NumOp::I32Ne
+            | NumOp::I32LtS
+            | NumOp::I32LtU
+            | NumOp::I32GtS
+            | NumOp::I32GtU
+            | NumOp::I32LeS
+            | NumOp::I32LeU
+            | NumOp::I32GeS
+            | NumOp::I32GeU => OperatorClass::Comparison,
+            NumOp::I64Eq
+            | NumOp::I64Ne
+            | NumOp::I64LtS
+            | NumOp::I64LtU
+            | NumOp::I64GtS
+            | NumOp::I64GtU
+            | NumOp::I64LeS
+            | NumOp::I64LeU
+            | NumOp::I64GeS
+            | NumOp::I64GeU => OperatorClass::Comparison,
+            _ => OperatorClass::Binary,
+        }
+    }
 }

@@ -1,4 +1,11 @@
-//! The operations on integers.
+//! The numeric operators on integers (standard, section 4.3), each opcode at 32 or 64 bits.
+//!
+//! `OperatorClass::of` says which call takes an operator: `unary`, `convert`, `compare` or `binary`. Operands
+//! stand in the order in which they were pushed. The one law: each call answers what `operate` of
+//! `specs/Operate.antt` says of the same operands, topmost first: a value of the operator's result type, or for
+//! `binary` a trap. What the operators mean stands once for both widths in `specs/Integers.antt`.
+//!
+//! `load_value` is the same for what a load reads. No call takes memory.
 #![tactic(auto)]
 
 ghost use Rattle.std.specs.Prelude.{◌≡◌, [], ◌∷◌, Some, Ok};
@@ -7,13 +14,18 @@ ghost use Rattle.wa_ops.specs.declared.class.OperatorClass.TheVariants.{Unary, C
 ghost use Rattle.wa_ops.specs.Operate.{operate, class_of, type_of};
 
 mod class;
+mod loads;
 mod narrow;
+#[cfg(test)]
+mod tests;
 mod wide;
 
 pub use class::OperatorClass;
-
+pub use loads::load_value;
 use wa_types::{NumOp, Trap, Value};
 
+/// The value of an operator with one operand: the counts of bits and the test for zero (standard, section
+/// 4.3.2). `clz` and `ctz` of 0 are the width.
 pub fn unary(op: NumOp, a: Value) -> Value
     requires class { class_of op ≡ Unary }
     requires types { operand_types op ≡ type_of a ∷ [] }
@@ -21,10 +33,10 @@ pub fn unary(op: NumOp, a: Value) -> Value
 {
     match (op, a) {
         (NumOp::I32Eqz, Value::I32(i)) => Value::I32(u32::from(i == 0)),
-        (NumOp::I64Eqz, Value::I64(i)) => Value::I32(u32::from(i == 0)),
         (NumOp::I32Clz, Value::I32(i)) => Value::I32(i.leading_zeros()),
         (NumOp::I32Ctz, Value::I32(i)) => Value::I32(i.trailing_zeros()),
         (NumOp::I32Popcnt, Value::I32(i)) => Value::I32(i.count_ones()),
+        (NumOp::I64Eqz, Value::I64(i)) => Value::I32(u32::from(i == 0)),
         (NumOp::I64Clz, Value::I64(i)) => Value::I64(u64::from(i.leading_zeros())),
         (NumOp::I64Ctz, Value::I64(i)) => Value::I64(u64::from(i.trailing_zeros())),
         (NumOp::I64Popcnt, Value::I64(i)) => Value::I64(u64::from(i.count_ones())),
@@ -32,6 +44,7 @@ pub fn unary(op: NumOp, a: Value) -> Value
     }
 }
 
+/// The value of a conversion between the two integer types (standard, section 4.3.3).
 pub fn convert(op: NumOp, a: Value) -> Value
     requires class { class_of op ≡ Conversion }
     requires types { operand_types op ≡ type_of a ∷ [] }
@@ -47,6 +60,7 @@ pub fn convert(op: NumOp, a: Value) -> Value
     }
 }
 
+/// The i32 1 where a comparison of `a` with `b` holds, else 0 (standard, section 4.3.2).
 pub fn compare(op: NumOp, a: Value, b: Value) -> Value
     requires class { class_of op ≡ Comparison }
     requires types { operand_types op ≡ type_of b ∷ type_of a ∷ [] }
@@ -59,6 +73,8 @@ pub fn compare(op: NumOp, a: Value, b: Value) -> Value
     }
 }
 
+/// What an operator makes of two operands of its result's type (standard, section 4.3.2): DivideByZero exactly
+/// for a division or remainder by 0, IntegerOverflow exactly for the signed division of the least number by -1.
 pub fn binary(op: NumOp, a: Value, b: Value) -> Result<Value, Trap>
     requires class { class_of op ≡ Binary }
     requires types { operand_types op ≡ type_of b ∷ type_of a ∷ [] }

@@ -82,7 +82,9 @@ fn rem_s(i: u64, j: u64) -> Result<u64, Trap>
 fn shr_s(i: u64, j: u64) -> u64
     ensures { result ≡ ishr_s 64 i j }
 {
-    i.cast_signed().wrapping_shr((j % 64) as u32).cast_unsigned()
+    i.cast_signed()
+        .wrapping_shr((j % 64) as u32)
+        .cast_unsigned()
 }
 
 /// A rotation to the left.

@@ -1,10 +1,10 @@
 -- The shortest spelling of signed numbers, byte by byte.
-use Rattle.std.proofs.Common.{◌≡◌, ℕ, suc, ◌+◌, ◌-◌, ◌*◌, ◌/◌, ◌%◌, ◌^◌, ◌<◌, ◌≤◌, inl, inr, List, [], ◌∷◌, ◌++◌, min, refl, append_assoc, ap, sym, ◌∙◌, arith, length}
+use Rattle.std.proofs.Common.{◌≡◌, ℕ, zero, suc, ◌+◌, ◌-◌, ◌*◌, ◌/◌, ◌%◌, ◌^◌, ◌<◌, ◌≤◌, ◌⊎◌, inl, inr, Ok, List, [], ◌∷◌, ◌++◌, min, refl, append_assoc, ap, sym, ◌∙◌, arith, length}
 use Rattle.std.proofs.lemmas.Bool.{lt-ltb, le-ltb, le-leb, lt-leb, cases_lt}
 use Rattle.std.proofs.Math.Pow.{pow_mono}
 use Rattle.std.proofs.lemmas.List.{length_push}
 use Rattle.wa_types.proofs.LebLemmas.{pow_split, pow_half}
-use Rattle.wa_types.specs.Leb.{signed_spelled, IsLong, IsOneByte}
+use Rattle.wa_types.specs.Leb.{IsSigned, last_signed, signed_spelled, shortest_signed, IsLong, IsOneByte}
 
 -- a number from 0 up to 63 is one byte
 pub signed_low : (k bits n : ℕ) → n < 64 → n < 2 ^ (bits - 1) → signed_spelled (suc k) bits n ≡ n ∷ []
@@ -56,3 +56,46 @@ signed_more text new whole width n room long e before =
     ∙ ap (λ s. text ++ s) (sym (ap (λ i. signed_spelled i width n) k ∙ signed_high _ width n long.above_low long.below_minus)) ∙ before
 
 pub ruleset signed_writing = (signed_last, signed_more, high_many, high_fits)
+
+last_low : (bits b : ℕ) → b < 64 → b < 2 ^ (bits - 1) → last_signed bits b ≡ Ok b
+last_low bits b h small = rw (lt-ltb _ _ h, lt-ltb _ _ small) refl
+
+last_minus : (bits n b : ℕ) → 1 ≤ bits → 2 ^ (bits - 1) ≤ n → n < 2 ^ bits → 2 ^ bits ≤ n + 64 → b + 2 ^ bits ≡ n + 128 → last_signed bits b ≡ Ok n
+last_minus bits n b some h fits small e =
+    let twice = pow_half bits some in
+    let high : 64 ≤ b = omega arith in
+    let past : 128 ≤ b + 2 ^ (bits - 1) = omega (arith, twice) in
+    let is : b + 2 ^ bits - 128 ≡ n = omega arith in
+    rw (le-ltb _ _ high, le-ltb _ _ past) (ap Ok is)
+
+-- what the bits' first byte is: the only one, or one of several
+first_byte : (bits n : ℕ) → 1 ≤ bits → n < 2 ^ bits → IsLong bits n ⊎ ((b : ℕ) × (b < 128) × (last_signed bits b ≡ Ok n) × IsOneByte bits n b)
+first_byte bits n some fits =
+    let twice = pow_half bits some in
+    elim (cases_lt n (min 64 (2 ^ (bits - 1)))) [
+      | inl low ↦ inr (n, omega arith, last_low bits n (omega arith) (omega arith), one_low bits n (omega arith) (omega arith))
+      | inr high ↦ elim (cases_lt (n + 64) (2 ^ bits)) [
+        | inl large ↦ inl (record { above_low = high; below_minus = large })
+        | inr small ↦
+            let half : 2 ^ (bits - 1) ≤ n = omega (arith, twice) in
+            let byte : n + 128 - 2 ^ bits + 2 ^ bits ≡ n + 128 = omega arith in
+            inr (n + 128 - 2 ^ bits, omega arith, last_minus bits n _ some half fits small byte, one_minus bits n _ some half small byte)
+      ]
+    ]
+
+-- the shortest spelling is one
+signed_spells : (k bits n : ℕ) → 1 ≤ bits → bits ≤ 7 * suc k → n < 2 ^ bits → IsSigned bits (signed_spelled (suc k) bits n) n
+signed_spells zero bits n some few fits = elim (first_byte bits n some fits) [
+  | inl long ↦ absurd (let many = high_many bits n long some in omega (arith, many))
+  | inr one ↦ rw (one.3.byte zero) (inl (one.1, refl, one.2))
+]
+signed_spells (suc k) bits n some few fits = elim (first_byte bits n some fits) [
+  | inl long ↦
+      let many : 7 < bits = high_many bits n long some in
+      rw (signed_high (suc k) bits n long.above_low long.below_minus)
+      (inr (omega arith, omega arith, many, n / 128, omega arith, signed_spells k (bits - 7) (n / 128) (omega arith) (omega arith) (high_fits bits n many fits)))
+  | inr one ↦ rw (one.3.byte (suc k)) (inl (one.1, refl, one.2))
+]
+
+pub shortest_signed_spells : (bits n : ℕ) → 1 ≤ bits → bits ≤ 64 → n < 2 ^ bits → IsSigned bits (shortest_signed bits n) n
+shortest_signed_spells bits n some few fits = signed_spells 9 bits n some (omega arith) fits

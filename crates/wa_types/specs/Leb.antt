@@ -1,5 +1,5 @@
 -- Numbers in LEB128 (standard, section 5.2.2).
-use Rattle.std.specs.Prelude.{◌≡◌, ℕ, ◌+◌, ◌-◌, ◌*◌, ◌^◌, ◌<◌, ◌≤◌, ◌⊎◌, ◌%◌, ◌/◌, zero, suc, nat_lt, nat_le, min, if◌then◌else◌, List, [], ◌∷◌, Result, Ok, Err, ℤ}
+use Rattle.std.specs.Prelude.{◌≡◌, ℕ, ◌+◌, ◌-◌, ◌*◌, ◌^◌, ◌<◌, ◌≤◌, ◌⊎◌, ◌%◌, ◌/◌, zero, suc, nat_lt, nat_le, min, if◌then◌else◌, List, [], ◌∷◌, ◌++◌, length, Result, Ok, Err, ℤ}
 use Rattle.std.specs.Int.{Width, cast_unsigned}
 use Rattle.wa_types.specs.declared.leb.LebFault.{LebFault}
 use Rattle.wa_types.specs.declared.leb.LebFault.TheVariants.{Short, Long, Bits}
@@ -76,6 +76,14 @@ signed_spelled (suc k) bits n =
 -- the shortest spelling of a signed number, as so many bits of two's complement
 abbrev pub shortest_signed : ℕ → ℕ → List ℕ
 shortest_signed bits n = signed_spelled 10 bits n
+
+-- a number that stands at the front of these bytes: its bytes, what follows them, and the place behind it
+pub record Front (Spells : List ℕ → Type 0) (bytes : List ℕ) (at end : ℕ) : Type 0 where
+  pub front : List ℕ
+  pub rest : List ℕ
+  pub split : bytes ≡ front ++ rest
+  pub place : end ≡ at + length front
+  pub spells : Spells front
 
 -- these bits of two's complement take more bytes than one
 pub record IsLong (bits n : ℕ) : Type 0 where

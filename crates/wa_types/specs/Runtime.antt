@@ -4,9 +4,9 @@ use Rattle.std.specs.Prelude.{ℕ, ◌+◌, List, [], ◌∷◌, ◌++◌, lengt
 use Rattle.wa_types.specs.declared.values.ValType.TheVariants.{I32}
 use Rattle.wa_types.specs.declared.values.Value.TheVariants.{I32 as value_32}
 use Rattle.wa_types.specs.declared.operators.NumOp.TheVariants.{I32GtU}
-use Rattle.wa_types.specs.declared.syntax.Limits.{Limits}
 use Rattle.wa_types.specs.declared.syntax.Space.TheVariants.{Func as a_func}
 use Rattle.wa_types.specs.declared.syntax.Export.{Export}
+use Rattle.wa_types.specs.Base.{added_memories}
 use Rattle.wa_types.specs.Modules.{func_sorts, all_memories, all_globals}
 use Rattle.wa_types.specs.Syntax.{const, num, global_get, global_set, load, basic, local_get, unreachable, Code, done, plain, branch, FuncType, Func, GlobalDef, Module}
 
@@ -17,15 +17,6 @@ func_space m = length (func_sorts m)
 -- how many globals, imports included
 abbrev pub global_space : Module → ℕ
 global_space m = length (all_globals m)
-
--- one page at least and at most
-abbrev pub one_page : Limits
-one_page = record { min = 1; max = Some 1 }
-
--- the memory of a module that has none
-abbrev pub added_memories : List Limits → List Limits
-added_memories [] = one_page ∷ []
-added_memories _ = []
 
 -- [i32] -> [], [] -> [] and [] -> [i32]
 abbrev pub runtime_types : List FuncType

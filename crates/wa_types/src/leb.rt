@@ -1,6 +1,6 @@
-ghost use Rattle.std.specs.Prelude.{◌≡◌, ℕ, ◌+◌, ◌*◌, ◌<◌, ◌≤◌, ◌^◌, ◌++◌, [], ◌∷◌, length, drop, IfOk, OnOk, OnErr, MatchOption};
+ghost use Rattle.std.specs.Prelude.{◌≡◌, ℕ, ◌+◌, ◌*◌, ◌<◌, ◌≤◌, ◌^◌, ◌++◌, List, [], ◌∷◌, length, drop, slice_index, Ok, IfOk, OnOk, OnErr, MatchOption};
 ghost use Rattle.std.specs.Int.{w32, w64, cast_unsigned};
-ghost use Rattle.wa_types.specs.Leb.{unsigned_at, signed_at, last_signed, in_bits, shortest, shortest_signed, IsLong, IsOneByte};
+ghost use Rattle.wa_types.specs.Leb.{unsigned_at, signed_at, last_signed, in_bits, shortest, shortest_signed, IsLong, IsOneByte, IsUnsigned, IsSigned, Front};
 
 use std::alloc::{AllocError, Global};
 use std::marker::Model;
@@ -181,7 +181,8 @@ impl Spelling {
 
     /// The bytes.
     pub fn as_slice(&self) -> &[u8]
-        ensures { result.now ≡ self.now }
+        ensures bytes { result.now ≡ self.now }
+        ensures few { length result.now ≤ 10 }
     {
         &self.room[..self.used]
     }
@@ -245,4 +246,70 @@ pub fn write_s64(_alloc: Global, out: &mut Vec<u8>, v: i64) -> Result<(), AllocE
     ensures err { OnErr result (out.new.items ≡ out.old.items) }
 {
     out.extend_from_slice(Spelling::of_signed(v.cast_unsigned(), 64).as_slice())
+}
+
+/// The laws of unsigned numbers: reading answers exactly what the bytes spell, no spelling begins another,
+/// and the shortest spelling is one.
+pub fn unsigned_spelling_laws()
+    ensures read_is_spelled { (bits : ℕ) (bytes : List ℕ) (at n end : ℕ) → ((i : ℕ) → slice_index bytes i < 256)
+        → unsigned_at bits bytes at ≡ (Ok n, end) → Front (λ front. IsUnsigned bits front n) bytes at end }
+    ensures spelled_is_read { (bits : ℕ) (front rest : List ℕ) (n at : ℕ) → IsUnsigned bits front n
+        → unsigned_at bits (front ++ rest) at ≡ (Ok n, at + length front) }
+    ensures one_form { (bits : ℕ) (a b x y : List ℕ) (m n : ℕ) → IsUnsigned bits a m → IsUnsigned bits b n
+        → a ++ x ≡ b ++ y → (m ≡ n) × (a ≡ b) }
+    ensures shortest_spells { (bits n : ℕ) → n < 2 ^ 64 → n < 2 ^ bits → IsUnsigned bits (shortest n) n }
+{}
+
+/// The laws of signed numbers, as those of unsigned ones.
+pub fn signed_spelling_laws()
+    ensures read_is_spelled { (bits : ℕ) (bytes : List ℕ) (at n end : ℕ) → ((i : ℕ) → slice_index bytes i < 256)
+        → signed_at bits bytes at ≡ (Ok n, end) → Front (λ front. IsSigned bits front n) bytes at end }
+    ensures spelled_is_read { (bits : ℕ) (front rest : List ℕ) (n at : ℕ) → IsSigned bits front n
+        → signed_at bits (front ++ rest) at ≡ (Ok n, at + length front) }
+    ensures one_form { (bits : ℕ) (a b x y : List ℕ) (m n : ℕ) → IsSigned bits a m → IsSigned bits b n
+        → a ++ x ≡ b ++ y → (m ≡ n) × (a ≡ b) }
+    ensures shortest_spells { (bits n : ℕ) → 1 ≤ bits → bits ≤ 64 → n < 2 ^ bits → IsSigned bits (shortest_signed bits n) n }
+{}
+
+#[cfg(test)]
+mod tests {
+    use super::*;
+    use std::test::Fail;
+
+    #[test]
+    fn numbers_are_spelled_as_in_the_standard(rt: HostRuntime) -> Result<(), Fail> {
+        let alloc = rt.alloc();
+        let wide = [
+            (-1i64, b"\x7f".as_slice()),
+            (-64, b"\x40".as_slice()),
+            (-65, b"\xbf\x7f".as_slice()),
+            (63, b"\x3f".as_slice()),
+            (64, b"\xc0\x00".as_slice()),
+            (
+                i64::MIN,
+                b"\x80\x80\x80\x80\x80\x80\x80\x80\x80\x7f".as_slice(),
+            ),
+            (
+                i64::MAX,
+                b"\xff\xff\xff\xff\xff\xff\xff\xff\xff\x00".as_slice(),
+            ),
+        ];
+        for (n, spelling) in wide {
+            let mut out = Vec::new(alloc);
+            write_s64(alloc, &mut out, n)?;
+            assert_eq!(rt; out.as_slice(), spelling, "{n}");
+            assert_eq!(rt; read_s64(spelling, &mut 0)?, n);
+        }
+        let mut out = Vec::new(alloc);
+        write_s32(alloc, &mut out, i32::MIN)?;
+        write_u32(alloc, &mut out, 624_485)?;
+        assert_eq!(rt;
+            out.as_slice(),
+            b"\x80\x80\x80\x80\x78\xe5\x8e\x26".as_slice()
+        );
+        let mut at = 0;
+        assert_eq!(rt; read_s32(&out, &mut at)?, i32::MIN);
+        assert_eq!(rt; read_u32(&out, &mut at)?, 624_485);
+        Ok(())
+    }
 }

@@ -7,6 +7,7 @@
 //! module is written as (`specs/Encoding.antt`).
 #![tactic(auto)]
 
+mod control;
 mod instrs;
 mod leb;
 mod names;
@@ -14,9 +15,13 @@ mod operators;
 mod syntax;
 mod typing_laws;
 mod values;
+mod weights;
 
 pub use instrs::Instr;
-pub use leb::{LebFault, Spelling, read_s32, read_s64, read_u32, write_s32, write_s64, write_u32};
+pub use leb::{
+    LebFault, Spelling, read_s32, read_s64, read_u32, signed_spelling_laws, unsigned_spelling_laws,
+    write_s32, write_s64, write_u32,
+};
 pub use names::Name;
 pub use operators::NumOp;
 pub use syntax::{
@@ -28,3 +33,4 @@ pub use typing_laws::{
     valid_is_all_hold,
 };
 pub use values::{Trap, ValType, Value};
+pub use weights::weight;

@@ -1,0 +1,75 @@
+-- What `transform` does to the files and what it prints.
+use Rattle.std.specs.Prelude.{◌≡◌, ◌⊎◌, ℕ, List, ◌++◌, length, take, Option, Some, None}
+use Rattle.vault_port.specs.Counts.{HasRisen}
+use Rattle.vault_port.specs.Files.{Files, bytes_of, KeepsOthers, ChangesOnly}
+use Rattle.vault_port.specs.Told.{WhereTold, Becomes}
+use Rattle.vault_port.specs.Taken.{Appends, AppendsLess}
+use Rattle.wa_types.specs.Syntax.{Module}
+use Rattle.wa_types.specs.Encoding.{Enc}
+use Rattle.wa_types.specs.Runtime.{with_runtime}
+use Rattle.asyncify_app.specs.Lines.{memory_line, usage_line, not_built_line, read_fault_line, write_fault_line, done_line}
+use Rattle.asyncify_app.specs.Small.{IsSmall}
+
+-- the bytes are those that this small module is written as
+abbrev pub IsWrittenAs : List ℕ → Module → Type 0
+IsWrittenAs bytes m = IsSmall m × (bytes ≡ Enc m)
+
+-- the bytes are those of some small module
+abbrev pub HoldsSmall : List ℕ → Type 0
+HoldsSmall bytes = (m : Module) × IsWrittenAs bytes m
+
+-- the bytes are a small module of so many functions, and the text is that module with the runtime's parts
+abbrev pub IsRewritten : List ℕ → ℕ → List ℕ → Type 0
+IsRewritten bytes functions text =
+    (m : Module) × IsWrittenAs bytes m × (functions ≡ length m.funcs) × (text ≡ Enc (with_runtime m))
+
+-- OUT holds the small module of IN with the runtime's parts, and the other files are as before.
+pub record IsTransformed (input output : List ℕ) (old new : Files) : Type 0 where
+  pub «module» : Module
+  pub source : IsWrittenAs (bytes_of old input) «module»
+  pub written : ChangesOnly output (Enc (with_runtime «module»)) old new
+
+-- OUT is as before, or holds some first bytes of what it would hold; the other files are as before.
+pub record IsCutShort (input output : List ℕ) (old new : Files) : Type 0 where
+  pub left : (new output ≡ old output)
+      ⊎ ((m : Module) × IsWrittenAs (bytes_of old input) m × (n : ℕ) × (new output ≡ Some (take n (Enc (with_runtime m)))))
+  pub others : KeepsOthers output old new
+
+-- the functions of the small module that these bytes spell, and the bytes of what is written
+abbrev pub IsCount : List ℕ → ℕ → ℕ → Type 0
+IsCount source functions bytes =
+    (m : Module) × IsWrittenAs source m × (functions ≡ length m.funcs) × (bytes ≡ length (Enc (with_runtime m)))
+
+-- the line of a module that was written; where the files are told, that of the small module in IN
+abbrev pub IsDoneLine : Option Files → List ℕ → List ℕ → Type 0
+IsDoneLine files input line =
+    (functions : ℕ) × (bytes : ℕ) × (line ≡ done_line functions 0 bytes) × WhereTold files (λ all. IsCount (bytes_of all input) functions bytes)
+
+-- the line of a refusal, or of a module that was written
+abbrev pub IsLine : Option Files → List ℕ → List ℕ → List ℕ → Type 0
+IsLine files input output line =
+    (line ≡ not_built_line) ⊎ (line ≡ read_fault_line input) ⊎ (line ≡ write_fault_line output) ⊎ IsDoneLine files input line
+
+-- the line was printed, or less of it where the sink has failed
+abbrev pub Prints : List ℕ → ℕ → ℕ → List ℕ → List ℕ → Type 0
+Prints line faults faults' old new = Appends line old new ⊎ (AppendsLess line old new × HasRisen faults faults')
+
+-- some first bytes of the line on memory were printed
+abbrev pub EndsInMemory : List ℕ → List ℕ → Type 0
+EndsInMemory old new = (k : ℕ) × (new ≡ old ++ take k memory_line)
+
+-- some first bytes of this line, and then some of the line on memory, were printed
+abbrev pub PrintsMemory : List ℕ → List ℕ → List ℕ → Type 0
+PrintsMemory line old new = (n : ℕ) × (k : ℕ) × (new ≡ old ++ take n line ++ take k memory_line)
+
+-- the line of the module that was written was printed
+abbrev pub PrintsDone : Option Files → List ℕ → List ℕ → List ℕ → Type 0
+PrintsDone files input old new = (line : List ℕ) × IsDoneLine files input line × Appends line old new
+
+-- less of that line was printed
+abbrev pub PrintsLess : Option Files → List ℕ → List ℕ → List ℕ → Type 0
+PrintsLess files input old new = (line : List ℕ) × IsDoneLine files input line × AppendsLess line old new
+
+-- some first bytes of a line of the command, and then some of the line on memory, were printed
+abbrev pub RunsOutOfMemory : Option Files → List ℕ → List ℕ → List ℕ → List ℕ → Type 0
+RunsOutOfMemory files input output old new = (line : List ℕ) × IsLine files input output line × PrintsMemory line old new

@@ -1,0 +1,20 @@
+-- Calls that fail by their number.
+use Rattle.std.specs.Prelude.{ℕ, ◌≡◌, ◌+◌, ◌-◌, ◌^◌, min, List}
+use Rattle.vault_port.specs.declared.schedule.Schedule.{Schedule}
+
+-- one more; a u64 stands still at its greatest
+abbrev pub one_more : ℕ → ℕ
+one_more count = min (count + 1) (2 ^ 64 - 1)
+
+-- the numbers of the calls that fail
+abbrev pub failing : Schedule → List ℕ
+failing schedule = schedule.fail.items
+
+-- the number of the next call, from 1
+abbrev pub next_call : Schedule → ℕ
+next_call schedule = one_more schedule.calls
+
+-- after a call the same numbers fail, and the next call has the next number
+pub record GoesOn (old new : Schedule) : Type 0 where
+  pub same : failing new ≡ failing old
+  pub counted : new.calls ≡ next_call old

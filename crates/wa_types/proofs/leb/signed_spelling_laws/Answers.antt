@@ -1,0 +1,11 @@
+use Rattle.wa_types.proofs.SignedReads.{again, one_form, takes}
+use Rattle.wa_types.proofs.SignedSpelling.{shortest_signed_spells}
+use Rattle.wa_types.proofs.leb.signed_spelling_laws.Goals as goal
+
+pub returns : goal.returns
+returns c = record {
+  read_is_spelled = takes;
+  spelled_is_read = again;
+  one_form = one_form;
+  shortest_spells = shortest_signed_spells;
+}

@@ -1,0 +1,11 @@
+use Rattle.wa_types.proofs.UnsignedReads.{again, one_form, takes}
+use Rattle.wa_types.proofs.UnsignedSpelling.{shortest_spells}
+use Rattle.wa_types.proofs.leb.unsigned_spelling_laws.Goals as goal
+
+pub returns : goal.returns
+returns c = record {
+  read_is_spelled = takes;
+  spelled_is_read = again;
+  one_form = one_form;
+  shortest_spells = shortest_spells;
+}

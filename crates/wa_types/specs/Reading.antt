@@ -1,0 +1,209 @@
+-- Which module the sections of a file are, where they hold no float (standard, sections 2 and 5).
+use Rattle.std.specs.Prelude.{◌≡◌, ℕ, ◌+◌, List, [], ◌∷◌, map, length, flat_map, filter, sum_by, Option, Some, None, Bool, true, false, IsTrue, option_to_list, nat_le, if◌then◌else◌, ◌&&◌, get_or, ◌++◌}
+use Rattle.wa_types.specs.declared.values.ValType.{ValType}
+use Rattle.wa_types.specs.declared.values.Value.{Value}
+use Rattle.wa_types.specs.declared.values.Value.TheVariants.{I32 as value_32, I64 as value_64}
+use Rattle.wa_types.specs.declared.syntax.Run.{Run}
+use Rattle.wa_types.specs.declared.syntax.ImportKind.{ImportKind}
+use Rattle.wa_types.specs.declared.syntax.ImportKind.TheVariants.{Func as a_func_import, Table as a_table_import, Memory as a_memory_import, Global as a_global_import}
+use Rattle.wa_types.specs.declared.syntax.Import.{Import}
+use Rattle.wa_types.specs.declared.syntax.Limits.{Limits}
+use Rattle.wa_types.specs.declared.syntax.Export.{Export}
+use Rattle.wa_types.specs.Operators.{opcode_of}
+use Rattle.wa_types.specs.Encoding.{type_byte, block_type_byte, shape_byte}
+use Rattle.wa_types.specs.Syntax.{Basic, nop, drop, select, const, num, global_get, global_set, load, store, memory_size, memory_grow, Plain, basic, local_get, local_set, local_tee, br, br_if, br_table, return, unreachable, call, call_indirect, Code, done, plain, nest, branch, FuncType, Func, GlobalDef, Elem, Segment, Custom, Module}
+use Rattle.wa_types.specs.Binary.{Placed, Operands, nothing, zero_byte, index, index_and_zero, access, labels, constant, float, RawCode, ended, otherwise, instr, nested, branched, RawType, RawKind, raw_func, raw_table, raw_memory, raw_global, RawImport, RawGlobal, RawElem, RawRun, RawBody, RawSegment, Section, custom, types, imports, functions, tables, memories, globals, exports, start, elements, bodies, segments, section_id}
+use Rattle.wa_types.specs.Opcodes.{is_load_op, is_store_op}
+use Rattle.wa_types.specs.Spells.{Spells, sorts_in, bodies_in}
+
+-- the opcode of an instruction that holds no other (5.4)
+abbrev pub basic_opcode : Basic → ℕ
+basic_opcode nop = 0x01
+basic_opcode drop = 0x1A
+basic_opcode select = 0x1B
+basic_opcode (const (value_32 n)) = 0x41
+basic_opcode (const (value_64 n)) = 0x42
+basic_opcode (num op) = opcode_of op
+basic_opcode (global_get x) = 0x23
+basic_opcode (global_set x) = 0x24
+basic_opcode (load op align offset) = op
+basic_opcode (store op align offset) = op
+basic_opcode memory_size = 0x3F
+basic_opcode memory_grow = 0x40
+
+abbrev pub plain_opcode : Plain → ℕ
+plain_opcode (basic b) = basic_opcode b
+plain_opcode (local_get x) = 0x20
+plain_opcode (local_set x) = 0x21
+plain_opcode (local_tee x) = 0x22
+plain_opcode (br l) = 0x0C
+plain_opcode (br_if l) = 0x0D
+plain_opcode (br_table ls l) = 0x0E
+plain_opcode return = 0x0F
+plain_opcode unreachable = 0x00
+plain_opcode (call x) = 0x10
+plain_opcode (call_indirect x) = 0x11
+
+-- what follows it
+abbrev pub basic_operands : Basic → Operands
+basic_operands nop = nothing
+basic_operands drop = nothing
+basic_operands select = nothing
+basic_operands (const (value_32 n)) = constant 32 n
+basic_operands (const (value_64 n)) = constant 64 n
+basic_operands (num op) = nothing
+basic_operands (global_get x) = index x
+basic_operands (global_set x) = index x
+basic_operands (load op align offset) = access align offset
+basic_operands (store op align offset) = access align offset
+basic_operands memory_size = zero_byte
+basic_operands memory_grow = zero_byte
+
+abbrev pub plain_operands : Plain → Operands
+plain_operands (basic b) = basic_operands b
+plain_operands (local_get x) = index x
+plain_operands (local_set x) = index x
+plain_operands (local_tee x) = index x
+plain_operands (br l) = index l
+plain_operands (br_if l) = index l
+plain_operands (br_table ls l) = labels ls l
+plain_operands return = nothing
+plain_operands unreachable = nothing
+plain_operands (call x) = index x
+plain_operands (call_indirect x) = index_and_zero x
+
+-- a load or a store has an opcode of its own kind, on integers (5.4.4)
+abbrev pub HasKind : Plain → Type 0
+HasKind (basic (load op align offset)) = IsTrue (is_load_op op)
+HasKind (basic (store op align offset)) = IsTrue (is_store_op op)
+HasKind _ = Unit {0}
+
+-- the instruction of this opcode, followed by this
+pub record IsPlain (op : Placed) (operands : Operands) (p : Plain) : Type 0 where
+  pub opcode : op.byte ≡ plain_opcode p
+  pub follows : operands ≡ plain_operands p
+  pub kind : HasKind p
+
+-- the code that a sequence is up to its end, and, where that is an else, the code of the arm behind it
+abbrev pub IsCode : RawCode → (code else_arm : Code) → Type 0
+IsCode (ended k) done else_arm = else_arm ≡ done
+IsCode (otherwise k arm) done else_arm = IsCode arm else_arm done
+IsCode (instr op operands rest) (plain p more) else_arm = IsPlain op operands p × IsCode rest more else_arm
+IsCode (nested op result body rest) (nest s r inner more) else_arm =
+    (op.byte ≡ shape_byte s) × (result.byte ≡ block_type_byte r) × IsCode body inner done × IsCode rest more else_arm
+IsCode (branched op result arms rest) (branch r a b more) else_arm =
+    (result.byte ≡ block_type_byte r) × IsCode arms a b × IsCode rest more else_arm
+IsCode _ _ else_arm = ⊥
+
+abbrev pub IsExpression : RawCode → Code → Type 0
+IsExpression raw c = IsCode raw c done
+
+-- two lists of a length, whose items are each the other's
+abbrev pub Each : {X Y : Type 0} → (X → Y → Type 0) → List X → List Y → Type 0
+Each R [] [] = Unit {0}
+Each R (x ∷ xs) (y ∷ ys) = R x y × Each R xs ys
+Each R _ _ = ⊥
+
+abbrev pub IsValueType : Placed → ValType → Type 0
+IsValueType raw t = raw.byte ≡ type_byte t
+
+pub record IsFuncType (raw : RawType) (t : FuncType) : Type 0 where
+  pub params : Each IsValueType raw.params t.params
+  pub results : Each IsValueType raw.results t.results
+
+abbrev pub IsKind : RawKind → ImportKind → Type 0
+IsKind (raw_func sort) k = k ≡ a_func_import sort
+IsKind (raw_table l) k = k ≡ a_table_import l
+IsKind (raw_memory l) k = k ≡ a_memory_import l
+IsKind (raw_global raw mutable) k = (t : ValType) × (k ≡ a_global_import t mutable) × IsValueType raw t
+
+pub record IsImport (raw : RawImport) (i : Import) : Type 0 where
+  pub module_name : i.module ≡ raw.module_name
+  pub base : i.base ≡ raw.base
+  pub kind : IsKind raw.kind i.kind
+
+pub record IsGlobal (raw : RawGlobal) (g : GlobalDef) : Type 0 where
+  pub ty : IsValueType raw.ty g.ty
+  pub mutable : g.mutable ≡ raw.mutable
+  pub init : IsExpression raw.init g.init
+
+pub record IsElem (raw : RawElem) (e : Elem) : Type 0 where
+  pub table : e.table ≡ raw.table
+  pub offset : IsExpression raw.offset e.offset
+  pub funcs : e.funcs ≡ raw.funcs
+
+pub record IsRun (raw : RawRun) (r : Run) : Type 0 where
+  pub count : r.count ≡ raw.count
+  pub ty : IsValueType raw.ty r.ty
+
+pub record IsBody (raw : RawBody) (f : Func) : Type 0 where
+  pub locals : Each IsRun raw.locals f.locals
+  pub body : IsExpression raw.code f.body
+
+pub record IsSegment (raw : RawSegment) (s : Segment) : Type 0 where
+  pub memory : s.memory ≡ raw.memory
+  pub offset : IsExpression raw.offset s.offset
+  pub bytes : s.bytes ≡ raw.bytes
+
+abbrev pub types_in : Section → List RawType
+types_in (types ts) = ts
+types_in _ = []
+
+abbrev pub imports_in : Section → List RawImport
+imports_in (imports is) = is
+imports_in _ = []
+
+abbrev pub tables_in : Section → List Limits
+tables_in (tables ts) = ts
+tables_in _ = []
+
+abbrev pub memories_in : Section → List Limits
+memories_in (memories ms) = ms
+memories_in _ = []
+
+abbrev pub globals_in : Section → List RawGlobal
+globals_in (globals gs) = gs
+globals_in _ = []
+
+abbrev pub exports_in : Section → List Export
+exports_in (exports es) = es
+exports_in _ = []
+
+abbrev pub starts_in : Section → List ℕ
+starts_in (start x) = x ∷ []
+starts_in _ = []
+
+abbrev pub elements_in : Section → List RawElem
+elements_in (elements es) = es
+elements_in _ = []
+
+abbrev pub segments_in : Section → List RawSegment
+segments_in (segments ss) = ss
+segments_in _ = []
+
+-- the custom sections, each with the id of the last known section before it
+abbrev pub customs_of : (last : ℕ) → List Section → List Custom
+customs_of last [] = []
+customs_of last (custom name bytes ∷ ss) = record { after = last; name = name; bytes = bytes } ∷ customs_of last ss
+customs_of last (s ∷ ss) = customs_of (section_id s) ss
+
+-- The module that the sections are. There is none where they hold a float.
+pub record IsModule (ss : List Section) (m : Module) : Type 0 where
+  pub types : Each IsFuncType (flat_map types_in ss) m.types
+  pub imports : Each IsImport (flat_map imports_in ss) m.imports
+  pub sorts : map (λ (f : Func). f.sort) m.funcs ≡ flat_map sorts_in ss
+  pub funcs : Each IsBody (flat_map bodies_in ss) m.funcs
+  pub tables : m.tables ≡ flat_map tables_in ss
+  pub memories : m.memories ≡ flat_map memories_in ss
+  pub globals : Each IsGlobal (flat_map globals_in ss) m.globals
+  pub exports : m.exports ≡ flat_map exports_in ss
+  pub start : option_to_list m.start ≡ flat_map starts_in ss
+  pub elems : Each IsElem (flat_map elements_in ss) m.elems
+  pub segments : Each IsSegment (flat_map segments_in ss) m.segments
+  pub customs : m.customs ≡ customs_of 0 ss
+
+-- The bytes spell this module.
+pub record SpellsModule (bytes : List ℕ) (m : Module) : Type 0 where
+  pub sections : List Section
+  pub spells : Spells bytes sections
+  pub is_module : IsModule sections m

@@ -1,0 +1,68 @@
+ghost use Rattle.std.specs.Prelude.{◌≡◌, ◌≤◌, ◌<◌, ◌^◌, ◌++◌, ◌+◌, length, OnOk};
+ghost use Rattle.wa_types.specs.Leb.{shortest, shortest_signed};
+ghost use Rattle.wa_types.specs.Encoding.{name_bytes};
+
+use bytes::BytesMut;
+use std::alloc::AllocError;
+use wa_types::{Name, Spelling};
+
+/// How many bytes an unsigned number is spelled in.
+pub fn unsigned_len(n: u64) -> u64
+    ensures exact { result ≡ length (shortest n) }
+    ensures few { result ≤ 10 }
+{
+    Spelling::of_unsigned(n).as_slice().len() as u64
+}
+
+/// Appends an unsigned number.
+pub fn put_unsigned(out: &mut BytesMut, n: u64) -> Result<(), AllocError>
+    ensures { OnOk result (out.new.items ≡ out.old.items ++ shortest n) }
+{
+    out.extend_from_slice(Spelling::of_unsigned(n).as_slice())
+}
+
+/// How many bytes a signed number of so many bits is spelled in, given in two's complement.
+pub fn signed_len(n: u64, bits: u32) -> u64
+    requires most { bits ≤ 64 }
+    requires some { 1 ≤ bits }
+    requires fits { n < 2 ^ bits }
+    ensures exact { result ≡ length (shortest_signed bits n) }
+    ensures few { result ≤ 10 }
+{
+    Spelling::of_signed(n, bits).as_slice().len() as u64
+}
+
+/// Appends a signed number of so many bits, given in two's complement.
+pub fn put_signed(out: &mut BytesMut, n: u64, bits: u32) -> Result<(), AllocError>
+    requires most { bits ≤ 64 }
+    requires some { 1 ≤ bits }
+    requires fits { n < 2 ^ bits }
+    ensures { OnOk result (out.new.items ≡ out.old.items ++ shortest_signed bits n) }
+{
+    out.extend_from_slice(Spelling::of_signed(n, bits).as_slice())
+}
+
+/// How many bytes so many bytes take behind their number (standard, section 5.5.2).
+pub fn sized_len(len: u64) -> u64
+    requires { length (shortest len) + len < 2 ^ 64 }
+    ensures { result ≡ length (shortest len) + len }
+{
+    unsigned_len(len) + len
+}
+
+/// How many bytes a name takes (standard, section 5.2.4).
+pub fn name_len(name: &Name) -> u64
+    requires { length (name_bytes name.now) < 2 ^ 64 }
+    ensures { result ≡ length (name_bytes name.now) }
+{
+    sized_len(name.as_str().len() as u64)
+}
+
+/// Appends a name (standard, section 5.2.4).
+pub fn put_name(out: &mut BytesMut, name: &Name) -> Result<(), AllocError>
+    ensures { OnOk result (out.new.items ≡ out.old.items ++ name_bytes name.now) }
+{
+    let text = name.as_str().as_bytes();
+    put_unsigned(out, text.len() as u64)?;
+    out.extend_from_slice(text)
+}

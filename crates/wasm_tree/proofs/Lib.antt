@@ -1,0 +1,2 @@
+pub mod MeasureLemmas
+pub mod PruneLemmas
