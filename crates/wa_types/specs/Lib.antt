@@ -12,7 +12,6 @@ pub mod Liveness
 pub mod Marks
 pub mod Memory
 pub mod Modules
-pub mod Memory
 pub mod Norm
 pub mod Opcodes
 pub mod Operators
@@ -21,7 +20,6 @@ pub mod Pausing
 pub mod Points
 pub mod Pruned
 pub mod Reading
-pub mod Runtime
 pub mod Sizes
 pub mod Spells
 pub mod Syntax
