@@ -15,6 +15,7 @@ use Rattle.wa_types.specs.declared.syntax.Export.{Export}
 use Rattle.wa_types.specs.declared.syntax.Space.TheVariants as Sp
 use Rattle.wa_types.specs.Syntax.{Basic, drop, const, num, global_get, load, store, memory_grow, basic, local_get, local_set, local_tee, br, br_if, br_table, call, call_indirect, Code, done, plain, nest, branch, a_block, a_loop, FuncType, Func, Elem, Module}
 use Rattle.wa_types.specs.Pruned.{pruned}
+use Rattle.wa_types.specs.Base.{Base}
 use Rattle.wa_types.specs.Pausing.{calls_of, save_all, save_live}
 use Rattle.wa_types.specs.Points.{points, call_points}
 use Rattle.wa_types.specs.Liveness.{behind_calls, live}
@@ -88,11 +89,12 @@ abbrev both : List Entry
 both = entry 1 (i32 0 ∷ []) ∷ entry 1 (i32 1 ∷ []) ∷ []
 
 selects : events_of (Blocking selector (plan_of 64 both) (answer (Some (i32 1)) 0 ∷ answer (Some (i32 2)) 0 ∷ []) 60).events ≡ call_of 0 (i32 14 ∷ []) ∷ answered (Some (i32 1)) ∷ returned 0 (Some (i32 1)) ∷ call_of 0 (i32 9 ∷ []) ∷ answered (Some (i32 2)) ∷ returned 1 (Some (i32 2)) ∷ ended Done ∷ []
+unfolding Base
 selects = refl
 
 -- with pauses: each takes 28 bytes of the area
 selects_paused : events_of (Expected selector save_all (record { at = 0; len = 64 }) (Blocking selector (plan_of 64 both) (answer (Some (i32 1)) 1 ∷ answer (Some (i32 2)) 1 ∷ []) 60).events) ≡ call_of 0 (i32 14 ∷ []) ∷ paused 1 28 ∷ answered (Some (i32 1)) ∷ returned 0 (Some (i32 1)) ∷ call_of 0 (i32 9 ∷ []) ∷ paused 1 28 ∷ answered (Some (i32 2)) ∷ returned 1 (Some (i32 2)) ∷ ended Done ∷ []
-unfolding pruned calls_of points
+unfolding pruned calls_of points Base
 selects_paused = refl
 
 -- ---- the countdown loop with one pause
@@ -111,17 +113,17 @@ abbrev counted : ℕ → List Event
 counted room = call_of 0 (i32 3 ∷ []) ∷ answered (Some (i32 10)) ∷ call_of 0 (i32 2 ∷ []) ∷ paused 4 room ∷ answered (Some (i32 20)) ∷ call_of 0 (i32 1 ∷ []) ∷ answered (Some (i32 30)) ∷ returned 0 (Some (i32 60)) ∷ ended Done ∷ []
 
 counts : events_of (Expected countdown save_all (record { at = 0; len = 64 }) (Blocking countdown (plan_of 64 (entry 1 (i32 3 ∷ []) ∷ [])) tens 100).events) ≡ counted 28
-unfolding pruned calls_of points
+unfolding pruned calls_of points Base
 counts = refl
 
 -- under policy `live`
 counts_live : events_of (Expected countdown save_live (record { at = 0; len = 64 }) (Blocking countdown (plan_of 64 (entry 1 (i32 3 ∷ []) ∷ [])) tens 100).events) ≡ counted 24
-unfolding pruned calls_of points call_points behind_calls live
+unfolding pruned calls_of points call_points behind_calls live Base
 counts_live = refl
 
 -- in an area of 27 bytes the frame doesn't fit
 short : events_of (Expected countdown save_all (record { at = 0; len = 27 }) (Blocking countdown (plan_of 27 (entry 1 (i32 3 ∷ []) ∷ [])) tens 100).events) ≡ call_of 0 (i32 3 ∷ []) ∷ answered (Some (i32 10)) ∷ call_of 0 (i32 2 ∷ []) ∷ ended (UnwindTrap Unreachable 8 27) ∷ []
-unfolding pruned calls_of points
+unfolding pruned calls_of points Base
 short = refl
 
 -- ---- division by zero after a pause
@@ -148,11 +150,11 @@ divides_by : ℕ → List Event
 divides_by n = events_of (Expected divides save_all (record { at = 0; len = 64 }) (Blocking divides (plan_of 64 (entry 1 [] ∷ [])) (answer (Some (i32 n)) 1 ∷ []) 40).events)
 
 by_thousand : divides_by 1000 ≡ call_of 0 (i32 2 ∷ []) ∷ paused 1 44 ∷ answered (Some (i32 1000)) ∷ returned 0 (Some (V.I64 5000000)) ∷ ended Done ∷ []
-unfolding divides_by pruned calls_of points
+unfolding divides_by pruned calls_of points Base
 by_thousand = refl
 
 by_zero : divides_by 0 ≡ call_of 0 (i32 2 ∷ []) ∷ paused 1 44 ∷ answered (Some (i32 0)) ∷ ended (Trapped DivideByZero) ∷ []
-unfolding divides_by pruned calls_of points
+unfolding divides_by pruned calls_of points Base
 by_zero = refl
 
 -- ---- memory growth at its bound: past the declared maximum it gives -1, within it the old size
@@ -160,9 +162,11 @@ abbrev one_page_store : Store
 one_page_store = record { globals = []; memory = replicate 65536 0; table = [] }
 
 grows_not : act (Some 1) memory_grow one_page_store (i32 1 ∷ []) ≡ works one_page_store (i32 4294967295 ∷ [])
+unfolding Base
 grows_not = refl
 
 grows : act (Some 2) memory_grow one_page_store (i32 1 ∷ []) ≡ works (record { globals = []; memory = replicate 131072 0; table = [] }) (i32 0x1 ∷ [])
+unfolding Base
 grows = refl
 
 -- ---- the traps of call_indirect: past the table, no element, another type
@@ -185,23 +189,29 @@ abbrev indirectly : ℕ → ℕ → List Event
 indirectly i n = events_of (blocking_run (indirect i) (plan_of 64 (entry 1 [] ∷ [])) (answer (Some (i32 9)) 0 ∷ []) n).events
 
 past_table : indirectly 3 20 ≡ ended (Trapped UndefinedElement) ∷ []
+unfolding Base
 past_table = refl
 
 not_initialized : indirectly 0 20 ≡ ended (Trapped UninitializedElement) ∷ []
+unfolding Base
 not_initialized = refl
 
 other_type : indirectly 2 20 ≡ ended (Trapped TypeMismatch) ∷ []
+unfolding Base
 other_type = refl
 
 -- a call that traps pays its parameter: 1, 1, 1 and 2
 pays_parameters : indirectly 2 4 ≡ []
+unfolding Base
 pays_parameters = refl
 
 pays_no_more : indirectly 2 5 ≡ ended (Trapped TypeMismatch) ∷ []
+unfolding Base
 pays_no_more = refl
 
 -- the table may hold the import itself
 table_import : indirectly 1 20 ≡ call_of 0 (i32 7 ∷ []) ∷ answered (Some (i32 9)) ∷ returned 0 (Some (i32 9)) ∷ ended Done ∷ []
+unfolding Base
 table_import = refl
 
 -- ---- costs: a module that returns 7 takes 1 for the entry, 1 for the constant and 1 for the end
@@ -224,9 +234,11 @@ abbrev sevens : ℕ → List Event
 sevens n = events_of (blocking_run seven (plan_of 64 (entry 0 [] ∷ [])) [] n).events
 
 within_three : sevens 3 ≡ returned 0 (Some (i32 7)) ∷ ended Done ∷ []
+unfolding Base
 within_three = refl
 
 not_within_two : sevens 2 ≡ []
+unfolding Base
 not_within_two = refl
 
 -- an if with a false condition and no else costs 2: 1 for the entry, 1 for the constant, 2, and 1 for the end
@@ -234,9 +246,11 @@ abbrev empty_arm : ℕ → List Event
 empty_arm n = events_of (blocking_run (record seven { types = record { params = []; results = [] } ∷ []; funcs = record { sort = 0; locals = []; body = then (const (i32 0)) (branch None (then (const (i32 1)) (then drop done)) done done) } ∷ [] }) (plan_of 64 (entry 0 [] ∷ [])) [] n).events
 
 arm_within_five : empty_arm 5 ≡ returned 0 None ∷ ended Done ∷ []
+unfolding Base
 arm_within_five = refl
 
 arm_not_within_four : empty_arm 4 ≡ []
+unfolding Base
 arm_not_within_four = refl
 
 -- ---- answers that end a run
@@ -248,17 +262,21 @@ asked_with a = events_of (Blocking asks_once (plan_of 64 (entry 1 (i32 7 ∷ [])
 
 -- of a wrong type
 wrong_type : asked_with (record { value = Some (V.I64 5); pokes = []; ticks = 1 }) ≡ call_of 0 (i32 7 ∷ []) ∷ ended (BadAnswer 0 (Some (V.I64 5))) ∷ []
+unfolding Base
 wrong_type = refl
 
 no_value : asked_with (record { value = None; pokes = []; ticks = 0 }) ≡ call_of 0 (i32 7 ∷ []) ∷ ended (BadAnswer 0 None) ∷ []
+unfolding Base
 no_value = refl
 
 -- with a poke into the area, of which byte 63 is the last
 pokes_area : asked_with (record { value = Some (i32 5); pokes = record { at = 64; bytes = 1 ∷ 2 ∷ [] } ∷ record { at = 63; bytes = 1 ∷ 2 ∷ [] } ∷ []; ticks = 0 }) ≡ call_of 0 (i32 7 ∷ []) ∷ ended (BadPoke 63 2) ∷ []
+unfolding Base
 pokes_area = refl
 
 -- with a poke past the memory
 pokes_past : asked_with (record { value = Some (i32 5); pokes = record { at = 65533; bytes = 1 ∷ 2 ∷ 3 ∷ 4 ∷ [] } ∷ []; ticks = 0 }) ≡ call_of 0 (i32 7 ∷ []) ∷ ended (BadPoke 65533 4) ∷ []
+unfolding Base
 pokes_past = refl
 
 -- ---- a pause in start
@@ -281,9 +299,11 @@ abbrev start_paused : ℕ → List Event
 start_paused ticks = events_of (Blocking starts (plan_of 64 []) (answer (Some (i32 1)) ticks ∷ []) 20).events
 
 pause_in_start : start_paused 1 ≡ call_of 0 (i32 0 ∷ []) ∷ ended (PauseInStart 0) ∷ []
+unfolding Base
 pause_in_start = refl
 
 no_pause_in_start : start_paused 0 ≡ call_of 0 (i32 0 ∷ []) ∷ answered (Some (i32 1)) ∷ ended Done ∷ []
+unfolding Base
 no_pause_in_start = refl
 
 -- ---- two calls in a row, of which none is instrumented: the second comes while the program unwinds
@@ -291,7 +311,7 @@ abbrev asks_twice : Module
 asks_twice = module_with (record { sort = 0; locals = []; body = plain (local_get 0) (plain (call 0) (plain (call 0) done)) })
 
 breaks_rule_one : events_of (Protocol (with_runtime asks_twice) (record (plan_of 64 (entry 1 (i32 7 ∷ []) ∷ [])) { listed = None }) (answer (Some (i32 1)) 1 ∷ []) 60).events ≡ call_of 0 (i32 7 ∷ []) ∷ ended (Broken 1) ∷ []
-unfolding with_runtime
+unfolding with_runtime Base
 breaks_rule_one = refl
 
 -- ---- a module rewritten by hand, whose run asks with its argument: it pauses, and goes on
@@ -323,7 +343,7 @@ abbrev by_hand_events : ℕ → List Event
 by_hand_events n = events_of (Protocol by_hand by_hand_plan (answer (Some (i32 42)) 5 ∷ []) n).events
 
 pauses_and_goes_on : by_hand_events 200 ≡ call_of 0 (i32 7 ∷ []) ∷ paused 5 20 ∷ answered (Some (i32 42)) ∷ returned 0 (Some (i32 42)) ∷ ended Done ∷ []
-unfolding with_runtime
+unfolding with_runtime Base
 pauses_and_goes_on = refl
 
 -- the note of the pause has the frame behind the two words: the argument, the slot and the number of the call
@@ -332,12 +352,12 @@ bytes_of_note None at len = []
 bytes_of_note (Some x) at len = bytes_at x.store.memory at len
 
 frame_at_pause : bytes_of_note (slice_get (Protocol by_hand by_hand_plan (answer (Some (i32 42)) 5 ∷ []) 200).events 1) 1024 20 ≡ 0x14 ∷ 4 ∷ 0 ∷ 0 ∷ 0x40 ∷ 4 ∷ 0 ∷ 0 ∷ 7 ∷ 0 ∷ 0 ∷ 0 ∷ 7 ∷ 0 ∷ 0 ∷ 0 ∷ 0 ∷ 0 ∷ 0 ∷ 0 ∷ []
-unfolding with_runtime
+unfolding with_runtime Base
 frame_at_pause = refl
 
 -- and that of the answer the location at its start again
 frame_at_answer : bytes_of_note (slice_get (Protocol by_hand by_hand_plan (answer (Some (i32 42)) 5 ∷ []) 200).events 2) 1024 20 ≡ 8 ∷ 4 ∷ 0 ∷ 0 ∷ 0x40 ∷ 4 ∷ 0 ∷ 0 ∷ 7 ∷ 0 ∷ 0 ∷ 0 ∷ 7 ∷ 0 ∷ 0 ∷ 0 ∷ 0 ∷ 0 ∷ 0 ∷ 0 ∷ []
-unfolding with_runtime
+unfolding with_runtime Base
 frame_at_answer = refl
 
 -- ---- the stack at a call: the call in the second arm of an if is the second one of its function
@@ -356,13 +376,13 @@ abbrev stack_in_arms : ℕ → ℕ → List Suspended
 stack_in_arms x i = stack_of_note (slice_get (Blocking calls_in_arms (plan_of 64 (entry 1 (i32 x ∷ []) ∷ [])) (answer (Some (i32 1)) 0 ∷ answer (Some (i32 2)) 0 ∷ []) 40).events i)
 
 first_arm : stack_in_arms 3 0 ≡ record { func = 1; place = 0; locals = i32 3 ∷ V.I64 0 ∷ []; operands = i32 8 ∷ i32 5 ∷ [] } ∷ []
-unfolding pruned calls_of
+unfolding pruned calls_of Base
 first_arm = refl
 
 second_arm : stack_in_arms 0 0 ≡ record { func = 1; place = 1; locals = i32 0 ∷ V.I64 0 ∷ []; operands = i32 9 ∷ i32 5 ∷ [] } ∷ []
-unfolding pruned calls_of
+unfolding pruned calls_of Base
 second_arm = refl
 
 behind_arms : stack_in_arms 0 2 ≡ record { func = 1; place = 2; locals = i32 0 ∷ V.I64 0 ∷ []; operands = i32 6 ∷ [] } ∷ []
-unfolding pruned calls_of
+unfolding pruned calls_of Base
 behind_arms = refl

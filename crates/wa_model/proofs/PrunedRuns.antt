@@ -16,7 +16,7 @@ use Rattle.wa_model.specs.Machine.{Turn, stops, goes, Ran, after, run}
 use Rattle.wa_model.specs.Store.{Store, Did, works, fails, lacks, takes, act}
 use Rattle.wa_model.specs.Configuration.{Label, block_label, loop_label, Activation, Configuration, running, waiting, call_count, calls_outside, place_of, suspended, stack_of}
 use Rattle.wa_model.specs.Step.{Next, steps, asks, returns, traps, stuck, keep, result_count, leave, jump, finish, did, with_top, with_number, choose, arity_of, zero_of, entered, invoke, param_count, same_func_type, through, memory_max, step_plain, step_at, step}
-use Rattle.wa_model.specs.Plan.{Entry, Plan, Outcome, given, refused, based}
+use Rattle.wa_model.specs.Plan.{Entry, Plan, Outcome, given, refused}
 use Rattle.wa_model.specs.Pruning.{pruned_func, pruned_module}
 use Rattle.wa_model.specs.Blocking.{Note, note, value_of_results, fault_of, Task, the_start, an_entry, Left, with_outcomes, Asker, inside, outermost, store_at, stack_at, in_start, State, between, begins, runs, halts, on_to, next_entry, task_back, go_on, tested, asked, by_step, enters, enter_next, start_called, blocking, poked, resumed, call_note, pause_of, done_notes, all_left, begun, continued, blocking_run}
 use Rattle.wa_model.specs.Instantiation.{Opening, fails_as, opens, opening}

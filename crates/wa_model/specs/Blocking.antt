@@ -17,7 +17,8 @@ use Rattle.wa_model.specs.Machine.{Turn, stops, goes, Ran, after, still, run}
 use Rattle.wa_model.specs.Store.{Store, with_memory}
 use Rattle.wa_model.specs.Configuration.{Activation, Configuration, running, stack_of}
 use Rattle.wa_model.specs.Step.{Next, steps, asks, returns, traps, stuck, entered, step}
-use Rattle.wa_model.specs.Plan.{Entry, Plan, Outcome, given, refused, based}
+use Rattle.wa_model.specs.Plan.{Entry, Plan, Outcome, given, refused}
+use Rattle.wa_types.specs.Base.{Base}
 use Rattle.wa_model.specs.Instantiation.{Opening, fails_as, opens, opening}
 
 -- An event, the store at it, and, for a call, the stack just before it and, where its answer pauses, the ticks. An answer
@@ -241,7 +242,7 @@ blocking_run m plan os n = continued m plan n (begun m.start (all_left plan os) 
 -- The notes of a run with blocking imports up to a total cost of n, and where it then stands: instantiation, the start
 -- function and the entries in order, each call of an import being one step.
 abbrev pub Blocking : Module → Plan → List Outcome → ℕ → Ran State Note
-Blocking m plan os n = blocking_run (based m) plan os n
+Blocking m plan os n = blocking_run (Base m) plan os n
 
 -- the store where a run stands
 abbrev pub store_of : State → Store

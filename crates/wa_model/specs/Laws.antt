@@ -1,10 +1,11 @@
 -- Laws of runs. Functions with an empty body have them as their contracts.
 use Rattle.std.specs.Prelude.{◌≡◌, ℕ, ◌+◌, List}
 use Rattle.wa_types.specs.Syntax.{Module}
+use Rattle.wa_types.specs.Base.{Base}
 use Rattle.wa_model.specs.Machine.{Ran, after, run, Leads, IsRun}
 use Rattle.wa_model.specs.Configuration.{Configuration}
 use Rattle.wa_model.specs.Step.{Step}
-use Rattle.wa_model.specs.Plan.{Plan, Outcome, based}
+use Rattle.wa_model.specs.Plan.{Plan, Outcome}
 use Rattle.wa_model.specs.Instantiation.{opening}
 use Rattle.wa_model.specs.Blocking.{Note, State, begun, all_left, blocking, Blocking, store_of}
 use Rattle.wa_model.specs.Protocol.{Held, exports_of, protocol, held_begun, Protocol}
@@ -17,7 +18,7 @@ OneNext = (m : Module) (c d e : Configuration) (j k : ℕ) → Step m c d j → 
 
 -- What a run has made before its first move, and where it then stands.
 abbrev pub start_of : Module → Plan → List Outcome → Ran State Note
-start_of m plan os = begun (based m).start (all_left plan os) (opening (based m) plan.globals)
+start_of m plan os = begun (Base m).start (all_left plan os) (opening (Base m) plan.globals)
 
 abbrev pub held_start_of : Module → Plan → List Outcome → Ran Held Note
 held_start_of p plan os = held_begun p.start (all_left plan os) (opening p plan.globals)
@@ -26,7 +27,7 @@ held_start_of p plan os = held_begun p.start (all_left plan os) (opening p plan.
 abbrev pub RunsDetermined : Type 0
 RunsDetermined =
     (m : Module) (plan : Plan) (os : List Outcome) (n : ℕ) (es fs : List Note) (t u : State)
-    → Leads (blocking (based m) plan) (start_of m plan os).last n es t → Leads (blocking (based m) plan) (start_of m plan os).last n fs u
+    → Leads (blocking (Base m) plan) (start_of m plan os).last n es t → Leads (blocking (Base m) plan) (start_of m plan os).last n fs u
     → (es ≡ fs) × (t ≡ u)
 
 abbrev pub ProtocolDetermined : Type 0
@@ -39,7 +40,7 @@ ProtocolDetermined =
 abbrev pub RunsAreMoves : Type 0
 RunsAreMoves =
     (m : Module) (plan : Plan) (os : List Outcome) (n : ℕ)
-    → (r : Ran State Note) × (Blocking m plan os n ≡ after (start_of m plan os).events r) × IsRun (blocking (based m) plan) n (start_of m plan os).last r
+    → (r : Ran State Note) × (Blocking m plan os n ≡ after (start_of m plan os).events r) × IsRun (blocking (Base m) plan) n (start_of m plan os).last r
 
 abbrev pub ProtocolAreMoves : Type 0
 ProtocolAreMoves =

@@ -2,6 +2,7 @@ pub mod Behaves
 pub mod Blocking
 pub mod Configuration
 pub mod Expected
+pub mod Flat
 pub mod Instantiation
 pub mod Laws
 pub mod Machine
@@ -9,6 +10,7 @@ pub mod Outside
 pub mod Plan
 pub mod Protocol
 pub mod Pruning
+pub mod Rewrites
 pub mod Step
 pub mod Store
 pub mod Untouched

@@ -2,14 +2,15 @@
 use Rattle.std.specs.Prelude.{◌≡◌, ◌≢◌, ℕ, ◌+◌, ◌*◌, ◌%◌, ◌^◌, ◌<◌, ◌≤◌, List, [], ◌∷◌, ◌++◌, length, map, Option, Some, None, Bool, true, false, All, Contains}
 use Rattle.wa_types.specs.declared.values.ValType.{ValType}
 use Rattle.wa_types.specs.declared.values.Value.{Value}
-use Rattle.wa_types.specs.declared.values.Value.TheVariants.{I32 as value_32, I64 as value_64}
 use Rattle.wa_types.specs.declared.syntax.Limits.{Limits}
 use Rattle.wa_types.specs.declared.syntax.Export.{Export}
 use Rattle.wa_types.specs.declared.syntax.Space.TheVariants.{Func as a_func}
 use Rattle.wa_types.specs.Syntax.{FuncType, Func, Module}
 use Rattle.wa_types.specs.Memory.{page_size}
 use Rattle.wa_types.specs.Modules.{imported, imported_global, all_memories, func_type_at, defined_at}
-use Rattle.wa_types.specs.Runtime.{added_memories, runtime_names}
+use Rattle.wa_types.specs.Base.{Base}
+use Rattle.wa_types.specs.Sizes.{value_fits}
+use Rattle.wa_types.specs.Runtime.{runtime_names}
 use Rattle.wa_types.specs.Typing.{GlobalType}
 use Rattle.wa_ops.specs.Operate.{are_of}
 use Rattle.wa_model.specs.declared.answers.Area.{Area}
@@ -35,21 +36,10 @@ pub data Outcome : Type 0 where
   given : (answer : Answer) → Outcome
   refused : (how : End) → Outcome
 
--- the module, with a memory of one page, never more, where it has none
-abbrev pub based : Module → Module
-based m = record m { memories = m.memories ++ added_memories (all_memories m) }
-
--- ---- ranges
-
--- a value lies in the range of its type
-abbrev pub InRange : Value → Type 0
-InRange (value_32 n) = n < 2 ^ 32
-InRange (value_64 n) = n < 2 ^ 64
-
 -- values have these types and lie in their ranges
 pub record AreLawful (types : List ValType) (values : List Value) : Type 0 where
   pub typed : are_of types values ≡ true
-  pub ranges : All InRange values
+  pub ranges : All value_fits values
 
 -- ---- plans
 
@@ -79,7 +69,7 @@ pub record EntryFits (m : Module) (e : Entry) : Type 0 where
 pub record Fits (m : Module) (plan : Plan) : Type 0 where
   pub globals : AreLawful (map (λ (g : GlobalType). g.ty) (imported imported_global m)) plan.globals
   pub entries : All (EntryFits m) plan.entries
-  pub area : AreaFits (based m) plan.area
+  pub area : AreaFits (Base m) plan.area
 
 -- ---- outcomes
 
@@ -89,7 +79,7 @@ pub record PokeFits (p : Poke) : Type 0 where
 
 abbrev pub ValueFits : Option Value → Type 0
 ValueFits None = Unit {0}
-ValueFits (Some v) = InRange v
+ValueFits (Some v) = value_fits v
 
 pub record AnswerFits (a : Answer) : Type 0 where
   pub value : ValueFits a.value

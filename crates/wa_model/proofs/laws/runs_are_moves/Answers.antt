@@ -1,6 +1,6 @@
 use Rattle.std.proofs.Common.{refl, arith, ◌≤◌}
 use Rattle.wa_model.specs.Machine.{run}
-use Rattle.wa_model.specs.Plan.{based}
+use Rattle.wa_types.specs.Base.{Base}
 use Rattle.wa_model.specs.Blocking.{Note, State, blocking}
 use Rattle.wa_model.specs.Protocol.{Held, exports_of, protocol}
 use Rattle.wa_model.specs.Laws.{start_of, held_start_of}
@@ -9,7 +9,7 @@ use Rattle.wa_model.proofs.laws.runs_are_moves.Goals as goal
 
 pub returns-clause-blocking : goal.returns-clause-blocking
 returns-clause-blocking c = λ m plan os n. let le : n ≤ n = omega arith in
-    (run (blocking (based m) plan) n (start_of m plan os).last, refl, run_is_run State Note (blocking (based m) plan) n n (start_of m plan os).last le)
+    (run (blocking (Base m) plan) n (start_of m plan os).last, refl, run_is_run State Note (blocking (Base m) plan) n n (start_of m plan os).last le)
 
 pub returns-clause-protocol : goal.returns-clause-protocol
 returns-clause-protocol c = λ p plan os n. let le : n ≤ n = omega arith in
