@@ -1,33 +1,27 @@
 -- Small runs that the definitions compute.
-use Rattle.std.proofs.Common.{◌≡◌, ℕ, List, [], ◌∷◌, ◌++◌, map, Some, None, Bool, true, false, refl, length}
+use Rattle.std.proofs.Common.{◌≡◌, ℕ, List, [], ◌∷◌, Some, None, true, refl}
 use Rattle.std.specs.Prelude.{Option, slice_get, replicate, codes}
-use Rattle.wa_types.specs.declared.values.ValType.{ValType}
 use Rattle.wa_types.specs.declared.values.ValType.TheVariants.{I32, I64}
 use Rattle.wa_types.specs.declared.values.Value.{Value}
 use Rattle.wa_types.specs.declared.values.Value.TheVariants as V
-use Rattle.wa_types.specs.declared.values.Trap.TheVariants.{DivideByZero, UndefinedElement, UninitializedElement, TypeMismatch, StackExhausted, Unreachable}
-use Rattle.wa_types.specs.declared.operators.NumOp.TheVariants.{I32Eqz, I32Add, I32Sub, I32Eq, I64DivU, I64ExtendI32U}
-use Rattle.wa_types.specs.declared.syntax.Run.{Run}
-use Rattle.wa_types.specs.declared.syntax.Limits.{Limits}
+use Rattle.wa_types.specs.declared.values.Trap.TheVariants.{DivideByZero, UndefinedElement, UninitializedElement, TypeMismatch, Unreachable}
+use Rattle.wa_types.specs.declared.operators.NumOp.TheVariants.{I32Add, I32Sub, I32Eq, I64DivU, I64ExtendI32U}
 use Rattle.wa_types.specs.declared.syntax.Import.{Import}
 use Rattle.wa_types.specs.declared.syntax.ImportKind.TheVariants as K
 use Rattle.wa_types.specs.declared.syntax.Export.{Export}
 use Rattle.wa_types.specs.declared.syntax.Space.TheVariants as Sp
-use Rattle.wa_types.specs.Syntax.{Basic, drop, const, num, global_get, load, store, memory_grow, basic, local_get, local_set, local_tee, br, br_if, br_table, call, call_indirect, Code, done, plain, nest, branch, a_block, a_loop, FuncType, Func, Elem, Module}
+use Rattle.wa_types.specs.Syntax.{Basic, drop, const, num, global_get, load, store, memory_grow, basic, local_get, local_set, local_tee, br_if, br_table, call, call_indirect, Code, done, plain, nest, branch, a_block, a_loop, FuncType, Func, Module}
 use Rattle.wa_types.specs.Pruned.{pruned}
 use Rattle.wa_types.specs.Base.{Base}
 use Rattle.wa_types.specs.Pausing.{calls_of, save_all, save_live}
 use Rattle.wa_types.specs.Points.{points, call_points}
 use Rattle.wa_types.specs.Liveness.{behind_calls, live}
 use Rattle.wa_types.specs.Runtime.{with_runtime}
-use Rattle.wa_model.specs.declared.answers.Area.{Area}
-use Rattle.wa_model.specs.declared.events.End.TheVariants.{Done, Trapped, UnwindTrap, BadAnswer, BadPoke, PauseInStart, Broken, ElementsOut}
-use Rattle.wa_model.specs.Outside.{Poke, Answer, Event, called, answered, paused, returned, ended}
+use Rattle.wa_model.specs.declared.events.End.TheVariants.{Done, Trapped, UnwindTrap, BadAnswer, BadPoke, PauseInStart, Broken}
+use Rattle.wa_model.specs.Outside.{Answer, Event, called, answered, paused, returned, ended}
 use Rattle.wa_types.specs.Memory.{bytes_at}
 use Rattle.wa_types.specs.Frames.{Suspended}
 use Rattle.wa_model.specs.Store.{Store, works, act}
-use Rattle.wa_model.specs.Configuration.{running, waiting}
-use Rattle.wa_model.specs.Step.{traps, step}
 use Rattle.wa_model.specs.Plan.{Entry, Plan, Outcome, given}
 use Rattle.wa_model.specs.Blocking.{Note, events_of, Blocking, blocking_run}
 use Rattle.wa_model.specs.Protocol.{Protocol}
@@ -103,7 +97,7 @@ countdown = module_with (record {
   sort = 0;
   locals = record { count = 1; ty = I32 } ∷ [];
   body = nest a_loop None (plain (local_get 1) (then (const (i32 0)) (branch (Some I32) (then (const (i32 100)) done) (plain (local_get 0) (plain (call 0) done)) (then (num I32Add) (plain (local_set 1) (plain (local_get 0) (then (const (i32 1)) (then (num I32Sub) (plain (local_tee 0) (plain (br_if 0) done))))))))))
-    (plain (local_get 1) done);
+      (plain (local_get 1) done);
 })
 
 abbrev tens : List Outcome
@@ -327,13 +321,13 @@ by_hand = with_runtime (module_with (record {
   sort = 0;
   locals = record { count = 2; ty = I32 } ∷ [];
   body =
-    two_if 2 (then (global_get 1) (location (then (const (i32 12)) (then (num I32Sub) (then (store 0x36 2 0)
-        (location (then (load 0x28 2 0) (plain (local_set 0) (location (then (load 0x28 2 4) (plain (local_set 1) done)))))))))))
-    (two_if 0 (plain (local_get 0) (plain (local_set 1) done))
-    (plain (local_get 1) (plain (call 0) (plain (local_set 2)
-    (two_if 1 (location (plain (local_get 0) (then (store 0x36 2 0) (location (plain (local_get 1) (then (store 0x36 2 4) (location (then (const (i32 0)) (then (store 0x36 2 8)
-        (then (global_get 1) (location (then (const (i32 12)) (then (num I32Add) (then (store 0x36 2 0) done))))))))))))))
-    (plain (local_get 2) done))))));
+      two_if 2 (then (global_get 1) (location (then (const (i32 12)) (then (num I32Sub) (then (store 0x36 2 0)
+      (location (then (load 0x28 2 0) (plain (local_set 0) (location (then (load 0x28 2 4) (plain (local_set 1) done)))))))))))
+      (two_if 0 (plain (local_get 0) (plain (local_set 1) done))
+      (plain (local_get 1) (plain (call 0) (plain (local_set 2)
+      (two_if 1 (location (plain (local_get 0) (then (store 0x36 2 0) (location (plain (local_get 1) (then (store 0x36 2 4) (location (then (const (i32 0)) (then (store 0x36 2 8)
+      (then (global_get 1) (location (then (const (i32 12)) (then (num I32Add) (then (store 0x36 2 0) done))))))))))))))
+      (plain (local_get 2) done))))));
 }))
 
 abbrev by_hand_plan : Plan

@@ -1,5 +1,5 @@
 -- At each cost B stands as A does at some moment of no greater cost, at which A has made the same events.
-use Rattle.std.proofs.Common.{◌≡◌, ℕ, zero, suc, ◌+◌, ◌-◌, ◌≤◌, ◌<◌, List, [], ◌∷◌, ◌++◌, refl, sym, ap, ◌∙◌, subst, ⊎_elim, ◌⊎◌, arith, append_assoc, append-nil}
+use Rattle.std.proofs.Common.{◌≡◌, ℕ, zero, suc, ◌+◌, ◌-◌, ◌≤◌, ◌<◌, List, [], ◌∷◌, ◌++◌, refl, sym, ap, ◌∙◌, subst, ⊎_elim, arith, append_assoc, append-nil}
 use Rattle.std.proofs.lemmas.Bool.{cases_lt}
 use Rattle.wa_model.specs.Machine.{Turn, stops, goes, Ran, after, run, Leads, stays, moves}
 use Rattle.wa_model.proofs.Runs.{leads_run}
@@ -33,13 +33,13 @@ module _ (SA SB EA EB : Type 0) (na : SA → Turn SA EA) (nb : SB → Turn SB EB
     later : (k n : ℕ) (es : List EA) (a a' : SA) (fs : List EB) (r s : Ran SB EB) → na a ≡ goes k es a' → suc k ≤ n → Alike Q es fs → r ≡ after fs s → Moment (n - suc k) a' s → Moment n a r
     later k n es a a' fs r s e le al er (at_state cost es1 at l within al1 sees) =
         at_state (suc k + cost) (es ++ es1) at (moves e l refl refl) (omega arith)
-            (subst (λ q. Alike Q (es ++ es1) q.events) (sym er) (alike_on Q es es1 fs s.events al al1))
-            (subst (λ q. Sees at q.last) (sym er) sees)
+        (subst (λ q. Alike Q (es ++ es1) q.events) (sym er) (alike_on Q es es1 fs s.events al al1))
+        (subst (λ q. Sees at q.last) (sym er) sees)
     later k n es a a' fs r s e le al er (at_event cost j es1 es2 es3 x at b l eb within al1 sees) =
         at_event (suc k + cost) j (es ++ es1) es2 es3 x at b (moves e l refl refl) eb (omega arith)
-            (subst (λ q. Alike Q ((es ++ es1) ++ (es2 ++ x ∷ [])) q.events) (sym er)
-                (subst (λ xs. Alike Q xs (fs ++ s.events)) (sym (append_assoc es es1 (es2 ++ x ∷ []))) (alike_on Q es (es1 ++ (es2 ++ x ∷ [])) fs s.events al al1)))
-            (subst (λ q. Sees_at x q.last) (sym er) sees)
+        (subst (λ q. Alike Q ((es ++ es1) ++ (es2 ++ x ∷ [])) q.events) (sym er)
+        (subst (λ xs. Alike Q xs (fs ++ s.events)) (sym (append_assoc es es1 (es2 ++ x ∷ []))) (alike_on Q es (es1 ++ (es2 ++ x ∷ [])) fs s.events al al1)))
+        (subst (λ q. Sees_at x q.last) (sym er) sees)
 
     on_the_way : (n k : ℕ) (es : List EA) (a a' : SA) (b : SB) → na a ≡ goes k es a' → suc k ≤ n → On_way k es a a' n (run nb n b) → Moment n a (run nb n b)
     on_the_way n k es a a' b e enough (not_yet none sees) = at_state 0 [] a stays (omega arith) (alike_none (run nb n b).events none) sees

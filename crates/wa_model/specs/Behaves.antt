@@ -1,7 +1,6 @@
 -- What a rewritten module owes its original: the headline's relation on runs.
-use Rattle.std.specs.Prelude.{◌≡◌, ℕ, suc, ◌+◌, ◌≤◌, ◌<◌, ◌⊎◌, ◌++◌, List, [], ◌∷◌, length, take, Option, Some, None, Bool, true, false, All, Contains, slice_get, slice_index}
+use Rattle.std.specs.Prelude.{◌≡◌, ℕ, suc, ◌+◌, ◌≤◌, ◌<◌, ◌⊎◌, ◌++◌, List, take, Option, Some, None, Bool, true, false, All, Contains, slice_get}
 use Rattle.std.specs.List.{filter_map}
-use Rattle.wa_types.specs.declared.values.Trap.{Trap}
 use Rattle.wa_types.specs.Syntax.{Func, Module}
 use Rattle.wa_types.specs.Modules.{defined_at}
 use Rattle.wa_types.specs.Pausing.{Settings, Listed, TellsMayPause, Numbered}
@@ -11,8 +10,7 @@ use Rattle.wa_types.specs.Runtime.{global_space}
 use Rattle.wa_model.specs.declared.answers.Area.{Area}
 use Rattle.wa_model.specs.declared.events.End.{End}
 use Rattle.wa_model.specs.declared.events.End.TheVariants.{UnwindTrap}
-use Rattle.wa_model.specs.Outside.{Event, called, answered, paused, returned, ended, shown}
-use Rattle.wa_model.specs.Machine.{Ran}
+use Rattle.wa_model.specs.Outside.{Event, paused, ended}
 use Rattle.wa_model.specs.Store.{Store}
 use Rattle.wa_model.specs.Plan.{Plan, Outcome, OutcomeFits, Fits}
 use Rattle.wa_model.specs.Blocking.{Note, events_of, Blocking, store_of}

@@ -1,9 +1,9 @@
 -- Runs of a module whose imports block: each call of an import is answered at once.
-use Rattle.std.specs.Prelude.{ℕ, zero, suc, ◌+◌, nat_lt, nat_le, nat_eq, ◌==◌, not, ◌&&◌, ◌||◌, if◌then◌else◌, List, [], ◌∷◌, ◌++◌, length, map, Option, Some, None, Bool, true, false, slice_get}
+use Rattle.std.specs.Prelude.{ℕ, zero, suc, ◌+◌, nat_lt, nat_le, not, ◌&&◌, if◌then◌else◌, List, [], ◌∷◌, ◌++◌, length, map, Option, Some, None, Bool, true, false, slice_get}
 use Rattle.std.specs.Option.{option_to_list}
 use Rattle.wa_types.specs.declared.values.ValType.{ValType}
 use Rattle.wa_types.specs.declared.values.Value.{Value}
-use Rattle.wa_types.specs.Syntax.{FuncType, Func, Module}
+use Rattle.wa_types.specs.Syntax.{Func, Module}
 use Rattle.wa_types.specs.Memory.{overwritten}
 use Rattle.wa_types.specs.Modules.{func_imports, func_type_at, defined_at}
 use Rattle.wa_types.specs.Pausing.{is_told}
@@ -15,7 +15,7 @@ use Rattle.wa_model.specs.declared.events.End.TheVariants.{Done, Trapped, BadAns
 use Rattle.wa_model.specs.Outside.{Poke, Answer, Event, called, answered, returned, ended}
 use Rattle.wa_model.specs.Machine.{Turn, stops, goes, Ran, after, still, run}
 use Rattle.wa_model.specs.Store.{Store, with_memory}
-use Rattle.wa_model.specs.Configuration.{Activation, Configuration, running, stack_of}
+use Rattle.wa_model.specs.Configuration.{Configuration, running, stack_of}
 use Rattle.wa_model.specs.Step.{Next, steps, asks, returns, traps, stuck, entered, step}
 use Rattle.wa_model.specs.Plan.{Entry, Plan, Outcome, given, refused}
 use Rattle.wa_types.specs.Base.{Base}

@@ -1,5 +1,5 @@
 -- What a rewritten module has to show of a run with blocking imports: the same events, and its pauses.
-use Rattle.std.specs.Prelude.{◌≡◌, ℕ, ◌+◌, ◌≤◌, ◌<◌, nat_lt, if◌then◌else◌, List, [], ◌∷◌, length, Option, Some, None, slice_get, slice_index}
+use Rattle.std.specs.Prelude.{◌≡◌, ℕ, ◌+◌, ◌≤◌, ◌<◌, nat_lt, if◌then◌else◌, List, [], ◌∷◌, length, Option, Some, None, slice_get}
 use Rattle.wa_types.specs.declared.values.Trap.TheVariants.{Unreachable}
 use Rattle.wa_types.specs.Syntax.{Module}
 use Rattle.wa_types.specs.Pausing.{Policy}

@@ -1,7 +1,7 @@
 -- Flat statements as plain data, and the code that they stand for. Between two statements no operand stands on the stack.
-use Rattle.std.specs.Prelude.{ℕ, ◌-◌, List, [], ◌∷◌, map, length, drop, Option, Some, None}
+use Rattle.std.specs.Prelude.{ℕ, ◌-◌, List, [], ◌∷◌, length, drop, Option, Some, None}
 use Rattle.wa_types.specs.declared.values.ValType.{ValType}
-use Rattle.wa_types.specs.Syntax.{const, Plain, basic, local_get, local_set, br, br_if, br_table, unreachable, Shape, a_block, a_loop, Code, done, plain, nest, branch}
+use Rattle.wa_types.specs.Syntax.{const, basic, local_get, local_set, br, br_if, br_table, unreachable, Shape, a_block, Code, done, plain, nest, branch}
 use Rattle.wa_model.specs.declared.flat.Operand.{Operand}
 use Rattle.wa_model.specs.declared.flat.Operand.TheVariants.{Local, Const}
 

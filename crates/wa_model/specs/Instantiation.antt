@@ -4,8 +4,8 @@ use Rattle.std.specs.Prelude.{ℕ, suc, ◌+◌, ◌*◌, nat_lt, nat_le, if◌t
 use Rattle.wa_types.specs.declared.values.Value.{Value}
 use Rattle.wa_types.specs.declared.values.Value.TheVariants.{I32 as value_32}
 use Rattle.wa_types.specs.declared.syntax.Limits.{Limits}
-use Rattle.wa_types.specs.Syntax.{Basic, const, global_get, Plain, basic, Code, done, plain, nest, branch, GlobalDef, Elem, Segment, Module}
-use Rattle.wa_types.specs.Memory.{page_size, overwritten}
+use Rattle.wa_types.specs.Syntax.{const, global_get, basic, Code, done, plain, GlobalDef, Elem, Segment, Module}
+use Rattle.wa_types.specs.Memory.{page_size}
 use Rattle.wa_types.specs.Modules.{all_tables, all_memories}
 use Rattle.wa_ops.specs.Operate.{number_of}
 use Rattle.wa_model.specs.declared.events.End.{End}
@@ -82,4 +82,4 @@ opened_by m globals pages entries false false =
 abbrev pub opening : Module → List Value → Opening
 opening m imports =
     opened_by m (all_values imports m) (least_of (all_memories m)) (least_of (all_tables m))
-        (nat_lt 1024 (least_of (all_memories m))) (nat_lt 100000 (least_of (all_tables m)))
+    (nat_lt 1024 (least_of (all_memories m))) (nat_lt 100000 (least_of (all_tables m)))

@@ -3,6 +3,7 @@ pub mod Blocking
 pub mod Configuration
 pub mod Expected
 pub mod Flat
+pub mod FlatView
 pub mod Instantiation
 pub mod Laws
 pub mod Machine

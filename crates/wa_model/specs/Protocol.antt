@@ -1,27 +1,27 @@
 -- Runs of a prepared module under the host's protocol: a pause unwinds the stack into the area through the five exports,
 -- and the entry is called again to rewind it.
-use Rattle.std.specs.Prelude.{ℕ, zero, suc, ◌+◌, ◌-◌, ◌%◌, ◌^◌, nat_lt, nat_eq, if◌then◌else◌, List, [], ◌∷◌, ◌++◌, length, map, Option, Some, None, Bool, true, false, slice_get, codes}
+use Rattle.std.specs.Prelude.{ℕ, ◌+◌, ◌-◌, ◌%◌, ◌^◌, nat_lt, nat_eq, if◌then◌else◌, List, [], ◌∷◌, length, map, Option, Some, None, Bool, false, codes}
 use Rattle.std.specs.Option.{option_to_list}
 use Rattle.std.specs.List.{find}
 use Rattle.wa_types.specs.declared.values.Value.{Value}
 use Rattle.wa_types.specs.declared.values.Value.TheVariants as V
 use Rattle.wa_types.specs.declared.values.Trap.{Trap}
 use Rattle.wa_types.specs.declared.syntax.Export.{Export}
-use Rattle.wa_types.specs.Syntax.{FuncType, Func, Module}
+use Rattle.wa_types.specs.Syntax.{Func, Module}
 use Rattle.wa_types.specs.Memory.{bytes_of, bytes_at, number_of_bytes, overwritten}
 use Rattle.wa_types.specs.Modules.{func_imports, func_type_at, defined_at}
 use Rattle.wa_types.specs.Validity.{same_name}
 use Rattle.wa_model.specs.declared.answers.Area.{Area}
 use Rattle.wa_model.specs.declared.events.End.{End}
 use Rattle.wa_model.specs.declared.events.End.TheVariants.{Trapped, UnwindTrap, RewindTrap, Broken}
-use Rattle.wa_model.specs.Outside.{Poke, Answer, Event, answered, paused, returned, ended}
+use Rattle.wa_model.specs.Outside.{Answer, answered, paused, returned, ended}
 use Rattle.wa_model.specs.Machine.{Turn, stops, goes, Ran, after, still, run}
 use Rattle.wa_model.specs.Store.{Store, with_memory}
-use Rattle.wa_model.specs.Configuration.{Configuration, stack_of}
+use Rattle.wa_model.specs.Configuration.{Configuration}
 use Rattle.wa_model.specs.Step.{Next, steps, asks, returns, traps, stuck, zero_of, entered, step}
 use Rattle.wa_model.specs.Plan.{Entry, Plan, Outcome, given, refused}
 use Rattle.wa_model.specs.Instantiation.{Opening, fails_as, opens, opening}
-use Rattle.wa_model.specs.Blocking.{Note, note, call_note, fault_of, pause_of, poked, resumed, Task, the_start, an_entry, is_start, Left, with_outcomes, Asker, inside, outermost, store_at, stack_at, in_start, done_notes, value_of_results, next_entry, no_store, all_left}
+use Rattle.wa_model.specs.Blocking.{Note, note, call_note, fault_of, pause_of, poked, resumed, Task, the_start, an_entry, Left, with_outcomes, Asker, inside, outermost, store_at, stack_at, in_start, done_notes, value_of_results, next_entry, no_store, all_left}
 
 -- The five exports, by the indices of their functions.
 pub record Exports : Type 0 where

@@ -1,11 +1,9 @@
 -- What a rewritten module is: the original with the runtime's parts, its functions that may pause rewritten, and a behaviour
 -- that is the original's.
-use Rattle.std.specs.Prelude.{◌≡◌, ℕ, ◌+◌, ◌*◌, ◌≤◌, List, [], ◌∷◌, ◌++◌, length, drop, take, Option, Some, None, Bool, true, slice_get}
+use Rattle.std.specs.Prelude.{◌≡◌, ℕ, ◌+◌, ◌*◌, ◌≤◌, List, length, drop, Some, Bool, slice_get}
 use Rattle.std.specs.List.{sum_by}
-use Rattle.wa_types.specs.declared.syntax.Run.{Run}
 use Rattle.wa_types.specs.Encoding.{merged}
-use Rattle.wa_types.specs.Syntax.{Plain, Code, done, plain, nest, branch, Func, Module}
-use Rattle.wa_types.specs.Pruned.{pruned}
+use Rattle.wa_types.specs.Syntax.{Code, done, plain, nest, branch, Func, Module}
 use Rattle.wa_types.specs.Modules.{func_imports, locals_of}
 use Rattle.wa_types.specs.Validity.{Valid}
 use Rattle.wa_types.specs.Sizes.{label_count}

@@ -7,7 +7,7 @@ use Rattle.wa_types.specs.declared.values.Trap.{Trap}
 use Rattle.wa_types.specs.declared.values.Trap.TheVariants.{Unreachable, UndefinedElement, UninitializedElement, TypeMismatch, StackExhausted}
 use Rattle.wa_types.specs.declared.syntax.Limits.{Limits}
 use Rattle.wa_types.specs.Encoding.{same_type}
-use Rattle.wa_types.specs.Syntax.{Basic, Plain, basic, local_get, local_set, local_tee, br, br_if, br_table, return, unreachable, call, call_indirect, Shape, a_block, a_loop, Code, done, plain, nest, branch, FuncType, Func, Module}
+use Rattle.wa_types.specs.Syntax.{Plain, basic, local_get, local_set, local_tee, br, br_if, br_table, return, unreachable, call, call_indirect, a_block, a_loop, Code, done, plain, nest, branch, FuncType, Func, Module}
 use Rattle.wa_types.specs.Modules.{func_imports, all_memories, type_at, func_type_at, declared_locals, defined_at}
 use Rattle.wa_ops.specs.Operate.{value_of}
 use Rattle.wa_model.specs.Store.{Store, value_at, Did, works, fails, lacks, takes, act}
@@ -146,8 +146,8 @@ step_at m s fn under ls ops labels (nest a_block r body rest) = steps 0 (running
 step_at m s fn under ls ops labels (nest a_loop r body rest) = steps 0 (running s fn under ls ops body (loop_label (length ops) body rest ∷ labels))
 step_at m s fn under ls ops labels (branch r a b rest) =
     with_number ops (λ n below. steps 0 (choose n
-        (running s fn under ls below a (block_label (length below) (arity_of r) rest b ∷ labels))
-        (running s fn under ls below b (block_label (length below) (arity_of r) rest done ∷ labels))))
+    (running s fn under ls below a (block_label (length below) (arity_of r) rest b ∷ labels))
+    (running s fn under ls below b (block_label (length below) (arity_of r) rest done ∷ labels))))
 
 -- what comes next
 abbrev pub step : Module → Configuration → Next

@@ -1,9 +1,8 @@
 -- Runs that touch no byte of the area.
-use Rattle.std.specs.Prelude.{◌≡◌, ℕ, ◌+◌, ◌≤◌, ◌<◌, List, Option, Some, None, Bool, true, false, length}
+use Rattle.std.specs.Prelude.{◌≡◌, ℕ, ◌+◌, ◌≤◌, ◌<◌, List, Option, Some, None, false, length}
 use Rattle.wa_types.specs.declared.values.Value.{Value}
-use Rattle.wa_types.specs.Syntax.{Plain, basic, Code, done, plain, nest, branch, Module}
+use Rattle.wa_types.specs.Syntax.{basic, Code, plain, Module}
 use Rattle.wa_model.specs.declared.answers.Area.{Area}
-use Rattle.wa_model.specs.Machine.{Ran}
 use Rattle.wa_model.specs.Store.{Access, accessed}
 use Rattle.wa_model.specs.Configuration.{Configuration}
 use Rattle.wa_model.specs.Plan.{Plan, Outcome}

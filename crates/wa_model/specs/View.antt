@@ -1,7 +1,6 @@
 -- What the values of the program are, as plain data: the vectors' memory is left out.
-use Rattle.std.specs.Prelude.{ℕ, List, map, Option}
+use Rattle.std.specs.Prelude.{map}
 use Rattle.std.specs.Option.{option_map}
-use Rattle.std.specs.declared.vec.Vec.{Vec}
 use Rattle.wa_model.specs.declared.answers.Poke.{Poke as PokeValue}
 use Rattle.wa_model.specs.declared.answers.Answer.{Answer as AnswerValue}
 use Rattle.wa_model.specs.declared.answers.AnswerLine.{AnswerLine as AnswerLineValue}

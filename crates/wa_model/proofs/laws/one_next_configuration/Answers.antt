@@ -1,7 +1,5 @@
-use Rattle.std.proofs.Common.{◌≡◌, ℕ, suc, refl, sym, ap, ◌∙◌}
-use Rattle.wa_types.specs.Syntax.{Module}
-use Rattle.wa_model.specs.Configuration.{Configuration}
-use Rattle.wa_model.specs.Step.{Step, steps, step}
+use Rattle.std.proofs.Common.{◌≡◌, suc, sym, ap, ◌∙◌}
+use Rattle.wa_model.specs.Step.{steps}
 use Rattle.wa_model.proofs.laws.one_next_configuration.Goals as goal
 
 pub returns : goal.returns

@@ -13,6 +13,7 @@ store_same (halts s) = refl
 
 pub returns : goal.returns
 unfolding Base
-returns c = λ m plan os n.
-    (ap (λ (r : Ran State Note). r.events) (blocking_run_pruned (Base m) plan os n),
-     ap (λ (r : Ran State Note). store_of r.last) (blocking_run_pruned (Base m) plan os n) ∙ store_same (Blocking m plan os n).last)
+returns c = λ m plan os n. (
+  ap (λ (r : Ran State Note). r.events) (blocking_run_pruned (Base m) plan os n),
+  ap (λ (r : Ran State Note). store_of r.last) (blocking_run_pruned (Base m) plan os n) ∙ store_same (Blocking m plan os n).last,
+)

@@ -1,5 +1,4 @@
-use Rattle.std.proofs.Common.{◌+◌, arith, ◌≤◌}
-use Rattle.wa_model.specs.Machine.{run}
+use Rattle.std.proofs.Common.{arith, ◌≤◌}
 use Rattle.wa_types.specs.Base.{Base}
 use Rattle.wa_model.specs.Blocking.{Note, State, blocking}
 use Rattle.wa_model.specs.Protocol.{Held, exports_of, protocol}
