@@ -1,29 +1,31 @@
 -- Small runs that the definitions compute.
-use Rattle.std.proofs.Common.{◌≡◌, ℕ, List, [], ◌∷◌, Some, None, true, refl}
+use Rattle.std.proofs.Common.{◌≡◌, ℕ, List, [], ◌∷◌, ◌++◌, take, Some, None, true, refl}
 use Rattle.std.specs.Prelude.{Option, slice_get, replicate, codes}
 use Rattle.wa_types.specs.declared.values.ValType.TheVariants.{I32, I64}
 use Rattle.wa_types.specs.declared.values.Value.{Value}
 use Rattle.wa_types.specs.declared.values.Value.TheVariants as V
-use Rattle.wa_types.specs.declared.values.Trap.TheVariants.{DivideByZero, UndefinedElement, UninitializedElement, TypeMismatch, Unreachable}
+use Rattle.wa_types.specs.declared.values.Trap.TheVariants.{DivideByZero, UndefinedElement, UninitializedElement, TypeMismatch, Unreachable, StackExhausted}
 use Rattle.wa_types.specs.declared.operators.NumOp.TheVariants.{I32Add, I32Sub, I32Eq, I64DivU, I64ExtendI32U}
 use Rattle.wa_types.specs.declared.syntax.Import.{Import}
 use Rattle.wa_types.specs.declared.syntax.ImportKind.TheVariants as K
 use Rattle.wa_types.specs.declared.syntax.Export.{Export}
 use Rattle.wa_types.specs.declared.syntax.Space.TheVariants as Sp
-use Rattle.wa_types.specs.Syntax.{Basic, drop, const, num, global_get, load, store, memory_grow, basic, local_get, local_set, local_tee, br_if, br_table, call, call_indirect, Code, done, plain, nest, branch, a_block, a_loop, FuncType, Func, Module}
+use Rattle.wa_types.specs.Syntax.{Basic, drop, const, num, global_get, global_set, return, unreachable, load, store, memory_grow, basic, local_get, local_set, local_tee, br_if, br_table, call, call_indirect, Code, done, plain, nest, branch, a_block, a_loop, FuncType, Func, Module}
 use Rattle.wa_types.specs.Pruned.{pruned}
 use Rattle.wa_types.specs.Base.{Base}
 use Rattle.wa_types.specs.Pausing.{calls_of, save_all, save_live}
 use Rattle.wa_types.specs.Points.{points, call_points}
 use Rattle.wa_types.specs.Liveness.{behind_calls, live}
 use Rattle.wa_types.specs.Runtime.{with_runtime}
-use Rattle.wa_model.specs.declared.events.End.TheVariants.{Done, Trapped, UnwindTrap, BadAnswer, BadPoke, PauseInStart, Broken}
+use Rattle.wa_model.specs.declared.events.End.TheVariants.{Done, Trapped, UnwindTrap, RewindTrap, BadAnswer, BadPoke, PauseInStart, Broken}
 use Rattle.wa_model.specs.Outside.{Answer, Event, called, answered, paused, returned, ended}
 use Rattle.wa_types.specs.Memory.{bytes_at}
 use Rattle.wa_types.specs.Frames.{Suspended}
 use Rattle.wa_model.specs.Store.{Store, works, act}
+use Rattle.wa_model.specs.Configuration.{Activation, running, waiting}
+use Rattle.wa_model.specs.Step.{Next, steps, traps, step}
 use Rattle.wa_model.specs.Plan.{Entry, Plan, Outcome, given}
-use Rattle.wa_model.specs.Blocking.{Note, events_of, Blocking, blocking_run}
+use Rattle.wa_model.specs.Blocking.{Note, no_store, events_of, Blocking, blocking_run}
 use Rattle.wa_model.specs.Protocol.{Protocol}
 use Rattle.wa_model.specs.Expected.{Expected}
 
@@ -309,10 +311,11 @@ unfolding with_runtime Base
 breaks_rule_one = refl
 
 -- ---- a module rewritten by hand, whose run asks with its argument: it pauses, and goes on
-abbrev two_if : ℕ → Code → Code → Code
-two_if n body rest = then (global_get 0) (then (const (i32 n)) (then (num I32Eq) (branch None body done rest)))
+-- code that runs where the state is this number
+abbrev on_state : ℕ → Code → Code → Code
+on_state n body rest = then (global_get 0) (then (const (i32 n)) (then (num I32Eq) (branch None body done rest)))
 
--- the address of the top frame, moved by 12 bytes up or down
+-- the location word
 abbrev location : Code → Code
 location rest = then (global_get 1) (then (load 0x28 2 0) rest)
 
@@ -321,11 +324,11 @@ by_hand = with_runtime (module_with (record {
   sort = 0;
   locals = record { count = 2; ty = I32 } ∷ [];
   body =
-      two_if 2 (then (global_get 1) (location (then (const (i32 12)) (then (num I32Sub) (then (store 0x36 2 0)
+      on_state 2 (then (global_get 1) (location (then (const (i32 12)) (then (num I32Sub) (then (store 0x36 2 0)
       (location (then (load 0x28 2 0) (plain (local_set 0) (location (then (load 0x28 2 4) (plain (local_set 1) done)))))))))))
-      (two_if 0 (plain (local_get 0) (plain (local_set 1) done))
+      (on_state 0 (plain (local_get 0) (plain (local_set 1) done))
       (plain (local_get 1) (plain (call 0) (plain (local_set 2)
-      (two_if 1 (location (plain (local_get 0) (then (store 0x36 2 0) (location (plain (local_get 1) (then (store 0x36 2 4) (location (then (const (i32 0)) (then (store 0x36 2 8)
+      (on_state 1 (location (plain (local_get 0) (then (store 0x36 2 0) (location (plain (local_get 1) (then (store 0x36 2 4) (location (then (const (i32 0)) (then (store 0x36 2 8)
       (then (global_get 1) (location (then (const (i32 12)) (then (num I32Add) (then (store 0x36 2 0) done))))))))))))))
       (plain (local_get 2) done))))));
 }))
@@ -380,3 +383,66 @@ second_arm = refl
 behind_arms : stack_in_arms 0 2 ≡ record { func = 1; place = 2; locals = i32 0 ∷ V.I64 0 ∷ []; operands = i32 6 ∷ [] } ∷ []
 unfolding pruned calls_of Base
 behind_arms = refl
+
+-- ---- how a prepared module breaks the protocol, and traps in it
+abbrev held_to : Module → List Event
+held_to p = events_of (Protocol p (plan_of 64 (entry 1 (i32 7 ∷ []) ∷ [])) (answer (Some (i32 1)) 1 ∷ []) 200).events
+
+abbrev state_to : ℕ → Code
+state_to n = then (const (i32 n)) (then (global_set 0) done)
+
+abbrev ask_then : Code → Code
+ask_then rest = plain (local_get 0) (plain (call 0) rest)
+
+abbrev prepared_by : Code → Module
+prepared_by body = with_runtime (module_with (record { sort = 0; locals = []; body = body }))
+
+-- the state isn't 1 once the entry has returned
+breaks_rule_two : held_to (prepared_by (ask_then (then (const (i32 0)) (then (global_set 0) done)))) ≡ call_of 0 (i32 7 ∷ []) ∷ ended (Broken 2) ∷ []
+unfolding with_runtime
+breaks_rule_two = refl
+
+-- another import is called while the program rewinds
+breaks_rule_three : events_of (Protocol (with_runtime (record (module_with (record { sort = 0; locals = []; body = on_state 2 (plain (local_get 0) (plain (call 1) (then drop done))) (ask_then done) })) { imports = import_of 0 ∷ import_of 0 ∷ []; exports = export_of 2 ∷ [] })) (plan_of 64 (entry 2 (i32 7 ∷ []) ∷ [])) (answer (Some (i32 1)) 1 ∷ []) 200).events ≡ call_of 0 (i32 7 ∷ []) ∷ paused 1 8 ∷ ended (Broken 3) ∷ []
+unfolding with_runtime
+breaks_rule_three = refl
+
+-- the state isn't 2 at the suspended import
+breaks_rule_four : held_to (prepared_by (on_state 2 (state_to 0) (ask_then done))) ≡ call_of 0 (i32 7 ∷ []) ∷ paused 1 8 ∷ ended (Broken 4) ∷ []
+unfolding with_runtime
+breaks_rule_four = refl
+
+-- the entry returns while the program rewinds
+breaks_rule_five : held_to (prepared_by (on_state 2 (then (const (i32 3)) (plain return done)) (ask_then done))) ≡ call_of 0 (i32 7 ∷ []) ∷ paused 1 8 ∷ ended (Broken 5) ∷ []
+unfolding with_runtime
+breaks_rule_five = refl
+
+-- a trap while the program unwinds, and one while it rewinds
+traps_unwinding : held_to (prepared_by (ask_then (on_state 1 (plain unreachable done) done))) ≡ call_of 0 (i32 7 ∷ []) ∷ ended (UnwindTrap Unreachable 8 64) ∷ []
+unfolding with_runtime
+traps_unwinding = refl
+
+traps_rewinding : held_to (prepared_by (on_state 2 (plain unreachable done) (ask_then done))) ≡ call_of 0 (i32 7 ∷ []) ∷ paused 1 8 ∷ ended (RewindTrap Unreachable) ∷ []
+unfolding with_runtime
+traps_rewinding = refl
+
+-- an import is called inside an export
+breaks_rule_six : held_to (record (prepared_by (ask_then done)) { funcs = take 5 (prepared_by (ask_then done)).funcs ++ (record { sort = 3; locals = []; body = then (const (i32 1)) (plain (call 0) done) }) ∷ [] }) ≡ call_of 0 (i32 7 ∷ []) ∷ ended (Broken 6) ∷ []
+unfolding with_runtime
+breaks_rule_six = refl
+
+-- ---- 4,096 activations: a call from the last one traps, one from the last but one doesn't
+abbrev recursive : Module
+recursive = module_with (record { sort = 0; locals = []; body = plain (local_get 0) (plain (call 1) done) })
+
+abbrev waits : Activation
+waits = waiting 1 [] [] [] done []
+
+abbrev calls_under : ℕ → Next
+calls_under n = step recursive (running no_store 1 (replicate n waits) (i32 3 ∷ []) (i32 3 ∷ []) (plain (call 1) done) [])
+
+exhausted : calls_under 4095 ≡ traps 1 StackExhausted no_store
+exhausted = refl
+
+not_exhausted : calls_under 4094 ≡ steps 1 (running no_store 1 (waiting 1 (i32 3 ∷ []) [] (i32 3 ∷ []) done [] ∷ replicate 4094 waits) (i32 3 ∷ []) [] (plain (local_get 0) (plain (call 1) done)) [])
+not_exhausted = refl
