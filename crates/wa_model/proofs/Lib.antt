@@ -1,6 +1,8 @@
+pub mod Alone
 mod Cases
 pub mod Compose
 pub mod Follow
 pub mod Moments
 pub mod PrunedRuns
 pub mod Runs
+pub mod ShownRuns
