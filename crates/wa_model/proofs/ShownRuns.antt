@@ -2,7 +2,7 @@
 use Rattle.std.proofs.Common.{◌≡◌, ℕ, zero, suc, ◌+◌, ◌-◌, ◌≤◌, List, [], ◌∷◌, ◌++◌, Option, Some, None, refl, sym, ap, ◌∙◌, ⊎_elim, arith, length}
 use Rattle.std.specs.Prelude.{nat_lt, if◌then◌else◌, Bool, true, false}
 use Rattle.std.proofs.lemmas.Bool.{cases_lt}
-use Rattle.wa_types.specs.Syntax.{Func, FuncType, Module}
+use Rattle.wa_types.specs.Syntax.{Func, Module}
 use Rattle.wa_types.specs.Modules.{func_imports, func_type_at, defined_at}
 use Rattle.wa_types.specs.Frames.{Suspended}
 use Rattle.wa_types.specs.declared.values.Value.{Value}
@@ -12,7 +12,7 @@ use Rattle.wa_model.specs.Machine.{Turn, stops, goes, Ran, run}
 use Rattle.wa_model.specs.Store.{Store}
 use Rattle.wa_model.specs.Step.{Next, steps, asks, returns, traps, stuck, step}
 use Rattle.wa_model.specs.Plan.{Entry, Plan, Outcome, given, refused}
-use Rattle.wa_model.specs.Blocking.{Note, note, fault_of, Task, the_start, an_entry, Left, with_outcomes, Asker, inside, outermost, store_at, in_start, State, between, begins, runs, halts, done_notes, task_back, call_note, poked, pause_of, stack_at, go_on, tested, asked, by_step, enters, enter_next, start_called, blocking}
+use Rattle.wa_model.specs.Blocking.{Note, fault_of, Task, the_start, an_entry, Left, with_outcomes, Asker, inside, outermost, store_at, in_start, State, between, begins, runs, halts, done_notes, task_back, call_note, poked, pause_of, stack_at, go_on, tested, asked, by_step, enters, enter_next, start_called, blocking}
 use Rattle.wa_model.specs.Expected.{pause_note, trap_note, shown_at, shown}
 use Rattle.wa_model.proofs.Runs.{one_move, too_dear, no_move}
 

@@ -16,3 +16,4 @@ pub mod Step
 pub mod Store
 pub mod Untouched
 pub mod View
+pub mod World
