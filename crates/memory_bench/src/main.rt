@@ -4,10 +4,8 @@
 
 ghost use Rattle.std.specs.Prelude.{◌≡◌, ◌⊎◌};
 
-use std::env;
-use std::io;
-
 use page_memory::Pages;
+use std::{env, io};
 
 /// The next number of the congruence.
 fn next(state: u64) -> u64 {

@@ -1,5 +1,5 @@
 -- Counts of bits: those of the definitions are the ones of Rust's methods.
-use Rattle.std.proofs.Common.{◌≡◌, ℕ, zero, suc, ◌+◌, ◌/◌, ◌%◌, ◌^◌, ◌<◌, Bool, cond, eqb, List, [], ◌∷◌, ◌++◌, length, refl, sym, ◌∙◌, ap, subst, inl, inr, arith}
+use Rattle.std.proofs.Common.{◌≡◌, ℕ, zero, suc, ◌+◌, ◌/◌, ◌%◌, ◌^◌, ◌<◌, cond, eqb, List, [], ◌∷◌, ◌++◌, length, refl, sym, ◌∙◌, ap, subst, inl, inr, arith}
 use mathlib.Core.List.{reverse, reverse-cons}
 use Rattle.std.proofs.lemmas.List.{length-reverse}
 use lib.Count.{count_leading_zeros, count_trailing_zeros, ones, under, ones_step, leading_of_zero, leading_top}

@@ -9,7 +9,9 @@ use Rattle.wa_types.specs.declared.values.Value.TheVariants as V
 use Rattle.wa_types.specs.declared.values.Trap.{Trap}
 use Rattle.wa_types.specs.declared.operators.NumOp.{NumOp}
 use Rattle.wa_types.specs.declared.operators.NumOp.TheVariants.{I32Eqz, I32Eq, I32Ne, I32LtS, I32LtU, I32GtS, I32GtU, I32LeS, I32LeU, I32GeS, I32GeU, I64Eqz, I64Eq, I64Ne, I64LtS, I64LtU, I64GtS, I64GtU, I64LeS, I64LeU, I64GeS, I64GeU, I32Clz, I32Ctz, I32Popcnt, I32Add, I32Sub, I32Mul, I32DivS, I32DivU, I32RemS, I32RemU, I32And, I32Or, I32Xor, I32Shl, I32ShrS, I32ShrU, I32Rotl, I32Rotr, I64Clz, I64Ctz, I64Popcnt, I64Add, I64Sub, I64Mul, I64DivS, I64DivU, I64RemS, I64RemU, I64And, I64Or, I64Xor, I64Shl, I64ShrS, I64ShrU, I64Rotl, I64Rotr, I32WrapI64, I64ExtendI32S, I64ExtendI32U}
+use Rattle.wa_types.specs.Encoding.{same_type}
 use Rattle.wa_types.specs.Operators.{operand_types, result_type}
+use Rattle.wa_types.specs.Typing.{type_of}
 use Rattle.wa_ops.specs.declared.class.OperatorClass.{OperatorClass}
 use Rattle.wa_ops.specs.declared.class.OperatorClass.TheVariants.{Unary, Conversion, Comparison, Binary}
 use Rattle.wa_ops.specs.Integers.{iclz, ictz, ipopcnt, ieqz, iadd, isub, imul, idiv_u, idiv_s, irem_u, irem_s, iand, ior, ixor, ishl, ishr_u, ishr_s, irotl, irotr, ieq, ine, ilt_u, ilt_s, igt_u, igt_s, ile_u, ile_s, ige_u, ige_s, wrap, extend_u, extend_s}
@@ -99,11 +101,6 @@ class_in (binary f) = Binary
 abbrev pub class_of : NumOp → OperatorClass
 class_of op = class_in (meaning_of op)
 
--- the type of a value (4.2.1)
-abbrev pub type_of : Value → ValType
-type_of (V.I32 n) = I32
-type_of (V.I64 n) = I64
-
 -- the number of a value
 abbrev pub number_of : Value → ℕ
 number_of (V.I32 n) = n
@@ -114,16 +111,10 @@ abbrev pub value_of : ValType → ℕ → Value
 value_of I32 n = V.I32 n
 value_of I64 n = V.I64 n
 
--- whether a value has a type
-abbrev pub is_of : ValType → Value → Bool
-is_of I32 (V.I32 n) = true
-is_of I64 (V.I64 n) = true
-is_of _ _ = false
-
 -- whether values have types, in order
 abbrev pub are_of : List ValType → List Value → Bool
 are_of [] [] = true
-are_of (t ∷ types) (v ∷ values) = is_of t v && are_of types values
+are_of (t ∷ types) (v ∷ values) = same_type t (type_of v) && are_of types values
 are_of _ _ = false
 
 -- what a meaning makes of numbers, the second operand first; None where their count is wrong

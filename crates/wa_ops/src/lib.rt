@@ -10,8 +10,9 @@
 
 ghost use Rattle.std.specs.Prelude.{◌≡◌, [], ◌∷◌, Some, Ok};
 ghost use Rattle.wa_types.specs.Operators.{operand_types};
+ghost use Rattle.wa_types.specs.Typing.{type_of};
 ghost use Rattle.wa_ops.specs.declared.class.OperatorClass.TheVariants.{Unary, Conversion, Comparison, Binary};
-ghost use Rattle.wa_ops.specs.Operate.{operate, class_of, type_of};
+ghost use Rattle.wa_ops.specs.Operate.{operate, class_of};
 
 mod class;
 mod loads;

@@ -194,8 +194,7 @@ by_opcode : (n : ℕ) (first_arm : Bool) (more : List Goal) (last at op : ℕ) (
 by_opcode n first_arm more last at op new b less short (is_end e f) g =
     (op ∷ [], b, refl, (ended at, (refl, ap (λ z. z ∷ []) e)), subst (λ z. Goes (z ++ more) last (at + 1) b) f g)
 by_opcode n first_arm more last at op new b less short (is_else e t f) g =
-    let r = less false more last (at + 1) b short (subst (λ z. Goes (z ++ more) last (at + 1) b) f g) in
-    (
+    let r = less false more last (at + 1) b short (subst (λ z. Goes (z ++ more) last (at + 1) b) f g) in (
       op ∷ r.0,
       r.1,
       ap (λ z. op ∷ z) r.2,
@@ -205,8 +204,7 @@ by_opcode n first_arm more last at op new b less short (is_else e t f) g =
 by_opcode n first_arm more last at op new b less short (is_nested t f) g =
     let r = reads_block_type.sound (code false ∷ code first_arm ∷ more) last (at + 1) b (subst (λ z. Goes (z ++ more) last (at + 1) b) f g) in
     let s = less false (code first_arm ∷ more) last (at + 1 + length r.0) r.1 (omega (arith, short, ap length r.2, length-append r.0 r.1)) r.4 in
-    let u = less first_arm more last (at + 1 + length r.0 + length s.0) s.1 (omega (arith, short, ap length r.2, length-append r.0 r.1, ap length s.2, length-append s.0 s.1)) s.4 in
-    (
+    let u = less first_arm more last (at + 1 + length r.0 + length s.0) s.1 (omega (arith, short, ap length r.2, length-append r.0 r.1, ap length s.2, length-append s.0 s.1)) s.4 in (
       op ∷ (r.0 ++ (s.0 ++ u.0)),
       u.1,
       ap (λ z. op ∷ z) (r.2 ∙ ap (λ z. r.0 ++ z) (s.2 ∙ ap (λ z. s.0 ++ z) u.2 ∙ sym (append_assoc s.0 u.0 u.1)) ∙ sym (append_assoc r.0 (s.0 ++ u.0) u.1)),
@@ -219,8 +217,7 @@ by_opcode n first_arm more last at op new b less short (is_nested t f) g =
 by_opcode n first_arm more last at op new b less short (is_if e f) g =
     let r = reads_block_type.sound (code true ∷ code first_arm ∷ more) last (at + 1) b (subst (λ z. Goes (z ++ more) last (at + 1) b) f g) in
     let s = less true (code first_arm ∷ more) last (at + 1 + length r.0) r.1 (omega (arith, short, ap length r.2, length-append r.0 r.1)) r.4 in
-    let u = less first_arm more last (at + 1 + length r.0 + length s.0) s.1 (omega (arith, short, ap length r.2, length-append r.0 r.1, ap length s.2, length-append s.0 s.1)) s.4 in
-    (
+    let u = less first_arm more last (at + 1 + length r.0 + length s.0) s.1 (omega (arith, short, ap length r.2, length-append r.0 r.1, ap length s.2, length-append s.0 s.1)) s.4 in (
       op ∷ (r.0 ++ (s.0 ++ u.0)),
       u.1,
       ap (λ z. op ∷ z) (r.2 ∙ ap (λ z. r.0 ++ z) (s.2 ∙ ap (λ z. s.0 ++ z) u.2 ∙ sym (append_assoc s.0 u.0 u.1)) ∙ sym (append_assoc r.0 (s.0 ++ u.0) u.1)),
@@ -232,10 +229,9 @@ by_opcode n first_arm more last at op new b less short (is_if e f) g =
     )
 by_opcode n first_arm more last at op new b less short (is_instr f e i) g =
     let r = (reads_behind f (has_bytes op f e)).sound (code first_arm ∷ more) last (at + 1) b
-        (subst (λ z. Goes z last (at + 1) b) (append_assoc (operands f) (code first_arm ∷ []) more) (subst (λ z. Goes (z ++ more) last (at + 1) b) i g)) in
+    (subst (λ z. Goes z last (at + 1) b) (append_assoc (operands f) (code first_arm ∷ []) more) (subst (λ z. Goes (z ++ more) last (at + 1) b) i g)) in
     let o = from_behind f (at + 1) r.0 r.3 in
-    let u = less first_arm more last (at + 1 + length r.0) r.1 (omega (arith, short, ap length r.2, length-append r.0 r.1)) r.4 in
-    (
+    let u = less first_arm more last (at + 1 + length r.0) r.1 (omega (arith, short, ap length r.2, length-append r.0 r.1)) r.4 in (
       op ∷ (r.0 ++ u.0),
       u.1,
       ap (λ z. op ∷ z) (r.2 ∙ ap (λ z. r.0 ++ z) u.2 ∙ sym (append_assoc r.0 u.0 u.1)),
@@ -304,32 +300,42 @@ code_complete (instr op o rest) first_arm more last at bytes h =
     give_op first_arm more last at bytes op (operands (shape o) ++ code first_arm ∷ []) (instr_next first_arm op.byte (shape o) h.3.0)
     (on_right (Byte op) ((OperandsOf o ▸ CodeOf first_arm rest) ▸ Goes more last) (Goes ((operands (shape o) ++ code first_arm ∷ []) ++ more) last) at bytes
     (λ k b w.
-        let s = to_right (OperandsOf o) (CodeOf first_arm rest) (Goes more last) k b w in
-        subst (λ z. Goes z last k b) (sym (append_assoc (operands (shape o)) (code first_arm ∷ []) more))
-        ((reads_behind (shape o) (has_bytes op.byte (shape o) h.3.0)).complete (code first_arm ∷ more) last k b
-        (s.0, s.1, s.2, to_behind o k s.0 s.3, code_complete rest first_arm more last (k + length s.0) s.1 s.4)))
+    let s = to_right (OperandsOf o) (CodeOf first_arm rest) (Goes more last) k b w in
+    subst (λ z. Goes z last k b) (sym (append_assoc (operands (shape o)) (code first_arm ∷ []) more))
+    ((reads_behind (shape o) (has_bytes op.byte (shape o) h.3.0)).complete (code first_arm ∷ more) last k b
+    (s.0, s.1, s.2, to_behind o k s.0 s.3, code_complete rest first_arm more last (k + length s.0) s.1 s.4)))
     r)
 code_complete (nested op result body rest) first_arm more last at bytes h =
     let r = to_right (Byte op) (BlockType result ▸ CodeOf false body ▸ CodeOf first_arm rest) (Goes more last) at bytes (h.0, h.1, h.2, h.3.1, h.4) in
     give_op first_arm more last at bytes op (block_type ∷ code false ∷ code first_arm ∷ []) (nest_next first_arm op.byte h.3.0)
     (on_right (Byte op) ((BlockType result ▸ CodeOf false body ▸ CodeOf first_arm rest) ▸ Goes more last) (Goes (block_type ∷ code false ∷ code first_arm ∷ more) last) at bytes
     (λ k b w.
-        let s = to_right (BlockType result) (CodeOf false body ▸ CodeOf first_arm rest) (Goes more last) k b w in
-        let t = to_right (CodeOf false body) (CodeOf first_arm rest) (Goes more last) (k + length s.0) s.1 s.4 in
-        reads_block_type.complete (code false ∷ code first_arm ∷ more) last k b
-        (s.0, s.1, s.2, (result, s.3), code_complete body false (code first_arm ∷ more) last (k + length s.0) s.1
-        (t.0, t.1, t.2, t.3, code_complete rest first_arm more last (k + length s.0 + length t.0) t.1 t.4)))
+    let s = to_right (BlockType result) (CodeOf false body ▸ CodeOf first_arm rest) (Goes more last) k b w in
+    let t = to_right (CodeOf false body) (CodeOf first_arm rest) (Goes more last) (k + length s.0) s.1 s.4 in
+    reads_block_type.complete (code false ∷ code first_arm ∷ more) last k b (
+      s.0,
+      s.1,
+      s.2,
+      (result, s.3),
+      code_complete body false (code first_arm ∷ more) last (k + length s.0) s.1
+          (t.0, t.1, t.2, t.3, code_complete rest first_arm more last (k + length s.0 + length t.0) t.1 t.4),
+    ))
     r)
 code_complete (branched op result arms rest) first_arm more last at bytes h =
     let r = to_right (Byte op) (BlockType result ▸ CodeOf true arms ▸ CodeOf first_arm rest) (Goes more last) at bytes (h.0, h.1, h.2, h.3.1, h.4) in
     give_op first_arm more last at bytes op (block_type ∷ code true ∷ code first_arm ∷ []) (ap (behind_opcode first_arm) h.3.0)
     (on_right (Byte op) ((BlockType result ▸ CodeOf true arms ▸ CodeOf first_arm rest) ▸ Goes more last) (Goes (block_type ∷ code true ∷ code first_arm ∷ more) last) at bytes
     (λ k b w.
-        let s = to_right (BlockType result) (CodeOf true arms ▸ CodeOf first_arm rest) (Goes more last) k b w in
-        let t = to_right (CodeOf true arms) (CodeOf first_arm rest) (Goes more last) (k + length s.0) s.1 s.4 in
-        reads_block_type.complete (code true ∷ code first_arm ∷ more) last k b
-        (s.0, s.1, s.2, (result, s.3), code_complete arms true (code first_arm ∷ more) last (k + length s.0) s.1
-        (t.0, t.1, t.2, t.3, code_complete rest first_arm more last (k + length s.0 + length t.0) t.1 t.4)))
+    let s = to_right (BlockType result) (CodeOf true arms ▸ CodeOf first_arm rest) (Goes more last) k b w in
+    let t = to_right (CodeOf true arms) (CodeOf first_arm rest) (Goes more last) (k + length s.0) s.1 s.4 in
+    reads_block_type.complete (code true ∷ code first_arm ∷ more) last k b (
+      s.0,
+      s.1,
+      s.2,
+      (result, s.3),
+      code_complete arms true (code first_arm ∷ more) last (k + length s.0) s.1
+          (t.0, t.1, t.2, t.3, code_complete rest first_arm more last (k + length s.0 + length t.0) t.1 t.4),
+    ))
     r)
 
 pub reads_code : (first_arm : Bool) → Reads (code first_arm ∷ []) (Any (CodeOf first_arm))

@@ -95,8 +95,7 @@ global_from : (at : ℕ) (a : List ℕ) → Begins a_byte GlobalTail at a → An
 unfolding GlobalTail
 global_from at a b =
     let t = b.follows.1 in
-    let g : RawGlobal = record { ty = record { place = at; byte = b.value }; mutable = t.3.0; init = t.4.0 } in
-    (
+    let g : RawGlobal = record { ty = record { place = at; byte = b.value }; mutable = t.3.0; init = t.4.0 } in (
       g,
       to_left (ValueType g.ty) (Mutability g.mutable) (CodeOf false g.init) at a (b.front, b.back, b.whole, (b.follows.0, (refl, b.is_item)), (t.0, t.1, t.2, t.3.1, t.4.1)),
     )
@@ -118,8 +117,7 @@ reads_global = reads_as _ (Begins a_byte GlobalTail) (Any GlobalOf) global_from 
 -- a name, and what stands behind it
 named_from : (F : ℕ → List ℕ → Type 0) (at : ℕ) (a : List ℕ) → Begins an_unsigned (λ v k. NameOf v ▸ F) at a → (Any Text ▸ F) at a
 named_from F at a b =
-    let t = b.follows in
-    (
+    let t = b.follows in (
       b.front ++ t.0,
       t.1,
       b.whole ∙ ap (λ z. b.front ++ z) t.2 ∙ sym (append_assoc b.front t.0 t.1),
@@ -242,8 +240,7 @@ body_from at a b =
     let u = t.4 in
     let all : u.1 ≡ [] = u.4.1 in
     let code_is : t.1 ≡ u.0 = u.2 ∙ ap (λ z. u.0 ++ z) all ∙ append-nil u.0 in
-    let size : length b.back ≡ b.value = omega (arith, u.4.0, ap length t.2, length-append t.0 t.1, ap length code_is) in
-    (
+    let size : length b.back ≡ b.value = omega (arith, u.4.0, ap length t.2, length-append t.0 t.1, ap length code_is) in (
       record { size = b.value; locals = t.3.0; code = u.3.0 },
       (b.front, b.back, b.whole, b.is_item, (size, (t.0, t.1, t.2, t.3.1, subst (CodeOf false u.3.0 (at + length b.front + length t.0)) (sym code_is) u.3.1))),
     )

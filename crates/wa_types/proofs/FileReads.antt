@@ -206,11 +206,10 @@ give (functions xs) ss last owed at bytes h r c b more =
     let g = more 3 (length xs) r.1 c in
     (g.0, give_entries Number some_functions 3 last owed (length xs) g.0 at xs (bytes ++ b) reads_function (rises last 3 r.0) (λ end. refl) (bytes, b, refl, h, g.1))
 give (bodies xs) ss last owed at bytes h r c b more =
-    let g = more 10 0 r.1 c.1 in
-    (
+    let g = more 10 0 r.1 c.1 in (
       g.0,
       give_entries BodyOf some_bodies 10 last owed 0 g.0 at xs (bytes ++ b) reads_body (rises last 10 r.0)
-      (λ end. ap (λ t. where_true t (some_of some_bodies (length xs) ++ until end ∷ sections 10 0 ∷ [])) (same_number (length xs) owed c.0)) (bytes, b, refl, h, g.1),
+          (λ end. ap (λ t. where_true t (some_of some_bodies (length xs) ++ until end ∷ sections 10 0 ∷ [])) (same_number (length xs) owed c.0)) (bytes, b, refl, h, g.1),
     )
 give (segments xs) ss last owed at bytes h r c b more =
     let g = more 11 owed r.1 c.1 in

@@ -51,8 +51,7 @@ takes_one g gs last at bytes c o h =
 
 pub leads_one : (g : Goal) (gs : List Goal) (last at : ℕ) (bytes : List ℕ) → First g gs last at bytes → Leads at (g ∷ gs) bytes (sections last 0 ∷ []) × Inside at (g ∷ gs)
 leads_one g gs last at bytes f =
-    let s : Steps g gs f.value (at + length f.front) f.goes.left = record { new = f.new; pushed = f.pushed; settles = f.goes.settles; inside = f.goes.inside } in
-    (
+    let s : Steps g gs f.value (at + length f.front) f.goes.left = record { new = f.new; pushed = f.pushed; settles = f.goes.settles; inside = f.goes.inside } in (
       item f.front f.back f.value f.goes.left f.whole f.is_item s f.goes.leads,
       steps_inside g gs f.value (at + length f.front) at f.goes.left s (omega (arith, item_some (wants g) f.front f.value f.is_item)),
     )
@@ -66,8 +65,7 @@ gives_one g gs last at bytes c f =
 module _ (F G H : ℕ → List ℕ → Type 0) (at : ℕ) (bytes : List ℕ) where
   pub to_left : (F ▸ (G ▸ H)) at bytes → ((F ▸ G) ▸ H) at bytes
   to_left h =
-      let t = h.4 in
-      (
+      let t = h.4 in (
         h.0 ++ t.0,
         t.1,
         h.2 ∙ ap (λ z. h.0 ++ z) t.2 ∙ sym (append_assoc h.0 t.0 t.1),
@@ -77,8 +75,7 @@ module _ (F G H : ℕ → List ℕ → Type 0) (at : ℕ) (bytes : List ℕ) whe
 
   pub to_right : ((F ▸ G) ▸ H) at bytes → (F ▸ (G ▸ H)) at bytes
   to_right h =
-      let t = h.3 in
-      (
+      let t = h.3 in (
         t.0,
         t.1 ++ h.1,
         h.2 ∙ ap (λ z. z ++ h.1) t.2 ∙ append_assoc t.0 t.1 h.1,
@@ -152,8 +149,7 @@ pub reads_first : (g : Goal) (F : (v at : ℕ) → ℕ → List ℕ → Type 0) 
 reads_first g F c o r = record {
   sound = λ more last at bytes h.
       let f = takes_one g more last at bytes c o h in
-      let s = (sound_next _ f.new (F f.value (at + length f.front)) f.pushed (r f.value (at + length f.front))).sound more last (at + length f.front) f.back f.goes in
-      (
+      let s = (sound_next _ f.new (F f.value (at + length f.front)) f.pushed (r f.value (at + length f.front))).sound more last (at + length f.front) f.back f.goes in (
         f.front ++ s.0,
         s.1,
         f.whole ∙ ap (λ z. f.front ++ z) s.2 ∙ sym (append_assoc f.front s.0 s.1),

@@ -22,3 +22,7 @@ pub mod ViewLemmas
 pub mod WeightLemmas
 pub mod LiveLemmas
 pub mod PointLemmas
+pub mod SlotLemmas
+pub mod SizeBounds
+pub mod AccessLemmas
+pub mod MemoryLemmas

@@ -221,7 +221,7 @@ entries_step : {X : Type 0} (f : X → ℕ → List ℕ → Type 0) (k : Kind) (
 entries_step f k id last owed next_owed fin at bytes r o e =
     let end = at + 1 + length o.size_bytes + o.bytes_size in
     let m = (reads_some f k r o.value).sound (until end ∷ sections id next_owed ∷ []) fin (at + 1 + length o.size_bytes + length o.head_bytes) o.back
-        (subst (λ z. Goes z fin (at + 1 + length o.size_bytes + length o.head_bytes) o.back) e o.goes) in
+    (subst (λ z. Goes z fin (at + 1 + length o.size_bytes + length o.head_bytes) o.back) e o.goes) in
     let u = behind_end end (sections id next_owed ∷ []) fin (at + 1 + length o.size_bytes + length o.head_bytes + length m.0) m.1 m.4 in
     record {
       items = m.3.items;

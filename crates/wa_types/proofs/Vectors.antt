@@ -129,7 +129,7 @@ module _ {X : Type 0} (f : X → ℕ → List ℕ → Type 0) where
   reads_entries k r zero = reads_as (entries k 1 ∷ []) (Any f) (Many f 1) one_from one_to r
   reads_entries k r (suc n) =
       let s = reads_as (entries k 1 ∷ entries k (suc n) ∷ []) (Any f ▸ Many f (suc n)) (Many f (suc (suc n))) (more_from (suc n)) (more_to (suc n))
-          (reads_then (entries k 1) (entries k (suc n) ∷ []) (Any f) (Many f (suc n)) r (reads_entries k r n)) in
+      (reads_then (entries k 1) (entries k (suc n) ∷ []) (Any f) (Many f (suc n)) r (reads_entries k r n)) in
       record {
         sound = λ more last at bytes h. s.sound more last at bytes (unroll k n last at more bytes h);
         complete = λ more last at bytes h. roll k n last at more bytes (s.complete more last at bytes h);

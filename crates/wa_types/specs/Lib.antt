@@ -6,6 +6,7 @@ pub mod Bounds
 pub mod Counts
 pub mod Encoding
 pub mod FirstFault
+pub mod FrameLaws
 pub mod Frames
 pub mod Leb
 pub mod Liveness

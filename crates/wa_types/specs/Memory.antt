@@ -1,5 +1,6 @@
 -- Memories as lists of bytes, and what loads, stores and growth do to them (standard, sections 4.2.8 and 4.4.4).
-use Rattle.std.specs.Prelude.{◌≡◌, ◌≤◌, ℕ, zero, suc, ◌+◌, ◌*◌, ◌/◌, ◌%◌, min, nat_le, if◌then◌else◌, List, [], ◌∷◌, ◌++◌, length, take, drop, replicate, Option, Some, None}
+use Rattle.std.specs.Prelude.{◌≡◌, ◌≤◌, ℕ, ◌+◌, ◌*◌, ◌/◌, ◌%◌, min, nat_le, if◌then◌else◌, List, [], ◌∷◌, ◌++◌, length, take, drop, replicate, Option, Some, None}
+use Rattle.std.specs.Int.{bytes_low_first}
 
 -- A memory instance (4.2.8): its bytes, and where told the greatest number of pages that its type allows.
 pub record Memory : Type 0 where
@@ -21,10 +22,9 @@ pub record IsWholePages (bytes : List ℕ) : Type 0 where
 
 -- ---- little-endian bytes
 
--- the low bytes of a number, as many as told, the lowest first (4.3.1 littleendian)
+-- the low bytes of a number, as many as told, the lowest first (4.3.1 bytes_iN)
 abbrev pub bytes_of : ℕ → ℕ → List ℕ
-bytes_of zero n = []
-bytes_of (suc width) n = n % 256 ∷ bytes_of width (n / 256)
+bytes_of width n = bytes_low_first 0 width n
 
 -- the number that bytes spell, the lowest first (the inverse of bytes_iN)
 abbrev pub number_of_bytes : List ℕ → ℕ

@@ -7,7 +7,6 @@ use Rattle.wa_types.specs.declared.syntax.Limits.{Limits}
 use Rattle.wa_types.specs.declared.syntax.Import.{Import}
 use Rattle.wa_types.specs.declared.syntax.ImportKind.{ImportKind}
 use Rattle.wa_types.specs.declared.syntax.ImportKind.TheVariants.{Func as a_func_import, Table as a_table_import, Memory as a_memory_import, Global as a_global_import}
-use Rattle.wa_types.specs.Accesses.{load_row, store_row}
 use Rattle.wa_types.specs.Syntax.{Basic, load, store, Plain, basic, Code, done, plain, nest, branch, FuncType, Func, GlobalDef, Module}
 use Rattle.wa_types.specs.Typing.{GlobalType, Around}
 
@@ -93,22 +92,3 @@ around m f = record {
 -- the defined function of this index
 abbrev pub defined_at : Module → ℕ → Option Func
 defined_at m x = if nat_lt x (func_imports m) then None else slice_get m.funcs (x - func_imports m)
-
--- an instruction of the syntax: a load's opcode is one of a load, a store's one of a store
-abbrev pub is_instruction : Plain → Bool
-is_instruction (basic (load op align offset)) = is_some (load_row op)
-is_instruction (basic (store op align offset)) = is_some (store_row op)
-is_instruction _ = true
-
-unfoldable pub is_syntax : Code → Bool
-is_syntax done = true
-is_syntax (plain p rest) = is_instruction p && is_syntax rest
-is_syntax (nest s r body rest) = is_syntax body && is_syntax rest
-is_syntax (branch r a b rest) = is_syntax a && is_syntax b && is_syntax rest
-
--- All code of the module is of the syntax; a value of which this isn't so is no module (2.4, 2.5).
-pub record IsModule (m : Module) : Type 0 where
-  pub bodies : list_all (λ (f : Func). is_syntax f.body) m.funcs ≡ true
-  pub globals : list_all (λ g. is_syntax g.init) m.globals ≡ true
-  pub elems : list_all (λ e. is_syntax e.offset) m.elems ≡ true
-  pub segments : list_all (λ s. is_syntax s.offset) m.segments ≡ true

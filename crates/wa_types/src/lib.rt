@@ -8,6 +8,7 @@
 #![tactic(auto)]
 
 mod control;
+mod frame_laws;
 mod instrs;
 mod leb;
 mod names;
@@ -17,6 +18,7 @@ mod typing_laws;
 mod values;
 mod weights;
 
+pub use frame_laws::{live_is_path, slots_are_pairs};
 pub use instrs::Instr;
 pub use leb::{
     LebFault, Spelling, read_s32, read_s64, read_u32, signed_spelling_laws, unsigned_spelling_laws,

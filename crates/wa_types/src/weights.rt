@@ -11,8 +11,8 @@ use crate::syntax::{Func, ImportKind, Module, Run};
 /// The weight of a function: the number of instructions, labels of `br_table` and call parameters of its pruned
 /// body, plus its parameters and locals. A type or function index out of range counts no parameters.
 pub fn weight(module: &Module, func: &Func) -> u64
-    requires { Weight (module_of module.now) (func_of func.now) < 2 ^ 64 }
-    ensures { result ≡ Weight (module_of module.now) (func_of func.now) }
+    requires { Weight (module_of «module».now) (func_of func.now) < 2 ^ 64 }
+    ensures { result ≡ Weight (module_of «module».now) (func_of func.now) }
 {
     let locals = type_params(module, func.sort) + local_count(&func.locals);
     body_weight(module, &func.body) + locals
@@ -33,7 +33,7 @@ fn local_count(runs: &[Run]) -> u64
 // The number of parameters of the type of this index.
 #[tactic(auto, using(crate::proofs::WeightLemmas::finding))]
 fn type_params(module: &Module, sort: u32) -> u64
-    ensures { result ≡ length (type_at (module_of module.now) sort).params }
+    ensures { result ≡ length (type_at (module_of «module».now) sort).params }
 {
     match module.types.get(sort as usize) {
         Some(ty) => ty.params.len() as u64,
@@ -44,7 +44,7 @@ fn type_params(module: &Module, sort: u32) -> u64
 // The index of the type of the function of this index.
 #[tactic(auto, using(crate::proofs::WeightLemmas::finding))]
 fn sort_of(module: &Module, func: u32) -> Option<u32>
-    ensures { result ≡ slice_get (func_sorts (module_of module.now)) func }
+    ensures { result ≡ slice_get (func_sorts (module_of «module».now)) func }
 {
     let mut left = func as usize;
     for import in &module.imports {
@@ -64,7 +64,7 @@ fn sort_of(module: &Module, func: u32) -> Option<u32>
 // The number of parameters of the function of this index.
 #[tactic(auto, using(crate::proofs::WeightLemmas::finding))]
 fn func_params(module: &Module, func: u32) -> u64
-    ensures { result ≡ length (func_type_at (module_of module.now) func).params }
+    ensures { result ≡ length (func_type_at (module_of «module».now) func).params }
 {
     match sort_of(module, func) {
         Some(sort) => type_params(module, sort),
@@ -75,8 +75,8 @@ fn func_params(module: &Module, func: u32) -> u64
 #[cycle(weight)]
 #[tactic(auto, using(crate::proofs::WeightLemmas::weighing))]
 fn body_weight(module: &Module, body: &[Instr]) -> u64
-    requires { code_weight (module_of module.now) (pruned (code body.now)) < 2 ^ 64 }
-    ensures { result ≡ code_weight (module_of module.now) (pruned (code body.now)) }
+    requires { code_weight (module_of «module».now) (pruned (code body.now)) < 2 ^ 64 }
+    ensures { result ≡ code_weight (module_of «module».now) (pruned (code body.now)) }
 {
     let mut n = 0;
     for instr in body {
@@ -91,8 +91,8 @@ fn body_weight(module: &Module, body: &[Instr]) -> u64
 #[cycle(weight)]
 #[tactic(auto, using(crate::proofs::WeightLemmas::weighing))]
 fn instr_weight(module: &Module, instr: &Instr) -> u64
-    requires { code_weight (module_of module.now) (pruned (in_front instr.now done)) < 2 ^ 64 }
-    ensures { result ≡ code_weight (module_of module.now) (pruned (in_front instr.now done)) }
+    requires { code_weight (module_of «module».now) (pruned (in_front instr.now done)) < 2 ^ 64 }
+    ensures { result ≡ code_weight (module_of «module».now) (pruned (in_front instr.now done)) }
 {
     match instr {
         Instr::BrTable { labels, last: _ } => 1 + labels.len() as u64 + 1,

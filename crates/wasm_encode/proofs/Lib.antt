@@ -1,2 +1,5 @@
 pub mod Codes
+pub mod ModuleLemmas
+pub mod Runs
+pub mod SectionLemmas
 pub mod Vectors

@@ -1,1 +1,3 @@
 pub mod Instrs
+pub mod Locals
+pub mod Modules

@@ -1,0 +1,16 @@
+use Rattle.std.proofs.Common.{rules, ◌≡◌, ℕ, ◌+◌, ◌<◌, ◌^◌, List, [], ◌∷◌, ◌++◌, Ok, Err, length, true, ap, sym, ◌∙◌, refl, arith, append_assoc}
+use Rattle.std.specs.List.{All, AllPass}
+use Rattle.wa_types.specs.declared.syntax.Run.{Run}
+use Rattle.wa_types.specs.Encoding.{vector, section, type_byte, func_type_bytes, export_bytes, run_bytes}
+use Rattle.wa_types.specs.Leb.{shortest}
+use Rattle.wa_types.specs.View.{func_type_of}
+use Rattle.wasm_reader.specs.Small.{is_i32, is_u32, is_small_type, IsSmallExport}
+use Rattle.wasm_reader.proofs.Vectors.{Keeps}
+use Rattle.wasm_reader.proofs.bodies.runs.Given as goal
+
+abbrev pub invariant-loop-index : goal.invariant-loop-index
+invariant-loop-index l = record {
+  count : length l.runs.items ≡ l._index;
+  small : AllPass (λ (r : Run). is_u32 r.count) l.runs.items;
+  keeps : Keeps (λ x. x) run_bytes (λ (r : Run). is_u32 r.count ≡ true) l.count l.initial.input l.runs.items l.input;
+}
