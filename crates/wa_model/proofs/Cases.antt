@@ -1,5 +1,5 @@
 -- Small runs that the definitions compute.
-use Rattle.std.proofs.Common.{◌≡◌, ℕ, List, [], ◌∷◌, ◌++◌, take, Some, None, true, refl}
+use Rattle.std.proofs.Common.{◌≡◌, ℕ, List, [], ◌∷◌, ◌++◌, take, Some, None, true, false, refl}
 use Rattle.std.specs.Prelude.{Option, slice_get, replicate, codes}
 use Rattle.wa_types.specs.declared.values.ValType.TheVariants.{I32, I64}
 use Rattle.wa_types.specs.declared.values.Value.{Value}
@@ -13,14 +13,15 @@ use Rattle.wa_types.specs.declared.syntax.Space.TheVariants as Sp
 use Rattle.wa_types.specs.Syntax.{Basic, drop, const, num, global_get, global_set, return, unreachable, load, store, memory_grow, basic, local_get, local_set, local_tee, br_if, br_table, call, call_indirect, Code, done, plain, nest, branch, a_block, a_loop, FuncType, Func, Module}
 use Rattle.wa_types.specs.Pruned.{pruned}
 use Rattle.wa_types.specs.Base.{Base}
-use Rattle.wa_types.specs.Pausing.{calls_of, save_all, save_live}
+use Rattle.wa_types.specs.Pausing.{calls_of, every, save_all, save_live, Settings}
+use Rattle.wa_types.specs.Bounds.{code_weight, Bound}
 use Rattle.wa_types.specs.Points.{points, call_points}
 use Rattle.wa_types.specs.Liveness.{behind_calls, live}
 use Rattle.wa_types.specs.Runtime.{with_runtime}
 use Rattle.wa_model.specs.declared.events.End.TheVariants.{Done, Trapped, UnwindTrap, RewindTrap, BadAnswer, BadPoke, PauseInStart, Broken}
 use Rattle.wa_model.specs.Outside.{Answer, Event, called, answered, paused, returned, ended}
 use Rattle.wa_types.specs.Memory.{bytes_at}
-use Rattle.wa_types.specs.Frames.{Suspended}
+use Rattle.wa_types.specs.Frames.{Suspended, Image}
 use Rattle.wa_model.specs.Store.{Store, works, act}
 use Rattle.wa_model.specs.Configuration.{Activation, running, waiting}
 use Rattle.wa_model.specs.Step.{Next, steps, traps, step}
@@ -28,6 +29,7 @@ use Rattle.wa_model.specs.Plan.{Entry, Plan, Outcome, given}
 use Rattle.wa_model.specs.Blocking.{Note, no_store, events_of, Blocking, blocking_run}
 use Rattle.wa_model.specs.Protocol.{Protocol}
 use Rattle.wa_model.specs.Expected.{Expected}
+use Rattle.wa_model.specs.Behaves.{IsPrefix, expected_notes, protocol_notes, pause_stacks, without_pauses}
 
 abbrev i32 : ℕ → Value
 i32 n = V.I32 n
@@ -446,3 +448,26 @@ exhausted = refl
 
 not_exhausted : calls_under 4094 ≡ steps 1 (running no_store 1 (waiting 1 (i32 3 ∷ []) [] (i32 3 ∷ []) done [] ∷ replicate 4094 waits) (i32 3 ∷ []) [] (plain (local_get 0) (plain (call 1) done)) [])
 not_exhausted = refl
+
+-- ---- the module rewritten by hand behaves like its original in this run
+abbrev every_import : Settings
+every_import = record { choice = every; ignore_indirect = false; policy = save_all }
+
+abbrev hand_answers : List Outcome
+hand_answers = answer (Some (i32 42)) 5 ∷ []
+
+hand_reaches : IsPrefix (events_of (expected_notes asks_once every_import by_hand_plan hand_answers 6)) (events_of (protocol_notes by_hand by_hand_plan hand_answers (Bound asks_once 6 (pause_stacks (Blocking asks_once by_hand_plan hand_answers 6).events))))
+unfolding with_runtime pruned calls_of points Base code_weight
+hand_reaches = ([], refl)
+
+hand_follows : IsPrefix (events_of (protocol_notes by_hand by_hand_plan hand_answers 20)) (events_of (expected_notes asks_once every_import by_hand_plan hand_answers 20))
+unfolding with_runtime pruned calls_of points Base
+hand_follows = (paused 5 20 ∷ answered (Some (i32 42)) ∷ returned 0 (Some (i32 42)) ∷ ended Done ∷ [], refl)
+
+hand_image : Image asks_once every_import (false ∷ true ∷ []) (stack_of_note (slice_get (expected_notes asks_once every_import by_hand_plan hand_answers 6) 1)) 1024 64 (bytes_of_note (slice_get (protocol_notes by_hand by_hand_plan hand_answers 200) 1) 0 65536)
+unfolding with_runtime pruned calls_of points Base
+hand_image = record { location = refl; limit = refl; frames = (((refl, (refl, tt)), refl), tt) }
+
+hand_moment : events_of (Blocking asks_once by_hand_plan hand_answers 6).events ≡ without_pauses (by_hand_events 200)
+unfolding with_runtime Base
+hand_moment = refl

@@ -8,7 +8,8 @@ use Rattle.wa_types.specs.Memory.{overwritten}
 use Rattle.wa_types.specs.Modules.{func_imports, func_type_at, defined_at}
 use Rattle.wa_types.specs.Pausing.{is_told}
 use Rattle.wa_types.specs.Frames.{Suspended}
-use Rattle.wa_ops.specs.Operate.{is_of}
+use Rattle.wa_types.specs.Encoding.{same_type}
+use Rattle.wa_types.specs.Typing.{type_of}
 use Rattle.wa_model.specs.declared.answers.Area.{Area}
 use Rattle.wa_model.specs.declared.events.End.{End}
 use Rattle.wa_model.specs.declared.events.End.TheVariants.{Done, Trapped, BadAnswer, BadPoke, PauseInStart, UnlistedPause}
@@ -44,7 +45,7 @@ events_of notes = map (λ (x : Note). x.event) notes
 -- a value of a result type
 abbrev pub answers : List ValType → Option Value → Bool
 answers [] None = true
-answers (t ∷ []) (Some v) = is_of t v
+answers (t ∷ []) (Some v) = same_type t (type_of v)
 answers _ _ = false
 
 -- some bytes of the one range are bytes of the other

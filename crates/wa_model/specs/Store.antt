@@ -13,7 +13,9 @@ use Rattle.wa_types.specs.Accesses.{AccessRow, load_row, store_row}
 use Rattle.wa_types.specs.Memory.{Memory, pages_of, number_at, with_number, grown}
 use Rattle.wa_types.specs.Syntax.{Basic, nop, drop, select, const, num, global_get, global_set, load, store, memory_size, memory_grow}
 use Rattle.wa_ops.specs.Integers.{extend_s}
-use Rattle.wa_ops.specs.Operate.{operate, value_of, number_of, is_of}
+use Rattle.wa_ops.specs.Operate.{operate, value_of, number_of}
+use Rattle.wa_types.specs.Encoding.{same_type}
+use Rattle.wa_types.specs.Typing.{type_of}
 
 -- The values of the globals, the bytes of the memory, and the table: a function's index for each element that
 -- is initialised (4.2.3, 4.2.7 to 4.2.9). Without a memory or a table its list is empty.
@@ -104,7 +106,7 @@ stored s (Some memory) = works (with_memory s memory) []
 abbrev pub store_at : Store → ℕ → Value → Option AccessRow → Did
 store_at s place v None = lacks
 store_at s place v (Some row) =
-    if is_of row.ty v then stored s (with_number s.memory place (width_of row) (number_of v)) else lacks
+    if same_type row.ty (type_of v) then stored s (with_number s.memory place (width_of row) (number_of v)) else lacks
 
 -- memory.grow (4.4.4.4): the old number of pages, or -1
 abbrev pub grew : Store → Option Memory → Did
