@@ -2,6 +2,7 @@ pub mod Alone
 mod Cases
 pub mod Compose
 pub mod Follow
+pub mod FromMoves
 pub mod Moments
 pub mod PrunedRuns
 pub mod Runs

@@ -8,7 +8,7 @@ use Rattle.wa_types.specs.Pausing.{calls_of, calls_in}
 use Rattle.wa_types.specs.Frames.{Suspended}
 use Rattle.wa_model.specs.Store.{Store}
 
--- A label: what a branch to it goes on with, and the instructions left behind it (4.2.12.1). `height` is the number
+-- A label: what a branch to it goes on with, and the instructions left behind it (4.2.12). `height` is the number
 -- of the function's operands below the construct.
 pub data Label : Type 0 where
   -- of a block or an if: a branch carries so many values and goes on behind the construct. `skipped` is the arm that
@@ -17,7 +17,7 @@ pub data Label : Type 0 where
   -- of a loop: a branch carries none and begins the body again
   loop_label : (height : ℕ) → (body rest : Code) → Label
 
--- An activation of a defined function (4.2.12.2): the function's index, its locals, its operands, the topmost first,
+-- An activation of a defined function (4.2.12): the function's index, its locals, its operands, the topmost first,
 -- the operands that the call took at which it waits, the code that stands next, and the labels around it, the
 -- innermost first.
 pub record Activation : Type 0 where
@@ -28,7 +28,7 @@ pub record Activation : Type 0 where
   pub code : Code
   pub labels : List Label
 
--- A configuration (4.2.12): the store, the activation that runs, and those that wait below it, the innermost first.
+-- A configuration (4.2.13): the store, the activation that runs, and those that wait below it, the innermost first.
 pub record Configuration : Type 0 where
   pub store : Store
   pub here : Activation

@@ -33,19 +33,19 @@ keep h ops = drop (length ops - h) ops
 abbrev pub result_count : Module → ℕ → ℕ
 result_count m fn = length (func_type_at m fn).results
 
--- The results go to the caller (4.4.10.2).
+-- The results go to the caller (4.4.7.2).
 abbrev pub leave : ℕ → Store → (ops : List Value) → (arity : ℕ) → List Activation → Next
 leave k s ops arity [] = returns k (take arity ops) s
 leave k s ops arity (a ∷ under) = steps k (running s a.func under a.locals (take arity ops ++ a.operands) a.code a.labels)
 
--- A branch to the label of this number (4.4.8.6). Past the last one it leaves the function.
+-- A branch to the label of this number (4.4.5.6). Past the last one it leaves the function.
 abbrev pub jump : ℕ → Module → Store → ℕ → List Activation → (ls ops : List Value) → List Label → (l : ℕ) → Next
 jump k m s fn under ls ops [] l = leave k s ops (result_count m fn) under
 jump k m s fn under ls ops (block_label h arity rest skipped ∷ labels) zero = steps k (running s fn under ls (take arity ops ++ keep h ops) rest labels)
 jump k m s fn under ls ops (loop_label h body rest ∷ labels) zero = steps k (running s fn under ls (keep h ops) body (loop_label h body rest ∷ labels))
 jump k m s fn under ls ops (label ∷ labels) (suc l) = jump k m s fn under ls ops labels l
 
--- The end of a sequence (4.4.9.2, 4.4.10.2).
+-- The end of a sequence (4.4.6.2, 4.4.7.2).
 abbrev pub finish : Module → Store → ℕ → List Activation → (ls ops : List Value) → List Label → Next
 finish m s fn under ls ops [] = leave 0 s ops (result_count m fn) under
 finish m s fn under ls ops (block_label h arity rest skipped ∷ labels) = steps 0 (running s fn under ls ops rest labels)
@@ -76,16 +76,16 @@ abbrev pub arity_of : Option ValType → ℕ
 arity_of None = 0
 arity_of (Some t) = 1
 
--- the zero of a type (4.4.10.1)
+-- the zero of a type (4.4.7.1)
 abbrev pub zero_of : ValType → Value
 zero_of t = value_of t 0
 
--- the configuration just after a call of a defined function: its declared locals are zero (4.4.10.1)
+-- the configuration just after a call of a defined function: its declared locals are zero (4.4.7.1)
 abbrev pub entered : Store → List Activation → (args : List Value) → ℕ → Func → Configuration
 entered s under args x f = running s x under (args ++ map zero_of (declared_locals f.locals)) [] f.body []
 
 -- A call of the function of this index, which takes so many arguments, below the operands that the instruction took
--- itself (4.4.10.1). One that would make activation 4,097 traps. A call of an import is no activation.
+-- itself (4.4.7.1). One that would make activation 4,097 traps. A call of an import is no activation.
 abbrev pub invoke : Module → Store → ℕ → List Activation → (ls own ops : List Value) → Code → List Label → (params x : ℕ) → Option Func → Next
 invoke m s fn under ls own ops rest labels params x (Some f) =
     if nat_lt (length under + 1) 4096
@@ -107,7 +107,7 @@ same_types _ _ = false
 abbrev pub same_func_type : FuncType → FuncType → Bool
 same_func_type t u = same_types t.params u.params && same_types t.results u.results
 
--- A call through the table, of a function of the type of this index (4.4.8.11).
+-- A call through the table, of a function of the type of this index (4.4.5.11).
 abbrev pub through : Module → Store → ℕ → List Activation → (ls own ops : List Value) → Code → List Label → (sort : ℕ) → Option (Option ℕ) → Next
 through m s fn under ls own ops rest labels sort None = traps (param_count (type_at m sort)) UndefinedElement s
 through m s fn under ls own ops rest labels sort (Some None) = traps (param_count (type_at m sort)) UninitializedElement s
@@ -124,7 +124,7 @@ first_max (l ∷ ls) = l.max
 abbrev pub memory_max : Module → Option ℕ
 memory_max m = first_max (all_memories m)
 
--- By the instruction that stands next. Variable instructions are 4.4.3, control instructions 4.4.8.
+-- By the instruction that stands next. Variable instructions are 4.4.3, control instructions 4.4.5.
 abbrev pub step_plain : Module → Store → ℕ → List Activation → (ls ops : List Value) → List Label → (rest : Code) → Plain → Next
 step_plain m s fn under ls ops labels rest (basic b) = did fn under ls labels rest s (drop (takes b) ops) (act (memory_max m) b s (take (takes b) ops))
 step_plain m s fn under ls ops labels rest (local_get x) = steps 0 (running s fn under ls (value_at ls x ∷ ops) rest labels)
@@ -138,7 +138,7 @@ step_plain m s fn under ls ops labels rest unreachable = traps 0 Unreachable s
 step_plain m s fn under ls ops labels rest (call x) = invoke m s fn under ls [] ops rest labels (param_count (func_type_at m x)) x (defined_at m x)
 step_plain m s fn under ls ops labels rest (call_indirect sort) = with_number ops (λ n below. through m s fn under ls (V.I32 n ∷ []) below rest labels sort (slice_get s.table n))
 
--- By the code that stands next. A construct begins with none of the operands below it (4.4.8.3 to 4.4.8.5).
+-- By the code that stands next. A construct begins with none of the operands below it (4.4.5.3 to 4.4.5.5).
 abbrev pub step_at : Module → Store → ℕ → List Activation → (ls ops : List Value) → List Label → Code → Next
 step_at m s fn under ls ops labels done = finish m s fn under ls ops labels
 step_at m s fn under ls ops labels (plain p rest) = step_plain m s fn under ls ops labels rest p
