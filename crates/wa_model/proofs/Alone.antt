@@ -8,19 +8,8 @@ use Rattle.wa_model.specs.Step.{Next, steps, asks, returns, traps, stuck, step}
 use Rattle.wa_model.specs.Plan.{Plan}
 use Rattle.wa_model.specs.Blocking.{Note, Task, Left, runs, by_step, blocking}
 use Rattle.wa_model.specs.Protocol.{Exports, Phase, is_running, unwinds, rewinds, Then, busy, aside, busy_step, aside_step, protocol}
+use Rattle.wa_model.specs.Alone.{alone_next, alone}
 use Rattle.wa_model.proofs.Runs.{leads_on}
-
-abbrev pub alone_next : Bool → Next → Turn Configuration Note
-alone_next false o = stops
-alone_next true (steps k d) = goes k [] d
-alone_next true (asks k import args d) = stops
-alone_next true (returns k values s) = stops
-alone_next true (traps k trap s) = stops
-alone_next true stuck = stops
-
--- the module alone; it stops where a configuration fails the test
-abbrev pub alone : (Configuration → Bool) → Module → Configuration → Turn Configuration Note
-alone ok m c = alone_next (ok c) (step m c)
 
 -- reductions of this total cost, all from configurations that pass
 pub record Comes (ok : Configuration → Bool) (m : Module) (c : Configuration) (n : ℕ) (d : Configuration) : Type 0 where

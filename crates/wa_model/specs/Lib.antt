@@ -1,3 +1,4 @@
+pub mod Alone
 pub mod Behaves
 pub mod Blocking
 pub mod Configuration
