@@ -2,7 +2,7 @@
 -- that a reduction leaves may be asked to pass a test, such as one on the bytes that the reduction touches.
 use Rattle.std.proofs.Common.{◌≡◌, ℕ, suc, ◌+◌, List, [], Bool, true, false, refl, ap, ◌∙◌, arith}
 use Rattle.wa_types.specs.Syntax.{Module}
-use Rattle.wa_model.specs.Machine.{Turn, stops, goes, Leads, stays, moves}
+use Rattle.wa_model.specs.Machine.{goes, Leads, stays, moves}
 use Rattle.wa_model.specs.Configuration.{Configuration}
 use Rattle.wa_model.specs.Step.{Next, steps, asks, returns, traps, stuck, step}
 use Rattle.wa_model.specs.Plan.{Plan}

@@ -1,6 +1,7 @@
 pub mod Alone
 mod Cases
 pub mod Compose
+pub mod Ends
 pub mod Follow
 pub mod FromMoves
 pub mod Moments

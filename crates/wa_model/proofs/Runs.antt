@@ -113,6 +113,33 @@ module _ (S E : Type 0) (next : S → Turn S E) where
       let both : after es (run next 0 t) ≡ after fs (run next 0 u) = sym ra ∙ rb in
       (sym (append-nil es) ∙ ap (λ r. r.events) both ∙ append-nil fs, ap (λ r. r.last) both)
 
+  -- a longer stretch goes on from where a shorter one leads
+  pub leads_beyond : (s t u : S) (j n : ℕ) (es fs : List E) → Leads next s j es t → Leads next s n fs u → j ≤ n → (gs : List E) × Leads next t (n - j) gs u
+  leads_beyond s t u j n es fs stays r le = let z : n ≡ n - 0 = omega arith in (fs, subst (λ k. Leads next s k fs u) z r)
+  leads_beyond s t u j n es fs (moves e l em eg) stays le = let z : ⊥ = omega arith in absurd z
+  leads_beyond s t u j n es fs (moves {t = t1} {k = k1} {n = n1} {es = es1} {fs = fs1} e l em eg) (moves {t = t2} {k = k2} {n = n2} {es = es2} {fs = fs2} e' l' em' eg') le =
+      let same : goes k1 es1 t1 ≡ goes k2 es2 t2 = sym e ∙ e' in
+      let same_k : k1 ≡ k2 = cc in
+      let same_t : t2 ≡ t1 = cc in
+      let on = leads_beyond t1 t u n1 n2 fs1 fs2 l (subst (λ x. Leads next x n2 fs2 u) same_t l') (omega arith) in
+      let z : n2 - n1 ≡ n - j = omega arith in
+      (on.0, subst (λ k. Leads next t k on.0 u) z on.1)
+
+  -- where nothing goes on a stretch ends
+  pub leads_stopped : (s t : S) (n : ℕ) (es : List E) → next s ≡ stops → Leads next s n es t → (n ≡ 0) × (s ≡ t)
+  leads_stopped s t n es e stays = (refl, refl)
+  leads_stopped s t n es e (moves {t = t1} {k = k1} {es = es1} e' l em eg) = let z : stops ≡ goes k1 es1 t1 = sym e ∙ e' in cc
+
+  -- a stretch that costs something begins with a move that is no dearer
+  pub leads_first : (s t : S) (n : ℕ) (es : List E) → Leads next s n es t → 0 < n → (k : ℕ) × (fs : List E) × (u : S) × (next s ≡ goes k fs u) × (suc k ≤ n)
+  leads_first s t n es stays pos = let z : ⊥ = omega arith in absurd z
+  leads_first s t n es (moves {t = t1} {k = k1} {es = es1} e l em eg) pos = (k1, es1, t1, e, omega arith)
+
+  -- a stretch that costs nothing stays
+  pub leads_nowhere : (s t : S) (n : ℕ) (es : List E) → Leads next s n es t → n ≡ 0 → s ≡ t
+  leads_nowhere s t n es stays z = refl
+  leads_nowhere s t n es (moves e l em eg) z = let w : ⊥ = omega arith in absurd w
+
   runs_still : (n : ℕ) (s : S) → CostsMore n (next s) → IsRun next n s (still s)
   runs_still n s h = let z : n ≡ n - 0 = omega arith in record { cost = 0; within = omega arith; leads = stays; dearer = subst (λ k. CostsMore k (next s)) z h }
 

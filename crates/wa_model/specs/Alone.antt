@@ -1,5 +1,5 @@
 -- A module's own reductions, without a host: stretches of them, and how they end.
-use Rattle.std.specs.Prelude.{◌≡◌, ℕ, suc, ◌+◌, ◌≤◌, ◌<◌, List, [], Bool, true, false}
+use Rattle.std.specs.Prelude.{◌≡◌, ℕ, suc, ◌+◌, ◌≤◌, List, [], Bool, true, false}
 use Rattle.wa_types.specs.declared.values.Value.{Value}
 use Rattle.wa_types.specs.declared.values.Trap.{Trap}
 use Rattle.wa_types.specs.Syntax.{Module}
@@ -41,7 +41,7 @@ FinishesAt (traps k trap s) cost end = (cost ≡ suc k) × (end ≡ it_trapped t
 FinishesAt (asks k import args d) cost end = (cost ≡ suc k) × (end ≡ it_asks import args d)
 FinishesAt _ cost end = ⊥
 
--- the cost of what stands next; nothing where no reduction does
+-- what stands next costs more than is left
 abbrev pub CostsAbove : Next → (left : ℕ) → Type 0
 CostsAbove (steps k d) left = left ≤ k
 CostsAbove (asks k import args d) left = left ≤ k

@@ -10,6 +10,7 @@ use Rattle.wa_model.specs.Instantiation.{opening}
 use Rattle.wa_model.specs.Blocking.{Note, State, begun, all_left, blocking, Blocking, store_of}
 use Rattle.wa_model.specs.Protocol.{Held, exports_of, protocol, held_begun, Protocol}
 use Rattle.wa_model.specs.Behaves.{IsPrefix}
+use Rattle.wa_model.specs.Alone.{Finish, EndsAs}
 use Rattle.wa_model.specs.Pruning.{pruned_module}
 
 -- From a configuration a module goes to one next one at most, at one cost.
@@ -67,3 +68,9 @@ PrunedRunsSame =
     (m : Module) (plan : Plan) (os : List Outcome) (n : ℕ)
     → ((Blocking (pruned_module m) plan os n).events ≡ (Blocking m plan os n).events)
     × (store_of (Blocking (pruned_module m) plan os n).last ≡ store_of (Blocking m plan os n).last)
+
+-- The reductions from a configuration come to one end, at one cost, whatever they may cost.
+abbrev pub EndsOneWay : Type 0
+EndsOneWay =
+    (m : Module) (c : Configuration) (left used used' : ℕ) (end end' : Finish) → EndsAs m c left used end → EndsAs m c left used' end'
+    → (used ≡ used') × (end ≡ end')

@@ -1,4 +1,4 @@
-ghost use Rattle.wa_model.specs.Laws.{MovesAddUp, OneNext, ProtocolAreMoves, ProtocolDetermined, ProtocolGrows, PrunedRunsSame, RunsAreMoves, RunsDetermined, RunsGrow};
+ghost use Rattle.wa_model.specs.Laws.{EndsOneWay, MovesAddUp, OneNext, ProtocolAreMoves, ProtocolDetermined, ProtocolGrows, PrunedRunsSame, RunsAreMoves, RunsDetermined, RunsGrow};
 
 /// A configuration has one next configuration at most, at one cost.
 pub fn one_next_configuration()
@@ -31,4 +31,9 @@ pub fn moves_add_up()
 /// Code that can't be reached changes no run.
 pub fn pruned_runs_are_the_same()
     ensures { PrunedRunsSame }
+{}
+
+/// The reductions from a configuration, as many as may be paid, end in one way.
+pub fn reductions_end_one_way()
+    ensures { EndsOneWay }
 {}
