@@ -7,4 +7,5 @@ pub mod FromMoves
 pub mod Moments
 pub mod PrunedRuns
 pub mod Runs
+pub mod ShownMoments
 pub mod ShownRuns
