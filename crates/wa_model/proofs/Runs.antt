@@ -126,8 +126,8 @@ module _ (S E : Type 0) (next : S → Turn S E) where
       (on.0, subst (λ k. Leads next t k on.0 u) z on.1)
 
   -- where nothing goes on a stretch ends
-  pub leads_stopped : (s t : S) (n : ℕ) (es : List E) → next s ≡ stops → Leads next s n es t → (n ≡ 0) × (s ≡ t)
-  leads_stopped s t n es e stays = (refl, refl)
+  pub leads_stopped : (s t : S) (n : ℕ) (es : List E) → next s ≡ stops → Leads next s n es t → (n ≡ 0) × (s ≡ t) × (es ≡ [])
+  leads_stopped s t n es e stays = (refl, refl, refl)
   leads_stopped s t n es e (moves {t = t1} {k = k1} {es = es1} e' l em eg) = let z : stops ≡ goes k1 es1 t1 = sym e ∙ e' in cc
 
   -- a stretch that costs something begins with a move that is no dearer

@@ -193,3 +193,43 @@ module _ (room fit : List Suspended → ℕ) (len : ℕ) (m : Module) (plan : Pl
           by_room : (b : Bool) → Shows k (x ∷ xs) t (if b then goes k (x ∷ trap_note (fit x.stack) len x.store ∷ []) (halts x.store) else goes k (x ∷ pause_note ticks (room x.stack) x.store x.stack ∷ xs) t)
           by_room true = with_trap x xs (fit x.stack) refl
           by_room false = with_pause x xs ticks (room x.stack) refl
+
+  pub trace : (s at : State) (cost : ℕ) (es : List Note) → Lawful s → Leads ne s cost es at → Trace s cost es at
+  trace s at cost es law stays = kept [] stays refl law
+  trace s at cost es law (moves {t = t1} {k = k1} {n = n1} {es = es1} {fs = es2} e l em eg) =
+      by_turn (λ h. trace t1 at n1 es2 h l) (nb s) refl (honest_blocking m plan s law)
+    where
+      cast : Trace s (suc k1 + n1) (es1 ++ es2) at → Trace s cost es at
+      cast t = subst (λ c. Trace s c es at) (sym em) (subst (λ xs. Trace s (suc k1 + n1) xs at) (sym eg) t)
+
+      by_shows : (k : ℕ) (xs : List Note) (t : State) (o : Turn State Note) → (Lawful t1 → Trace t1 n1 es2 at) → nb s ≡ goes k xs t → Honest xs → Lawful t → Shows k xs t o → o ≡ goes k1 es1 t1 → Trace s cost es at
+      by_shows k xs t o ih q h lt as_it_is p =
+          let same_k : k ≡ k1 = cc in
+          let same_es : xs ≡ es1 = cc in
+          let same_t : t ≡ t1 = cc in
+          let q' : nb s ≡ goes k1 xs t1 = q ∙ ap (λ j. goes j xs t) same_k ∙ ap (λ u. goes k1 xs u) same_t in
+          cast (traced s t1 at k1 n1 xs es1 es2 q' (sym (ap (λ ys. events_shown (ys ++ es2)) same_es) ∙ honest_on xs es2 h) (ih (subst Lawful same_t lt)))
+      by_shows k xs t o ih q h lt (with_pause x ys ticks used split) p =
+          let same_k : k ≡ k1 = cc in
+          let same_es : x ∷ pause_note ticks used x.store x.stack ∷ ys ≡ es1 = cc in
+          let same_t : t ≡ t1 = cc in
+          let q' : nb s ≡ goes k1 xs t1 = q ∙ ap (λ j. goes j xs t) same_k ∙ ap (λ u. goes k1 xs u) same_t in
+          let hx : Honest (x ∷ ys) = subst Honest split h in
+          cast (traced s t1 at k1 n1 xs es1 es2 q'
+              (sym (ap (λ zs. events_shown (zs ++ es2)) same_es) ∙ one_honest x (pause_note ticks used x.store x.stack ∷ (ys ++ es2)) hx.0 ∙ ap (λ zs. x.event ∷ zs) (honest_on ys es2 hx.1) ∙ ap (λ zs. events_of zs ++ events_shown es2) (sym split))
+              (ih (subst Lawful same_t lt)))
+      by_shows k xs t o ih q h lt (with_trap x ys used split) p =
+          let same_k : k ≡ k1 = cc in
+          let same_es : x ∷ trap_note used len x.store ∷ [] ≡ es1 = cc in
+          let same_t : halts x.store ≡ t1 = cc in
+          let halted : Leads ne (halts x.store) n1 es2 at = subst (λ u. Leads ne u n1 es2 at) (sym same_t) l in
+          let none = leads_stopped State Note ne (halts x.store) at n1 es2 refl halted in
+          let hx : Honest (x ∷ ys) = subst Honest split h in
+          let zero = none.0 in
+          cast (cut 0 k x [] ys s t stays (q ∙ ap (λ zs. goes k zs t) split) (omega arith)
+              (sym (ap (λ zs. events_shown (zs ++ es2)) same_es) ∙ ap (λ zs. events_shown (x ∷ trap_note used len x.store ∷ zs)) none.2 ∙ one_honest x (trap_note used len x.store ∷ []) hx.0)
+              (sym none.1))
+
+      by_turn : (Lawful t1 → Trace t1 n1 es2 at) → (o : Turn State Note) → nb s ≡ o → Honest_turn o → Trace s cost es at
+      by_turn ih stops q h = let z : stops ≡ goes k1 es1 t1 = sym (ap (shown_move room fit len) q) ∙ e in cc
+      by_turn ih (goes k xs t) q h = by_shows k xs t (shown_move room fit len (goes k xs t)) ih q h.0 h.1 (shows k xs t) (sym (ap (shown_move room fit len) q) ∙ e)
