@@ -1,0 +1,116 @@
+-- What a rewritten module owes its original: the headline's relation on runs.
+use Rattle.std.specs.Prelude.{◌≡◌, ℕ, suc, ◌+◌, ◌≤◌, ◌<◌, ◌⊎◌, ◌++◌, List, take, Option, Some, None, Bool, true, false, All, Contains, slice_get}
+use Rattle.std.specs.List.{filter_map}
+use Rattle.wa_types.specs.Syntax.{Func, Module}
+use Rattle.wa_types.specs.Modules.{defined_at}
+use Rattle.wa_types.specs.Pausing.{Settings, Listed, TellsMayPause, Numbered}
+use Rattle.wa_types.specs.Frames.{Suspended, HoldsBytes, word, Image}
+use Rattle.wa_types.specs.Bounds.{Bound}
+use Rattle.wa_types.specs.Runtime.{global_space}
+use Rattle.wa_model.specs.declared.answers.Area.{Area}
+use Rattle.wa_model.specs.declared.events.End.{End}
+use Rattle.wa_model.specs.declared.events.End.TheVariants.{UnwindTrap}
+use Rattle.wa_model.specs.Outside.{Event, paused, ended}
+use Rattle.wa_model.specs.Store.{Store}
+use Rattle.wa_model.specs.Plan.{Plan, Outcome, OutcomeFits, Fits}
+use Rattle.wa_model.specs.Blocking.{Note, events_of, Blocking, store_of}
+use Rattle.wa_model.specs.Untouched.{Untouched}
+use Rattle.wa_model.specs.Protocol.{Protocol, store_held}
+use Rattle.wa_model.specs.Expected.{Expected, SameEnd}
+
+-- the first list begins the second
+abbrev pub IsPrefix : {X : Type 0} → List X → List X → Type 0
+IsPrefix {X} xs ys = (rest : List X) × (ys ≡ xs ++ rest)
+
+-- an activation stands at a numbered call of an instrumented function
+pub record StandsNumbered (m : Module) (s : Settings) (which : List Bool) (a : Suspended) : Type 0 where
+  pub instrumented : slice_get which a.func ≡ Some true
+  pub numbered : (f : Func) × (defined_at m a.func ≡ Some f) × Contains (Numbered m s which f) a.place
+
+abbrev pub PauseNumbered : Module → Settings → List Bool → List Suspended → Option ℕ → Type 0
+PauseNumbered m s which stack None = Unit {0}
+PauseNumbered m s which stack (Some ticks) = All (StandsNumbered m s which) stack
+
+-- at each pause every activation does
+abbrev pub PausesNumbered : Module → Settings → List Bool → List Note → Type 0
+PausesNumbered m s which notes = All (λ (x : Note). PauseNumbered m s which x.stack x.pause) notes
+
+abbrev pub stack_if : List Suspended → Option ℕ → Option (List Suspended)
+stack_if stack None = None
+stack_if stack (Some ticks) = Some stack
+
+-- the stacks that the pauses of a run suspend
+abbrev pub pause_stacks : List Note → List (List Suspended)
+pause_stacks notes = filter_map (λ (x : Note). stack_if x.stack x.pause) notes
+
+-- The runs that are compared: the plan fits the original and tells the listed imports, outcomes are in range, and up to a
+-- cost of n the run with blocking imports doesn't touch the area and pauses at numbered calls alone.
+pub record Compared (m : Module) (s : Settings) (which : List Bool) (plan : Plan) (os : List Outcome) (n : ℕ) : Type 0 where
+  pub fits : Fits m plan
+  pub listed : plan.listed ≡ Some (Listed m s)
+  pub outcomes : All OutcomeFits os
+  pub untouched : Untouched m plan os n
+  pub pauses : PausesNumbered m s which (Blocking m plan os n).events
+
+-- the notes of a run with blocking imports up to a cost of n, with its pauses shown
+abbrev pub expected_notes : Module → Settings → Plan → List Outcome → ℕ → List Note
+expected_notes m s plan os n = Expected m s.policy plan.area (Blocking m plan os n).events
+
+-- the notes of a rewritten module under the protocol up to a cost of n
+abbrev pub protocol_notes : Module → Plan → List Outcome → ℕ → List Note
+protocol_notes p plan os n = (Protocol p plan os n).events
+
+-- what has to hold at a pause, and only there
+abbrev pub AtPaused : Event → Type 0 → Type 0
+AtPaused (paused ticks used) T = T
+AtPaused _ T = Unit {0}
+
+-- since this store the location word has come back to the start of the frames, and every other byte of the area is as it was
+pub record AreaKept (area : Area) (at_pause now : Store) : Type 0 where
+  pub location : HoldsBytes now.memory area.at (word (area.at + 8))
+  pub others : (x : ℕ) → area.at + 4 ≤ x → x < area.at + area.len → slice_get now.memory x ≡ slice_get at_pause.memory x
+
+abbrev pub is_pause_end : End → Bool
+is_pause_end (UnwindTrap trap used len) = true
+is_pause_end _ = false
+
+abbrev pub unless_end : Bool → Event → Option Event
+unless_end true e = None
+unless_end false e = Some e
+
+abbrev pub unless_pause : Event → Option Event
+unless_pause (paused ticks used) = None
+unless_pause (ended how) = unless_end (is_pause_end how) (ended how)
+unless_pause e = Some e
+
+-- without Paused and UnwindTrap
+abbrev pub without_pauses : List Event → List Event
+without_pauses events = filter_map unless_pause events
+
+-- A moment of a run with blocking imports within a cost of n, at which these events have been made: where it stands after
+-- some cost, or at one of its events.
+abbrev pub IsMoment : Module → Plan → List Outcome → ℕ → List Event → Store → Type 0
+IsMoment m plan os n events s =
+    ((j : ℕ) × (j ≤ n) × (events ≡ events_of (Blocking m plan os j).events) × (s ≡ store_of (Blocking m plan os j).last))
+    ⊎ ((i : ℕ) × (x : Note) × (slice_get (Blocking m plan os n).events i ≡ Some x) × (events ≡ events_of (take (suc i) (Blocking m plan os n).events)) × (s ≡ x.store))
+
+-- The rewritten module p behaves like its original m, for one plan, outcomes and cost. `which` tells the functions that may
+-- pause.
+pub record BehavesOn (m : Module) (s : Settings) (p : Module) (plan : Plan) (os : List Outcome) (n : ℕ) (which : List Bool) : Type 0 where
+  -- it gets as far, within the bound
+  pub reaches : IsPrefix (events_of (expected_notes m s plan os n)) (events_of (protocol_notes p plan os (Bound m n (pause_stacks (Blocking m plan os n).events))))
+  -- it does nothing else, and is never the cheaper one
+  pub follows : IsPrefix (events_of (protocol_notes p plan os n)) (events_of (expected_notes m s plan os n))
+  -- at each event the stores agree
+  pub ends : (i : ℕ) (x y : Note) → slice_get (expected_notes m s plan os n) i ≡ Some x → slice_get (protocol_notes p plan os n) i ≡ Some y → SameEnd (global_space m) plan.area x.store y.store
+  -- at each pause the area holds the image of the suspended stack
+  pub images : (i : ℕ) (x y : Note) → slice_get (expected_notes m s plan os n) i ≡ Some x → slice_get (protocol_notes p plan os n) i ≡ Some y → AtPaused y.event (Image m s which x.stack plan.area.at plan.area.len y.store.memory)
+  -- at the answer behind it the frames are read, and nothing else of the area has changed
+  pub kept : (i : ℕ) (y : Note) (at_pause : Store) → slice_get (protocol_notes p plan os n) i ≡ Some y → y.since ≡ Some at_pause → AreaKept plan.area at_pause y.store
+  -- between events too the store is one that the original has at a moment with the same events
+  pub moments : (events : List Event) × (at : Store) × IsMoment m plan os n events at × (events ≡ without_pauses (events_of (protocol_notes p plan os n))) × SameEnd (global_space m) plan.area at (store_held (Protocol p plan os n).last)
+
+-- For every plan, list of outcomes and cost the rewritten module behaves like its original.
+abbrev pub Behaves : Module → Settings → Module → Type 0
+Behaves m s p =
+    (which : List Bool) → TellsMayPause m s which → (plan : Plan) (os : List Outcome) (n : ℕ) → Compared m s which plan os n → BehavesOn m s p plan os n which

@@ -1,0 +1,28 @@
+//! What runs of a module are, as definitions, and the plain types that hosts and rewriters share.
+//!
+//! A module runs by small steps: a configuration is a store and a stack of activations, and `step` computes
+//! the one next configuration with its cost (`specs/Configuration.antt`, `specs/Step.antt`). Two machines stand
+//! on it. `Blocking` runs an original whose imports answer at once; it makes events, and keeps the suspended
+//! stack at each call (`specs/Blocking.antt`). `Protocol` runs a rewritten module as a host does, which unwinds
+//! the stack into a range of memory and rewinds it through five exports (`specs/Protocol.antt`). `Behaves` says
+//! what the second owes the first, and `Rewrites` what a rewritten module is (`specs/Behaves.antt`,
+//! `specs/Rewrites.antt`): the headline is a sentence over these.
+//!
+//! The laws of `laws` hold of every module: a configuration has one next one, runs are determined and grow with
+//! the cost that they may take, and code that can't be reached changes no run. Read in the order `Machine`,
+//! `Store`, `Configuration`, `Step`, `Plan`, `Instantiation`, `Blocking`, `Untouched`, `Protocol`, `Expected`,
+//! `Behaves`, `Rewrites`. `proofs/Cases.antt` has small runs that these definitions compute.
+#![tactic(auto)]
+
+mod answers;
+mod events;
+mod flat;
+mod laws;
+
+pub use answers::{Answer, AnswerLine, Area, Detach, Poke};
+pub use events::{Call, End, Event, Line};
+pub use flat::{FlatFunc, FlatModule, Operand, Stmt};
+pub use laws::{
+    moves_add_up, one_next_configuration, pruned_runs_are_the_same, reductions_end_one_way,
+    runs_are_determined, runs_are_moves, runs_grow,
+};
