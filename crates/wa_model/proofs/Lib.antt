@@ -1,5 +1,5 @@
 pub mod Alone
-mod Cases
+pub mod Cases
 pub mod Compose
 pub mod Ends
 pub mod Follow

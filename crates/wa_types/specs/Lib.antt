@@ -16,11 +16,11 @@ pub mod Modules
 pub mod Norm
 pub mod Opcodes
 pub mod Operators
-pub mod Runtime
 pub mod Pausing
 pub mod Points
 pub mod Pruned
 pub mod Reading
+pub mod Runtime
 pub mod Sizes
 pub mod Spells
 pub mod Syntax
