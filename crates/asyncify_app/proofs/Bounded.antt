@@ -3,7 +3,7 @@ use Rattle.std.proofs.Common.{◌≡◌, ℕ, suc, ◌+◌, ◌*◌, ◌≤◌, 
 use Rattle.std.specs.List.{All, AllPass, flat_map, list_all}
 use Rattle.std.proofs.lemmas.Bool.{leb-true, le-leb, and_parts, and_from}
 use Rattle.std.proofs.lemmas.List.{append-nil, length-map}
-use Rattle.std.proofs.lemmas.List.Elements.{All-nil, All-cons, All-head, All-tail, All-map, All-weaker}
+use Rattle.std.proofs.lemmas.List.Elements.{All-nil, All-cons, All-head, All-tail, All-map, All-weaker, All-append}
 use Rattle.std.proofs.lemmas.List.Sums.{AllPass-from_list_all, list_all-from_AllPass}
 use Rattle.std.specs.declared.vec.Vec.{Vec}
 use Rattle.std.specs.declared.alloc.Global.{Global}
@@ -20,7 +20,12 @@ use Rattle.wa_types.specs.Leb.{shortest, shortest_signed}
 use Rattle.wa_types.specs.Syntax.{Basic, nop, drop, select, const, num, global_get, global_set, load, store, memory_size, memory_grow, Plain, basic, local_get, local_set, local_tee, br, br_if, br_table, return, unreachable, call, call_indirect, Code, done, plain, nest, branch, FuncType, Func, Module}
 use Rattle.wa_types.specs.View.{in_front, onto, code, func_type_of, func_of, module_of}
 use Rattle.wa_types.specs.Encoding.{Enc, vector, sized, section, type_byte, func_type_bytes, export_bytes, name_bytes, space_byte, run_bytes, merged, plain_bytes, code_bytes, expression_bytes, body_bytes, preamble}
-use Rattle.wa_types.specs.Modules.{declared_locals}
+use Rattle.wa_types.specs.Modules.{declared_locals, locals_of, type_at}
+use Rattle.wasm_encode.specs.Modules.{FewLocals}
+use Rattle.wa_types.specs.Runtime.{with_runtime, runtime_func, runtime_funcs, global_space, start_code, stop_code, state_code}
+use Rattle.wasm_encode.specs.Locals.{local_count}
+use Rattle.asyncify_app.specs.Small.{IsSmall}
+use Rattle.asyncify_app.proofs.SmallSizes.{counted}
 use Rattle.wa_types.proofs.ViewLemmas.{Kind, is_block, is_loop, is_if, is_plain, kind, in_block, in_loop, in_if}
 use Rattle.wasm_reader.specs.Small.{is_small_plain, is_small_code, IsSmallFunc, IsSmallShaped}
 use Rattle.wasm_reader.proofs.Modules.{module_bytes, from_types, from_sorts, from_exports, from_bodies}
@@ -213,3 +218,147 @@ section_within : {A B : Type 0} (view : A → B) (entry : B → List ℕ) (id : 
 section_within view entry id xs most h =
     let same = ap length (flat_map_map view entry xs) in
     omega (arith, same, section_length id entry (map view xs), entries_length (λ x. entry (view x)) most xs h)
+
+-- each field of what spans
+span_of : {A : Type 0} (bytes : A → List ℕ) (part : A → ℕ) (P : A → Type 0) (xs : List A) (whole : ℕ) → ((x : A) → P x → part x ≤ length (bytes x)) → All P xs → Spans bytes xs whole → All (λ x. part x ≤ whole) xs
+span_of bytes part P [] whole f h s = All-nil (λ x. part x ≤ whole)
+span_of bytes part P (x ∷ xs) whole f h s =
+    let one = All-head (λ y. length (bytes y) ≤ whole) x xs s.each in
+    let here = f x (All-head P x xs h) in
+    let more : Spans bytes xs whole = record { count = let c = s.count in omega (arith, c); each = All-tail (λ y. length (bytes y) ≤ whole) x xs s.each } in
+    All-cons (λ y. part y ≤ whole) x xs (omega (arith, one, here)) (span_of bytes part P xs whole f (All-tail P x xs h) more)
+
+-- the parts of a small-shaped module's bytes
+small_sections : (m : Module) → IsSmallShaped m → length (Enc m) ≡ 8 + length (section 1 func_type_bytes m.types) + length (section 3 shortest (map (λ (f : Func). f.sort) m.funcs)) + length (section 7 export_bytes m.exports) + length (section 10 (λ f. sized (body_bytes f)) m.funcs)
+small_sections m s =
+    let a = length-append preamble (from_types m) in
+    let b = length-append (section 1 func_type_bytes m.types) (from_sorts m) in
+    let c = length-append (section 3 shortest (map (λ (f : Func). f.sort) m.funcs)) (from_exports m) in
+    let d = length-append (section 7 export_bytes m.exports) (from_bodies m) in
+    let e = length-append (section 10 (λ f. sized (body_bytes f)) m.funcs) [] in
+    ap length (module_bytes m s) ∙ omega (arith, a, b, c, d, e)
+
+funcs_small : (fs : List FuncValue) → All IsSmallFunc (map func_of fs) → All (λ f. IsSmallFunc (func_of f)) fs
+funcs_small [] h = All-nil (λ f. IsSmallFunc (func_of f))
+funcs_small (f ∷ fs) h = All-cons (λ f. IsSmallFunc (func_of f)) f fs (All-head IsSmallFunc (func_of f) (map func_of fs) h) (funcs_small fs (All-tail IsSmallFunc (func_of f) (map func_of fs) h))
+
+-- a list of types within bounds, as a test
+bounded_types : (ts : List FuncTypeValue) → All (λ t. length t.params.items ≤ most_items) ts → All (λ t. length t.results.items ≤ most_items) ts → list_all bounded_type ts ≡ true
+bounded_types ts p r = list_all-from_AllPass bounded_type ts (All-weaker (λ t. (length t.params.items ≤ most_items) × (length t.results.items ≤ most_items)) (λ t. bounded_type t ≡ true)
+    (λ t h. and_from (nat_le (length t.params.items) most_items) (nat_le (length t.results.items) most_items) (le-leb _ _ h.0) (le-leb _ _ h.1)) ts (both (λ t. length t.params.items ≤ most_items) (λ t. length t.results.items ≤ most_items) ts p r))
+
+bounded_exports : (es : List Export) → All (λ e. length e.name ≤ most_items) es → list_all bounded_export es ≡ true
+bounded_exports es h = list_all-from_AllPass bounded_export es (All-weaker (λ e. length e.name ≤ most_items) (λ e. bounded_export e ≡ true) (λ e k. le-leb _ _ k) es h)
+
+bounded_funcs : (fs : List FuncValue) → All (λ f. length f.body.items ≤ most_items) fs → All (λ f. length f.locals.items ≤ most_items) fs → All (λ f. length (declared_locals f.locals.items) ≤ 50000) fs → All IsBoundedFunc fs
+bounded_funcs [] b r l = All-nil IsBoundedFunc
+bounded_funcs (f ∷ fs) b r l = All-cons IsBoundedFunc f fs
+    (record {
+      body = All-head (λ f. length f.body.items ≤ most_items) f fs b;
+      runs = All-head (λ f. length f.locals.items ≤ most_items) f fs r;
+      locals = All-head (λ f. length (declared_locals f.locals.items) ≤ 50000) f fs l;
+    })
+    (bounded_funcs fs (All-tail (λ f. length f.body.items ≤ most_items) f fs b) (All-tail (λ f. length f.locals.items ≤ most_items) f fs r) (All-tail (λ f. length (declared_locals f.locals.items) ≤ 50000) f fs l))
+
+few_declared : (m : Module) (fs : List FuncValue) → All (λ f. length (locals_of m f) ≤ 50000) (map func_of fs) → All (λ (f : FuncValue). length (declared_locals f.locals.items) ≤ 50000) fs
+few_declared m [] h = All-nil (λ (f : FuncValue). length (declared_locals f.locals.items) ≤ 50000)
+few_declared m (f ∷ fs) h =
+    let one = All-head (λ f. length (locals_of m f) ≤ 50000) (func_of f) (map func_of fs) h in
+    let e = length-append (type_at m f.sort).params (declared_locals f.locals.items) in
+    All-cons (λ (f : FuncValue). length (declared_locals f.locals.items) ≤ 50000) f fs (omega (arith, one, e)) (few_declared m fs (All-tail (λ f. length (locals_of m f) ≤ 50000) (func_of f) (map func_of fs) h))
+
+-- a small module is within the bounds
+pub small_is_bounded : (v : ModuleValue) → IsSmall (module_of v) → IsBounded v
+small_is_bounded v s =
+    let m : Module = module_of v in
+    let n = small_sections m s.shaped in
+    let file = s.file in
+    let some_types = every (λ (t : FuncTypeValue). 1 ≤ length (func_type_bytes (func_type_of t))) (λ t. (type_within (func_type_of t)).2) v.types.items in
+    let types = spans func_type_of func_type_bytes 1 v.types.items most_items some_types (omega (arith, n, file)) in
+    let small_funcs = funcs_small v.funcs.items (s.shaped).funcs in
+    let some_funcs = All-weaker (λ f. IsSmallFunc (func_of f)) (λ f. 1 ≤ length (sized (body_bytes (func_of f)))) (λ f h. (func_within f h).2) v.funcs.items small_funcs in
+    let funcs = spans func_of (λ f. sized (body_bytes f)) 10 v.funcs.items most_items some_funcs (omega (arith, n, file)) in
+    let some_exports = every (λ (e : Export). 1 ≤ length (export_bytes e)) (λ e. (export_within e).1) v.exports.items in
+    let few_exports = entries_few export_bytes v.exports.items some_exports in
+    let in_exports = entries_within 7 export_bytes v.exports.items in
+    let exports : Spans export_bytes v.exports.items most_items = record { count = omega (arith, n, file, few_exports, in_exports); each = entries_fit export_bytes v.exports.items most_items (omega (arith, n, file, in_exports)) } in
+    let any_type = every (λ (t : FuncTypeValue). Unit {0}) (λ t. tt) v.types.items in
+    let any_export = every (λ (e : Export). Unit {0}) (λ e. tt) v.exports.items in
+    record {
+      types = types.count;
+      funcs = funcs.count;
+      exports = exports.count;
+      each_type = bounded_types v.types.items
+          (span_of (λ t. func_type_bytes (func_type_of t)) (λ t. length t.params.items) (λ t. Unit {0}) v.types.items most_items (λ t h. (type_within (func_type_of t)).0) any_type types)
+          (span_of (λ t. func_type_bytes (func_type_of t)) (λ t. length t.results.items) (λ t. Unit {0}) v.types.items most_items (λ t h. (type_within (func_type_of t)).1) any_type types);
+      each_func = bounded_funcs v.funcs.items
+          (span_of (λ f. sized (body_bytes (func_of f))) (λ f. length f.body.items) (λ f. IsSmallFunc (func_of f)) v.funcs.items most_items (λ f h. (func_within f h).0) small_funcs funcs)
+          (span_of (λ f. sized (body_bytes (func_of f))) (λ f. length f.locals.items) (λ f. IsSmallFunc (func_of f)) v.funcs.items most_items (λ f h. (func_within f h).1) small_funcs funcs)
+          (few_declared m v.funcs.items s.locals);
+      each_export = bounded_exports v.exports.items (span_of export_bytes (λ (e : Export). length e.name) (λ e. Unit {0}) v.exports.items most_items (λ e h. (export_within e).0) any_export exports);
+    }
+
+type_bound : (ts : List FuncTypeValue) → list_all bounded_type ts ≡ true → All (λ t. length (func_type_bytes (func_type_of t)) ≤ 20000000) ts
+type_bound ts h = All-weaker (λ t. bounded_type t ≡ true) (λ t. length (func_type_bytes (func_type_of t)) ≤ 20000000)
+    (λ t k.
+    let p = and_parts (nat_le (length t.params.items) most_items) (nat_le (length t.results.items) most_items) k in
+    let a = leb-true (length t.params.items) most_items p.0 in
+    let b = leb-true (length t.results.items) most_items p.1 in
+    let c = (type_within (func_type_of t)).3 in omega (arith, a, b, c))
+    ts (AllPass-from_list_all bounded_type ts h)
+
+export_bound : (es : List Export) → list_all bounded_export es ≡ true → All (λ e. length (export_bytes e) ≤ 20000000) es
+export_bound es h = All-weaker (λ e. bounded_export e ≡ true) (λ e. length (export_bytes e) ≤ 20000000)
+    (λ e k. let a = leb-true (length e.name) most_items k in let b = (export_within e).2 in omega (arith, a, b)) es (AllPass-from_list_all bounded_export es h)
+
+func_bound : (fs : List FuncValue) → All IsBoundedFunc fs → All (λ f. IsSmallFunc (func_of f)) fs → All (λ f. length (sized (body_bytes (func_of f))) ≤ 200000000) fs
+func_bound [] h s = All-nil (λ f. length (sized (body_bytes (func_of f))) ≤ 200000000)
+func_bound (f ∷ fs) h s =
+    let b = All-head IsBoundedFunc f fs h in
+    let w = (func_within f (All-head (λ f. IsSmallFunc (func_of f)) f fs s)).3 in
+    let x = b.body in
+    let y = b.runs in
+    All-cons (λ f. length (sized (body_bytes (func_of f))) ≤ 200000000) f fs (omega (arith, w, x, y)) (func_bound fs (All-tail IsBoundedFunc f fs h) (All-tail (λ f. IsSmallFunc (func_of f)) f fs s))
+
+-- and within the bounds the bytes are few
+pub bounded_fits : (v : ModuleValue) → IsSmallShaped (module_of v) → IsBounded v → length (Enc (module_of v)) < 2 ^ 64
+bounded_fits v s b =
+    let m : Module = module_of v in
+    let n = small_sections m s in
+    let types = section_within func_type_of func_type_bytes 1 v.types.items 20000000 (type_bound v.types.items b.each_type) in
+    let sorts = section_length 3 shortest (map (λ (f : Func). f.sort) m.funcs) in
+    let sort_entries = entries_length shortest 10 (map (λ (f : Func). f.sort) m.funcs) (every (λ x. length (shortest x) ≤ 10) shortest_length (map (λ (f : Func). f.sort) m.funcs)) in
+    let sort_count : length (map (λ (f : Func). f.sort) m.funcs) ≡ length v.funcs.items = length-map m.funcs (λ (f : Func). f.sort) ∙ length-map v.funcs.items func_of in
+    let bodies = section_within func_of (λ f. sized (body_bytes f)) 10 v.funcs.items 200000000 (func_bound v.funcs.items b.each_func (funcs_small v.funcs.items s.funcs)) in
+    let exports = section_length 7 export_bytes v.exports.items in
+    let export_entries = entries_length export_bytes 20000000 v.exports.items (export_bound v.exports.items b.each_export) in
+    let few_types = b.types in
+    let few_funcs = b.funcs in
+    let few_exports = b.exports in
+    omega (arith, n, types, sorts, sort_entries, sort_count, bodies, exports, export_entries, few_types, few_funcs, few_exports)
+
+-- and the locals are few
+pub bounded_locals : (v : ModuleValue) → IsBounded v → FewLocals (module_of v)
+bounded_locals v b = All-map (λ (f : Func). local_count f.locals < 2 ^ 32) func_of v.funcs.items
+    (All-weaker IsBoundedFunc (λ (f : FuncValue). local_count f.locals.items < 2 ^ 32) (λ f h. let l = h.locals in let c = counted f.locals.items in omega (arith, l, c)) v.funcs.items b.each_func)
+
+bare : (sort : ℕ) (body : Code) → local_count (runtime_func sort body).locals < 2 ^ 32
+bare sort body = omega arith
+
+-- The runtime's functions declare no locals.
+pub grown_locals : (m : Module) → FewLocals m → FewLocals (with_runtime m)
+unfolding with_runtime
+grown_locals m h =
+    let P : Func → Type 0 = λ f. local_count f.locals < 2 ^ 32 in
+    let first = length m.types in
+    let state = global_space m in
+    let a = runtime_func first (start_code 1 state (state + 1)) in
+    let b = runtime_func (first + 1) (stop_code state (state + 1)) in
+    let c = runtime_func first (start_code 2 state (state + 1)) in
+    let d = runtime_func (first + 2) (state_code state) in
+    All-append P m.funcs (runtime_funcs first state (state + 1)) h
+    (All-cons P a (b ∷ c ∷ b ∷ d ∷ []) (bare first (start_code 1 state (state + 1)))
+    (All-cons P b (c ∷ b ∷ d ∷ []) (bare (first + 1) (stop_code state (state + 1)))
+    (All-cons P c (b ∷ d ∷ []) (bare first (start_code 2 state (state + 1)))
+    (All-cons P b (d ∷ []) (bare (first + 1) (stop_code state (state + 1)))
+    (All-cons P d [] (bare (first + 2) (state_code state)) (All-nil P))))))
