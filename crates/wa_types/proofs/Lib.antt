@@ -3,6 +3,7 @@ pub mod CodeReads
 pub mod CodeWriting
 pub mod Copying
 pub mod Cuts
+pub mod CutPreambles
 pub mod EntryReads
 pub mod EntryWriting
 pub mod FaultLemmas

@@ -1,8 +1,8 @@
-ghost use Rattle.std.specs.Prelude.{◌≡◌, List, ℕ, ◌++◌, ◌<◌, ◌^◌, All, length, take, sum_by};
+ghost use Rattle.std.specs.Prelude.{◌≡◌, List, [], ℕ, ◌++◌, ◌<◌, ◌^◌, All, length, take, sum_by};
 ghost use Rattle.wa_types.specs.Binary.{Section};
 ghost use Rattle.wa_types.specs.Spells.{Spells};
 ghost use Rattle.wa_types.specs.Begun.{Begun, FaultAt, IsWhole};
-ghost use Rattle.wa_types.specs.Encoding.{Enc};
+ghost use Rattle.wa_types.specs.Encoding.{Enc, preamble};
 ghost use Rattle.wa_types.specs.Norm.{Norm};
 ghost use Rattle.wa_types.specs.Reading.{SpellsModule};
 ghost use Rattle.wa_types.specs.Sizes.{WellFormed};
@@ -47,4 +47,11 @@ pub fn faults_spell_nothing()
 /// Law: a module that bytes spell is well formed.
 pub fn spelled_is_well_formed()
     ensures { (bytes : List ℕ) (m : Module) → All (λ b. b < 2 ^ 8) bytes → SpellsModule bytes m → WellFormed m }
+{}
+
+/// Law: the preamble alone spells a file without sections, and each cut of it, the empty file too, is at
+/// fault where it ends.
+pub fn cut_preambles_fail()
+    ensures whole { Spells preamble [] }
+    ensures cut { (k : ℕ) → k < 8 → FaultAt (take k preamble) k }
 {}

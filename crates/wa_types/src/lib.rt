@@ -26,8 +26,8 @@ pub use copy::copy_module;
 pub use frame_laws::{live_is_path, one_each_call, slots_are_pairs};
 pub use instrs::Instr;
 pub use laws::{
-    beginnings_are_begun, faults_spell_nothing, one_file_is_spelled, one_module_is_spelled,
-    spelled_is_well_formed, whole_is_spelled, written_is_spelled,
+    beginnings_are_begun, cut_preambles_fail, faults_spell_nothing, one_file_is_spelled,
+    one_module_is_spelled, spelled_is_well_formed, whole_is_spelled, written_is_spelled,
 };
 pub use leb::{
     LebFault, Spelling, read_s32, read_s64, read_u32, signed_spelling_laws, unsigned_spelling_laws,
