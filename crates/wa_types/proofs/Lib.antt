@@ -2,8 +2,8 @@ pub mod AccessLemmas
 pub mod CodeReads
 pub mod CodeWriting
 pub mod Copying
-pub mod Cuts
 pub mod CutPreambles
+pub mod Cuts
 pub mod EntryReads
 pub mod EntryWriting
 pub mod FaultLemmas
