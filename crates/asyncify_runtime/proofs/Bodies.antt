@@ -1,13 +1,10 @@
 -- The code of a list of instructions, one instruction at a time.
-use Rattle.std.proofs.Common.{◌≡◌, ℕ, List, [], ◌∷◌, refl, Option}
-use Rattle.std.specs.declared.vec.Vec.{Vec}
-use Rattle.std.specs.declared.alloc.Global.{Global}
-use Rattle.wa_types.specs.declared.values.ValType.{ValType}
+use Rattle.std.proofs.Common.{◌≡◌, ℕ, List, [], ◌∷◌, refl}
 use Rattle.wa_types.specs.declared.values.Value.{Value}
 use Rattle.wa_types.specs.declared.operators.NumOp.{NumOp}
 use Rattle.wa_types.specs.declared.instrs.Instr.{Instr}
-use Rattle.wa_types.specs.declared.instrs.Instr.TheVariants.{Unreachable, Const, Num, LocalGet, GlobalGet, GlobalSet, Load, If}
-use Rattle.wa_types.specs.Syntax.{Code, done, plain, branch, basic, const, num, local_get, global_get, global_set, load, unreachable}
+use Rattle.wa_types.specs.declared.instrs.Instr.TheVariants.{Unreachable, Const, Num, LocalGet, GlobalGet, GlobalSet, Load}
+use Rattle.wa_types.specs.Syntax.{Code, done, plain, basic, const, num, local_get, global_get, global_set, load, unreachable}
 use Rattle.wa_types.specs.View.{code, onto, in_front}
 use Rattle.wa_types.proofs.ViewLemmas.{in_if, onto_append}
 

@@ -1,5 +1,5 @@
 -- The module that has got its parts, list by list.
-use Rattle.std.proofs.Common.{◌≡◌, ℕ, ◌+◌, ◌++◌, List, [], ◌∷◌, refl, sym, ◌∙◌, ap, length, Option}
+use Rattle.std.proofs.Common.{◌≡◌, ℕ, ◌++◌, List, refl, ◌∙◌, ap, length}
 use Rattle.wa_types.specs.declared.syntax.Limits.{Limits}
 use Rattle.wa_types.specs.declared.syntax.Export.{Export}
 use Rattle.local_spill.specs.declared.RuntimeIds.{RuntimeIds}

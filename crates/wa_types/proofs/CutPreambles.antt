@@ -1,9 +1,9 @@
 -- The preamble alone is a file, and its beginnings fail where they end.
-use Rattle.std.proofs.Common.{◌≡◌, ℕ, ◌+◌, ◌<◌, ◌≤◌, inr, List, [], ◌∷◌, ◌++◌, refl, ap, sym, ◌∙◌, arith, append-nil, append_assoc, length, length-append, length-take-le, take, drop}
+use Rattle.std.proofs.Common.{◌≡◌, ℕ, ◌<◌, ◌≤◌, inr, List, [], ◌++◌, refl, ap, sym, ◌∙◌, arith, append-nil, append_assoc, length, length-append, length-take-le, take, drop}
 use Rattle.std.proofs.lemmas.List.{take-append-drop}
 use Rattle.wa_types.specs.Encoding.{preamble}
 use Rattle.wa_types.specs.Spells.{Spells}
-use Rattle.wa_types.specs.Begun.{Begun, IsWhole, FaultAt}
+use Rattle.wa_types.specs.Begun.{IsWhole, FaultAt}
 use Rattle.wa_types.proofs.FileReads.{whole_spelled, spelled_begun}
 
 pub empty_spelled : Spells preamble []

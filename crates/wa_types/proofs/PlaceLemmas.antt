@@ -1,12 +1,11 @@
 -- Each list by the places of a function's calls has one element a call.
-use Rattle.std.proofs.Common.{arith, ◌≡◌, ℕ, ◌+◌, ◌++◌, drop, length, length-append, List, [], ◌∷◌, Option, Some, None, Bool, true, false, if◌then◌else◌, refl, ap, sym, ◌∙◌}
+use Rattle.std.proofs.Common.{arith, ◌≡◌, ◌++◌, drop, length, length-append, List, [], ◌∷◌, Option, Some, None, Bool, true, false, if◌then◌else◌, refl}
 use Rattle.wa_types.specs.declared.values.ValType.{ValType}
-use Rattle.wa_types.specs.Syntax.{Plain, basic, local_get, local_set, local_tee, br, br_if, br_table, return, unreachable, call, call_indirect, Code, done, plain, nest, branch, Func, Module}
+use Rattle.wa_types.specs.Syntax.{Plain, basic, local_get, local_set, local_tee, br, br_if, br_table, return, unreachable, call, call_indirect, Code, done, plain, nest, branch}
 use Rattle.wa_types.specs.Pruned.{is_last, pruned}
 use Rattle.wa_types.specs.Typing.{Around, sig, listed, label}
-use Rattle.wa_types.specs.Modules.{around}
-use Rattle.wa_types.specs.Pausing.{Callee, callee, callee_onto, calls_of, calls_in}
-use Rattle.wa_types.specs.Points.{after, unless_last, if_call, call_points, func_call_points}
+use Rattle.wa_types.specs.Pausing.{Callee, callee, callee_onto, calls_of}
+use Rattle.wa_types.specs.Points.{after, unless_last, if_call, call_points}
 use Rattle.wa_types.specs.Liveness.{Label, Position, position, label_of, goes_behind, if_call_here, behind_calls}
 
 onto_position : (o : Option Callee) (at : Position) (rest : List Position) (cs : List Callee) → length rest ≡ length cs → length (if_call_here o at rest) ≡ length (callee_onto o cs)

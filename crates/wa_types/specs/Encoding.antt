@@ -1,6 +1,6 @@
 -- The bytes that a module is written as: every number in its shortest spelling, known sections in rising id,
 -- sections with no entries left out (standard, section 5).
-use Rattle.std.specs.Prelude.{◌≡◌, ℕ, ◌+◌, zero, suc, List, [], ◌∷◌, ◌++◌, length, map, filter, min, Option, Some, None, Bool, true, false, if◌then◌else◌}
+use Rattle.std.specs.Prelude.{ℕ, ◌+◌, suc, List, [], ◌∷◌, ◌++◌, length, filter, min, Option, Some, None, Bool, true, false, if◌then◌else◌}
 use Rattle.std.specs.List.{flat_map}
 use Rattle.std.specs.Prelude.{◌==◌}
 use Rattle.wa_types.specs.declared.values.ValType.{ValType}

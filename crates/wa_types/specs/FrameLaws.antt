@@ -1,5 +1,5 @@
 -- Laws of frames: what is computed is what is meant. Functions with an empty body carry them.
-use Rattle.std.specs.Prelude.{◌≡◌, ◌↔◌, ℕ, List, [], length, true}
+use Rattle.std.specs.Prelude.{◌≡◌, ◌↔◌, ℕ, [], length, true}
 use Rattle.std.specs.List.{list_any}
 use Rattle.wa_types.specs.declared.values.ValType.{ValType}
 use Rattle.wa_types.specs.Syntax.{Func, Module}

@@ -1,6 +1,6 @@
 -- The parts that every written module has behind those of the original: three types, two globals, five
 -- functions and their exports, and a memory where the original has none.
-use Rattle.std.specs.Prelude.{ℕ, ◌+◌, List, [], ◌∷◌, ◌++◌, length, map, count_by, ◌==◌, if◌then◌else◌, Option, Some, None, Bool, true, false, codes}
+use Rattle.std.specs.Prelude.{ℕ, ◌+◌, List, [], ◌∷◌, ◌++◌, length, map, None, true, codes}
 use Rattle.wa_types.specs.declared.values.ValType.TheVariants.{I32}
 use Rattle.wa_types.specs.declared.values.Value.TheVariants.{I32 as value_32}
 use Rattle.wa_types.specs.declared.operators.NumOp.TheVariants.{I32GtU}

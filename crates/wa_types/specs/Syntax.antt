@@ -1,5 +1,5 @@
 -- Modules as plain data (standard, section 2): what they hold, whatever memory their vectors have.
-use Rattle.std.specs.Prelude.{ℕ, List, [], ◌∷◌, Option, Bool, true, false}
+use Rattle.std.specs.Prelude.{ℕ, List, Option, Bool}
 use Rattle.wa_types.specs.declared.values.ValType.{ValType}
 use Rattle.wa_types.specs.declared.values.Value.{Value}
 use Rattle.wa_types.specs.declared.operators.NumOp.{NumOp}

@@ -1,5 +1,5 @@
 -- What is added, by what is there.
-use Rattle.std.proofs.Common.{◌≡◌, ◌∙◌, sym, rules, true, false, length, arith, ◌<◌}
+use Rattle.std.proofs.Common.{◌≡◌, ◌∙◌, sym, length, arith, ◌<◌}
 use Rattle.std.proofs.lemmas.Grind.{common_steps}
 use Rattle.wa_types.specs.declared.syntax.Import.{Import}
 use Rattle.wa_types.specs.Modules.{imported_memory}

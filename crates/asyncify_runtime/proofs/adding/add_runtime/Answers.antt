@@ -1,5 +1,5 @@
 -- Each list has got its parts.
-use Rattle.std.proofs.Common.{rules, ◌∙◌, sym}
+use Rattle.std.proofs.Common.{◌∙◌, sym}
 use Rattle.std.proofs.lemmas.List.{length-map}
 use Rattle.wa_types.specs.View.{module_of, func_type_of}
 use Rattle.asyncify_runtime.proofs.Grown.{grown}
