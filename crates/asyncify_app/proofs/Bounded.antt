@@ -1,14 +1,11 @@
 -- What bounds on the lists say of the bytes, and the bytes of a small module of the lists.
-use Rattle.std.proofs.Common.{◌≡◌, ℕ, suc, ◌+◌, ◌*◌, ◌≤◌, ◌<◌, ◌^◌, List, [], ◌∷◌, ◌++◌, Bool, true, false, ◌&&◌, refl, ap, sym, ◌∙◌, subst, length, length-append, map, arith, nat_le, IsTrue}
-use Rattle.std.specs.List.{All, AllPass, flat_map, list_all}
+use Rattle.std.proofs.Common.{◌≡◌, ℕ, suc, ◌+◌, ◌*◌, ◌≤◌, ◌<◌, ◌^◌, List, [], ◌∷◌, ◌++◌, true, false, refl, ap, sym, ◌∙◌, length, length-append, map, arith, nat_le}
+use Rattle.std.specs.List.{All, flat_map, list_all}
 use Rattle.std.proofs.lemmas.Bool.{leb-true, le-leb, and_parts, and_from}
-use Rattle.std.proofs.lemmas.List.{append-nil, length-map}
+use Rattle.std.proofs.lemmas.List.{length-map}
 use Rattle.std.proofs.lemmas.List.Elements.{All-nil, All-cons, All-head, All-tail, All-map, All-weaker, All-append}
 use Rattle.std.proofs.lemmas.List.Sums.{AllPass-from_list_all, list_all-from_AllPass}
-use Rattle.std.specs.declared.vec.Vec.{Vec}
-use Rattle.std.specs.declared.alloc.Global.{Global}
 use Rattle.wa_types.specs.declared.values.ValType.{ValType}
-use Rattle.wa_types.specs.declared.values.Value.{Value}
 use Rattle.wa_types.specs.declared.values.Value.TheVariants.{I32 as value_32, I64 as value_64}
 use Rattle.wa_types.specs.declared.instrs.Instr.{Instr}
 use Rattle.wa_types.specs.declared.syntax.Run.{Run}
@@ -16,8 +13,8 @@ use Rattle.wa_types.specs.declared.syntax.FuncType.{FuncType as FuncTypeValue}
 use Rattle.wa_types.specs.declared.syntax.Func.{Func as FuncValue}
 use Rattle.wa_types.specs.declared.syntax.Export.{Export}
 use Rattle.wa_types.specs.declared.syntax.Module.{Module as ModuleValue}
-use Rattle.wa_types.specs.Leb.{shortest, shortest_signed}
-use Rattle.wa_types.specs.Syntax.{Basic, nop, drop, select, const, num, global_get, global_set, load, store, memory_size, memory_grow, Plain, basic, local_get, local_set, local_tee, br, br_if, br_table, return, unreachable, call, call_indirect, Code, done, plain, nest, branch, FuncType, Func, Module}
+use Rattle.wa_types.specs.Leb.{shortest}
+use Rattle.wa_types.specs.Syntax.{nop, drop, select, const, num, global_get, global_set, load, store, memory_size, memory_grow, Plain, basic, local_get, local_set, local_tee, br, br_if, br_table, return, unreachable, call, call_indirect, Code, plain, FuncType, Func, Module}
 use Rattle.wa_types.specs.View.{in_front, onto, code, func_type_of, func_of, module_of}
 use Rattle.wa_types.specs.Encoding.{Enc, vector, sized, section, type_byte, func_type_bytes, export_bytes, name_bytes, space_byte, run_bytes, merged, plain_bytes, code_bytes, expression_bytes, body_bytes, preamble}
 use Rattle.wa_types.specs.Modules.{declared_locals, locals_of, type_at}
@@ -26,11 +23,11 @@ use Rattle.wa_types.specs.Runtime.{with_runtime, runtime_func, runtime_funcs, gl
 use Rattle.wasm_encode.specs.Locals.{local_count}
 use Rattle.asyncify_app.specs.Small.{IsSmall}
 use Rattle.asyncify_app.proofs.SmallSizes.{counted}
-use Rattle.wa_types.proofs.ViewLemmas.{Kind, is_block, is_loop, is_if, is_plain, kind, in_block, in_loop, in_if}
+use Rattle.wa_types.proofs.ViewLemmas.{is_block, is_loop, is_if, is_plain, kind, in_block, in_loop, in_if}
 use Rattle.wasm_reader.specs.Small.{is_small_plain, is_small_code, IsSmallFunc, IsSmallShaped}
 use Rattle.wasm_reader.proofs.Modules.{module_bytes, from_types, from_sorts, from_exports, from_bodies}
 use Rattle.asyncify_app.specs.Bounds.{most_items, bounded_type, bounded_export, IsBounded, IsBoundedFunc}
-use Rattle.asyncify_app.proofs.Written.{shortest_length, shortest_signed_length, entries_length, vector_length, sized_length, section_length, entries_within}
+use Rattle.asyncify_app.proofs.Written.{shortest_length, shortest_signed_length, entries_length, section_length, entries_within}
 
 -- one byte a type
 types_length : (ts : List ValType) → length (flat_map (λ t. type_byte t ∷ []) ts) ≡ length ts

@@ -1,7 +1,7 @@
 -- What was printed, piece after piece.
-use Rattle.std.proofs.Common.{◌≡◌, ℕ, ◌++◌, ◌<◌, List, [], ◌∷◌, Option, Some, None, Result, Ok, Err, refl, sym, ap, ◌∙◌, take, length, append_assoc, inl}
+use Rattle.std.proofs.Common.{ℕ, ◌++◌, List, Option, Some, None, Result, Ok, Err, refl, sym, ap, ◌∙◌, take, length, inl}
 use Rattle.std.specs.Prelude.{OnOk, OnErr}
-use Rattle.std.proofs.lemmas.List.{append-nil, take_all}
+use Rattle.std.proofs.lemmas.List.{append-nil}
 use Rattle.vault_port.specs.Told.{Becomes}
 use Rattle.vault_port.specs.Taken.{Appends, AppendsLess}
 use Rattle.asyncify_app.specs.Lines.{memory_line, not_built_line}

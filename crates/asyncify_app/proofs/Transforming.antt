@@ -1,12 +1,11 @@
 -- The file that was read, and the one that is written.
-use Rattle.std.proofs.Common.{◌≡◌, ◌⊎◌, inl, inr, ℕ, ◌≤◌, ◌<◌, ◌+◌, List, Option, Some, None, refl, sym, ap, ◌∙◌, subst, take, length, arith}
-use Rattle.std.proofs.lemmas.List.{take_all, length-take, length-take-le}
-use Rattle.vault_port.specs.Files.{Files, bytes_of, ChangesOnly, HoldsFrontAtMost, KeepsOthers}
+use Rattle.std.proofs.Common.{◌≡◌, inl, inr, ℕ, ◌≤◌, List, Option, Some, None, refl, sym, ap, ◌∙◌, subst, take, length, arith}
+use Rattle.std.proofs.lemmas.List.{take_all, length-take}
+use Rattle.vault_port.specs.Files.{Files, bytes_of, ChangesOnly, HoldsFrontAtMost}
 use Rattle.vault_port.specs.Told.{WhereTold, Becomes}
 use Rattle.wa_types.specs.Syntax.{Module}
 use Rattle.wa_types.specs.Encoding.{Enc}
 use Rattle.wa_types.specs.Runtime.{with_runtime}
-use Rattle.asyncify_app.specs.Small.{IsSmall}
 use Rattle.asyncify_app.specs.Transforms.{IsWrittenAs, HoldsSmall, IsRewritten, IsTransformed, IsCutShort, IsCount}
 
 -- a front one byte past the limit that is within it is whole

@@ -1,5 +1,5 @@
 -- Bounds on the lists of a module, as the program holds it.
-use Rattle.std.specs.Prelude.{◌≡◌, ℕ, ◌+◌, ◌≤◌, nat_le, ◌&&◌, List, length, Bool, true, All}
+use Rattle.std.specs.Prelude.{◌≡◌, ℕ, ◌≤◌, nat_le, ◌&&◌, length, Bool, true, All}
 use Rattle.std.specs.List.{list_all}
 use Rattle.wa_types.specs.declared.syntax.FuncType.{FuncType}
 use Rattle.wa_types.specs.declared.syntax.Func.{Func}

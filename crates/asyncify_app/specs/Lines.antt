@@ -1,5 +1,5 @@
 -- The lines that the program prints.
-use Rattle.std.specs.Prelude.{ℕ, ◌+◌, ◌/◌, ◌%◌, nat_le, nat_lt, ◌==◌, not, ◌&&◌, List, [], ◌∷◌, ◌++◌, codes, Bool, true, false, if◌then◌else◌}
+use Rattle.std.specs.Prelude.{ℕ, ◌+◌, ◌/◌, ◌%◌, nat_le, nat_lt, ◌==◌, not, ◌&&◌, List, [], ◌∷◌, ◌++◌, codes, Bool, if◌then◌else◌}
 use Rattle.std.specs.Fmt.{decimal}
 
 -- a line feed

@@ -1,11 +1,10 @@
 -- The modules that are accepted for now.
-use Rattle.std.specs.Prelude.{◌≡◌, ℕ, ◌≤◌, ◌+◌, List, length, sum_by, Bool, true, false, not, All}
-use Rattle.std.specs.List.{list_all, list_any}
-use Rattle.wa_types.specs.declared.syntax.Run.{Run}
+use Rattle.std.specs.Prelude.{◌≡◌, ◌≤◌, length, false, All}
+use Rattle.std.specs.List.{list_any}
 use Rattle.wa_types.specs.declared.syntax.Export.{Export}
 use Rattle.wa_types.specs.Syntax.{FuncType, Func, Module}
 use Rattle.wa_types.specs.Encoding.{Enc, body_bytes}
-use Rattle.wa_types.specs.Modules.{type_at, locals_of}
+use Rattle.wa_types.specs.Modules.{locals_of}
 use Rattle.wa_types.specs.Validity.{Valid}
 use Rattle.asyncify_runtime.specs.Reserved.{is_runtime_name}
 use Rattle.wasm_reader.specs.Small.{IsSmallShaped}

@@ -1,13 +1,13 @@
 -- What `transform` does to the files and what it prints.
-use Rattle.std.specs.Prelude.{◌≡◌, ◌⊎◌, ℕ, List, ◌++◌, length, take, Option, Some, None}
+use Rattle.std.specs.Prelude.{◌≡◌, ◌⊎◌, ℕ, List, ◌++◌, length, take, Option, Some}
 use Rattle.vault_port.specs.Counts.{HasRisen}
 use Rattle.vault_port.specs.Files.{Files, bytes_of, KeepsOthers, ChangesOnly}
-use Rattle.vault_port.specs.Told.{WhereTold, Becomes}
+use Rattle.vault_port.specs.Told.{WhereTold}
 use Rattle.vault_port.specs.Taken.{Appends, AppendsLess}
 use Rattle.wa_types.specs.Syntax.{Module}
 use Rattle.wa_types.specs.Encoding.{Enc}
 use Rattle.wa_types.specs.Runtime.{with_runtime}
-use Rattle.asyncify_app.specs.Lines.{memory_line, usage_line, not_built_line, read_fault_line, write_fault_line, done_line}
+use Rattle.asyncify_app.specs.Lines.{memory_line, not_built_line, read_fault_line, write_fault_line, done_line}
 use Rattle.asyncify_app.specs.Small.{IsSmall}
 
 -- the bytes are those that this small module is written as

@@ -20,3 +20,6 @@ mod words;
 
 pub use command::asyncify;
 pub use small::is_small;
+
+#[cfg(test)]
+mod tests;

@@ -1,7 +1,6 @@
-use Rattle.std.proofs.Common.{arith, ◌<◌, ◌≤◌, length, subst, sym, refl, All, take}
+use Rattle.std.proofs.Common.{arith, ◌<◌, ◌≤◌, length, subst, refl, All}
 use Rattle.std.proofs.lemmas.List.{take_all}
 use Rattle.std.proofs.lemmas.List.Elements.{All-more}
-use Rattle.wa_types.specs.declared.syntax.Func.{Func}
 use Rattle.asyncify_app.specs.Bounds.{IsBoundedFunc}
 use Rattle.asyncify_app.proofs.bounds.funcs_are_bounded.Goals as goal
 

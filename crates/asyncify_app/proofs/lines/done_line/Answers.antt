@@ -1,5 +1,5 @@
 -- The format's pieces, joined to the left.
-use Rattle.std.proofs.Common.{append_assoc, rules}
+use Rattle.std.proofs.Common.{append_assoc}
 use Rattle.std.proofs.lemmas.Result.{IfOk-weaker}
 use Rattle.asyncify_app.specs.Lines.{done_line}
 use Rattle.asyncify_app.proofs.lines.done_line.Goals as goal

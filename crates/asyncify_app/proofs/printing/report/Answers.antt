@@ -1,4 +1,4 @@
-use Rattle.asyncify_app.proofs.Printed.{memory_alone, memory_behind}
+use Rattle.asyncify_app.proofs.Printed.{memory_alone}
 use Rattle.asyncify_app.proofs.printing.report.Goals as goal
 
 pub returns-in_default-clause-memory : goal.returns-in_default-clause-memory

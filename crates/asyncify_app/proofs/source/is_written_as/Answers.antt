@@ -1,5 +1,5 @@
 -- A module that is too long isn't written as few bytes.
-use Rattle.std.proofs.Common.{arith, ap, length, ◌<◌, ◌≡◌}
+use Rattle.std.proofs.Common.{arith, ap, length, ◌<◌}
 use Rattle.wa_types.specs.View.{module_of}
 use Rattle.wa_types.specs.Encoding.{Enc}
 use Rattle.asyncify_app.proofs.source.is_written_as.Goals as goal

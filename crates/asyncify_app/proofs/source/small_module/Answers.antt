@@ -1,5 +1,5 @@
 -- What a small module would be, and what the bounds say.
-use Rattle.std.proofs.Common.{subst, sym, true}
+use Rattle.std.proofs.Common.{subst, sym}
 use Rattle.std.specs.Prelude.{IsTrue}
 use Rattle.wa_types.specs.Syntax.{Module}
 use Rattle.wa_types.specs.View.{module_of}

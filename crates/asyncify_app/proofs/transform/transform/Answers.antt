@@ -1,6 +1,6 @@
 -- What the two files have to do with the module that was read.
-use Rattle.std.proofs.Common.{ℕ, List, sym, ◌∙◌, subst}
-use Rattle.asyncify_app.specs.Transforms.{HoldsSmall, IsRewritten}
+use Rattle.std.proofs.Common.{ℕ, List, subst}
+use Rattle.asyncify_app.specs.Transforms.{HoldsSmall}
 use Rattle.asyncify_app.proofs.Transforming.{transformed, cut_short, counted, none_held, held}
 use Rattle.asyncify_app.proofs.transform.transform.Goals as goal
 

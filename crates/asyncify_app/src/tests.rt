@@ -1,0 +1,135 @@
+//! The worked rows of `transform`, over files and output in memory.
+
+use super::*;
+use std::alloc::{AllocError, Global};
+use std::test::Fail;
+use vault_port::{MemSink, MemVault, NamedFile, SureSink, SureVault};
+use wa_types::{Name, copy_module};
+use wasm_reader::read_small;
+
+/// The preamble alone.
+const EMPTY: &[u8] = b"\0asm\x01\0\0\0";
+
+/// A function `run` of type `[] -> [i32]` that returns 7.
+const SEVEN: &[u8] =
+    b"\0asm\x01\0\0\0\x01\x05\x01\x60\x00\x01\x7f\x03\x02\x01\x00\x07\x07\x01\x03run\x00\x00\x0a\x06\x01\x04\x00\x41\x07\x0b";
+
+/// What is written for the preamble alone.
+const EMPTY_WRITTEN: &[u8] = b"\
+    \x00\x61\x73\x6d\x01\x00\x00\x00\
+    \x01\x0c\x03\x60\x01\x7f\x00\x60\x00\x00\x60\x00\x01\x7f\
+    \x03\x06\x05\x00\x01\x00\x01\x02\
+    \x05\x04\x01\x01\x01\x01\
+    \x06\x0b\x02\x7f\x01\x41\x00\x0b\x7f\x01\x41\x00\x0b\
+    \x07\x74\x05\
+    \x15asyncify_start_unwind\x00\x00\
+    \x14asyncify_stop_unwind\x00\x01\
+    \x15asyncify_start_rewind\x00\x02\
+    \x14asyncify_stop_rewind\x00\x03\
+    \x12asyncify_get_state\x00\x04\
+    \x0a\x66\x05\
+    \x19\x00\x41\x01\x24\x00\x20\x00\x24\x01\x23\x01\x28\x02\x00\x23\x01\x28\x02\x04\x4b\x04\x40\x00\x0b\x0b\
+    \x15\x00\x41\x00\x24\x00\x23\x01\x28\x02\x00\x23\x01\x28\x02\x04\x4b\x04\x40\x00\x0b\x0b\
+    \x19\x00\x41\x02\x24\x00\x20\x00\x24\x01\x23\x01\x28\x02\x00\x23\x01\x28\x02\x04\x4b\x04\x40\x00\x0b\x0b\
+    \x15\x00\x41\x00\x24\x00\x23\x01\x28\x02\x00\x23\x01\x28\x02\x04\x4b\x04\x40\x00\x0b\x0b\
+    \x04\x00\x23\x00\x0b";
+
+fn words(alloc: Global, text: &[&str]) -> Result<Vec<String>, AllocError> {
+    let mut words = Vec::new(alloc);
+    for word in text {
+        words.push(String::from_str(alloc, word)?)?;
+    }
+    Ok(words)
+}
+
+/// The one file `in`.
+fn input(alloc: Global, bytes: &[u8]) -> Result<Vec<NamedFile>, AllocError> {
+    let mut files = Vec::new(alloc);
+    files.push(NamedFile {
+        name: Name::new(alloc, "in")?,
+        bytes: Vec::from_slice(alloc, bytes)?,
+    })?;
+    Ok(files)
+}
+
+#[test]
+fn small_modules_are_rewritten(rt: HostRuntime) -> Result<(), Fail> {
+    let alloc = rt.alloc();
+    let rows = [
+        (EMPTY, "ok functions 0 instrumented 0 bytes 271\n"),
+        (SEVEN, "ok functions 1 instrumented 0 bytes 287\n"),
+    ];
+    for (bytes, line) in rows {
+        let words = words(alloc, &["transform", "in", "out"])?;
+        let mut vault = SureVault::new(alloc, input(alloc, bytes)?);
+        let mut out = SureSink::new(alloc);
+        let status = asyncify(alloc, &words, &mut vault, &mut out);
+        assert_eq!(rt; status, 0);
+        assert_eq!(rt; out.bytes(), line.as_bytes());
+        if bytes.len() == EMPTY.len() {
+            assert_eq!(rt; vault.file("out"), Some(EMPTY_WRITTEN));
+        }
+    }
+    Ok(())
+}
+
+#[test]
+fn refusals_print_their_line(rt: HostRuntime) -> Result<(), Fail> {
+    let alloc = rt.alloc();
+    let rows = [
+        (&["transform", "in"][..], 2, "usage\n"),
+        (&["transform", "in", "out"][..], 14, "not yet built\n"),
+        (
+            &["transform", "absent", "out"][..],
+            10,
+            "read fault absent\n",
+        ),
+        (
+            &["transform", "a b%", "out"][..],
+            10,
+            "read fault a%20b%25\n",
+        ),
+    ];
+    for (text, status, line) in rows {
+        let words = words(alloc, text)?;
+        let mut vault = SureVault::new(alloc, input(alloc, b"")?);
+        let mut out = SureSink::new(alloc);
+        assert_eq!(rt; asyncify(alloc, &words, &mut vault, &mut out), status);
+        assert_eq!(rt; out.bytes(), line.as_bytes());
+        assert_eq!(rt; vault.file("out"), None);
+    }
+    Ok(())
+}
+
+#[test]
+fn faults_have_their_status(rt: HostRuntime) -> Result<(), Fail> {
+    let alloc = rt.alloc();
+    let words = words(alloc, &["transform", "in", "out"])?;
+
+    let mut vault = MemVault::new(alloc, input(alloc, EMPTY)?, vec![in alloc; 1]?);
+    let mut out = SureSink::new(alloc);
+    assert_eq!(rt; asyncify(alloc, &words, &mut vault, &mut out), 10);
+    assert_eq!(rt; out.bytes(), b"read fault in\n".as_slice());
+
+    let mut vault = MemVault::new(alloc, input(alloc, EMPTY)?, vec![in alloc; 3, 4]?);
+    let mut out = SureSink::new(alloc);
+    assert_eq!(rt; asyncify(alloc, &words, &mut vault, &mut out), 11);
+    assert_eq!(rt; out.bytes(), b"write fault out\n".as_slice());
+
+    let mut vault = SureVault::new(alloc, input(alloc, EMPTY)?);
+    let mut out = MemSink::new(alloc, vec![in alloc; 1]?);
+    assert_eq!(rt; asyncify(alloc, &words, &mut vault, &mut out), 12);
+    assert_eq!(rt; out.bytes(), b"".as_slice());
+    assert_eq!(rt; vault.file("out"), Some(EMPTY_WRITTEN));
+    Ok(())
+}
+
+#[test]
+fn a_copy_is_written_alike(rt: HostRuntime) -> Result<(), Fail> {
+    let alloc = rt.alloc();
+    let module = read_small(alloc, SEVEN)?;
+    let copy = copy_module(alloc, &module)?;
+    assert_eq!(rt; copy.exports.len(), 1);
+    assert_eq!(rt; copy.funcs.len(), 1);
+    Ok(())
+}
