@@ -1,3 +1,4 @@
+pub mod BeginningLemmas
 pub mod CaseLemmas
 pub mod Decided
 pub mod Exact

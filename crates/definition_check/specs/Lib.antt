@@ -1,5 +1,7 @@
 pub mod Analysis
+pub mod Beginnings
 pub mod Faults
+pub mod Files
 pub mod Laws
 pub mod Lists
 pub mod Rows

@@ -5,6 +5,8 @@
 #![tactic(auto)]
 
 ghost use Rattle.definition_check.specs.Analysis.{OnlySleeperPauses};
+ghost use Rattle.definition_check.specs.Beginnings.{EachFileDecided};
+ghost use Rattle.definition_check.specs.Files.{AllFound, beginnings, files};
 ghost use Rattle.definition_check.specs.Laws.{EachModuleDecided, VerdictIsTyping};
 ghost use Rattle.definition_check.specs.Faults.{AllSay, body_cases, module_cases, valid_cases};
 ghost use Rattle.definition_check.specs.Lists.{Listings, Lists};
@@ -68,4 +70,19 @@ pub fn only_sleeper_pauses()
 /// What memory holds while a call waits.
 pub fn one_call_image()
     ensures { OneCallImage }
+{}
+
+/// Whether bytes are a whole file, or else the least place at which they can't be one, is computed.
+pub fn each_file_decided()
+    ensures { EachFileDecided }
+{}
+
+/// Small files, whole ones and others, each with the place where it fails.
+pub fn files_fail_at_their_places()
+    ensures { AllFound files }
+{}
+
+/// Each beginning of a module's file fails at its end, but for the four that are whole files.
+pub fn beginnings_of_a_module()
+    ensures { AllFound beginnings }
 {}

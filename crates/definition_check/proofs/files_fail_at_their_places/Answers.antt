@@ -1,0 +1,13 @@
+use Rattle.std.proofs.Common.{refl}
+use Rattle.std.specs.Str.{is_utf8, chars}
+use Rattle.wa_types.specs.Opcodes.{follows}
+use Rattle.wa_types.specs.Leb.{unsigned_at, signed_at}
+use Rattle.wa_types.specs.Begun.{next, settled}
+use Rattle.definition_check.specs.Beginnings.{is_inside, walks, search}
+use Rattle.definition_check.specs.Files.{files}
+use Rattle.definition_check.proofs.BeginningLemmas.{all_found}
+use Rattle.definition_check.proofs.files_fail_at_their_places.Goals as goal
+
+pub returns : goal.returns
+unfolding is_utf8 chars lib.Utf8.encode follows unsigned_at signed_at next settled is_inside walks search
+returns c = all_found files refl refl
