@@ -14,6 +14,11 @@ const EMPTY: &[u8] = b"\0asm\x01\0\0\0";
 const SEVEN: &[u8] =
     b"\0asm\x01\0\0\0\x01\x05\x01\x60\x00\x01\x7f\x03\x02\x01\x00\x07\x07\x01\x03run\x00\x00\x0a\x06\x01\x04\x00\x41\x07\x0b";
 
+/// A function of type `[i32] -> [i32]` with a local that adds 5 to its parameter and calls itself, exported as `f`.
+const ADDS: &[u8] =
+    b"\0asm\x01\0\0\0\x01\x06\x01\x60\x01\x7f\x01\x7f\x03\x02\x01\x00\x07\x05\x01\x01f\x00\x00\
+    \x0a\x0d\x01\x0b\x01\x01\x7f\x20\x00\x41\x05\x6a\x10\x00\x0b";
+
 /// What is written for the preamble alone.
 const EMPTY_WRITTEN: &[u8] = b"\
     \x00\x61\x73\x6d\x01\x00\x00\x00\
@@ -58,6 +63,7 @@ fn small_modules_are_rewritten(rt: HostRuntime) -> Result<(), Fail> {
     let rows = [
         (EMPTY, "ok functions 0 instrumented 0 bytes 271\n"),
         (SEVEN, "ok functions 1 instrumented 0 bytes 287\n"),
+        (ADDS, "ok functions 1 instrumented 0 bytes 293\n"),
     ];
     for (bytes, line) in rows {
         let words = words(alloc, &["transform", "in", "out"])?;
@@ -110,11 +116,20 @@ fn faults_have_their_status(rt: HostRuntime) -> Result<(), Fail> {
     let mut out = SureSink::new(alloc);
     assert_eq!(rt; asyncify(alloc, &words, &mut vault, &mut out), 10);
     assert_eq!(rt; out.bytes(), b"read fault in\n".as_slice());
+    assert_eq!(rt; vault.file("in"), Some(EMPTY));
+    assert_eq!(rt; vault.file("out"), None);
+
+    let mut vault = SureVault::new(alloc, Vec::new(alloc));
+    let mut out = SureSink::new(alloc);
+    assert_eq!(rt; asyncify(alloc, &words, &mut vault, &mut out), 10);
+    assert_eq!(rt; out.bytes(), b"read fault in\n".as_slice());
+    assert_eq!(rt; vault.file("out"), None);
 
     let mut vault = MemVault::new(alloc, input(alloc, EMPTY)?, vec![in alloc; 3, 4]?);
     let mut out = SureSink::new(alloc);
     assert_eq!(rt; asyncify(alloc, &words, &mut vault, &mut out), 11);
     assert_eq!(rt; out.bytes(), b"write fault out\n".as_slice());
+    assert_eq!(rt; vault.file("in"), Some(EMPTY));
 
     let mut vault = SureVault::new(alloc, input(alloc, EMPTY)?);
     let mut out = MemSink::new(alloc, vec![in alloc; 1]?);
@@ -125,11 +140,31 @@ fn faults_have_their_status(rt: HostRuntime) -> Result<(), Fail> {
 }
 
 #[test]
-fn a_copy_is_written_alike(rt: HostRuntime) -> Result<(), Fail> {
+fn a_refusal_keeps_its_status_over_a_failing_sink(rt: HostRuntime) -> Result<(), Fail> {
     let alloc = rt.alloc();
-    let module = read_small(alloc, SEVEN)?;
+    let words = words(alloc, &["transform", "in"])?;
+    let mut vault = SureVault::new(alloc, input(alloc, EMPTY)?);
+    let mut out = MemSink::new(alloc, vec![in alloc; 1]?);
+    assert_eq!(rt; asyncify(alloc, &words, &mut vault, &mut out), 2);
+    assert_eq!(rt; out.bytes(), b"".as_slice());
+    Ok(())
+}
+
+#[test]
+fn a_copy_has_the_parts_of_its_module(rt: HostRuntime) -> Result<(), Fail> {
+    let alloc = rt.alloc();
+    let module = read_small(alloc, ADDS)?;
     let copy = copy_module(alloc, &module)?;
-    assert_eq!(rt; copy.exports.len(), 1);
-    assert_eq!(rt; copy.funcs.len(), 1);
+    assert_eq!(rt; copy.types.len(), module.types.len());
+    assert_eq!(rt; copy.exports.len(), module.exports.len());
+    assert_eq!(rt; copy.funcs.len(), module.funcs.len());
+    for (func, other) in copy.funcs.iter().zip(module.funcs.iter()) {
+        assert_eq!(rt; func.sort, other.sort);
+        assert_eq!(rt; func.locals.len(), other.locals.len());
+        assert_eq!(rt; func.body.len(), other.body.len());
+    }
+    for (export, other) in copy.exports.iter().zip(module.exports.iter()) {
+        assert_eq!(rt; export.name.as_str(), other.name.as_str());
+    }
     Ok(())
 }
