@@ -1,6 +1,9 @@
 -- Small files and where they fail, and each beginning of a module's file.
-use Rattle.std.specs.Prelude.{ℕ, zero, suc, ◌==◌, ◌||◌, List, [], ◌∷◌, ◌++◌, map, take, Option, Some, None, if◌then◌else◌}
+use Rattle.std.specs.Prelude.{◌≡◌, ℕ, zero, suc, ◌==◌, ◌||◌, List, [], ◌∷◌, ◌++◌, map, take, Option, Some, None, if◌then◌else◌}
 use Rattle.wa_types.specs.Encoding.{preamble}
+use Rattle.wa_types.specs.Binary.{Placed, nothing, index, float, RawCode, ended, instr, RawBody, Section, types, functions, bodies}
+use Rattle.wa_types.specs.Spells.{Spells}
+use Rattle.wa_types.specs.Marks.{floats}
 use Rattle.definition_check.specs.Beginnings.{FaultFound}
 
 -- the bytes of a file, and where it fails; None for a whole one
@@ -88,3 +91,34 @@ below (suc n) = below n ++ n ∷ []
 
 abbrev pub beginnings : List File
 beginnings = map beginning (below 55)
+
+-- a function that holds `f32.const` behind `unreachable`, and calls another that isn't there
+abbrev pub float_file : List ℕ
+float_file = preamble ++ a_type ++ a_function ++
+    0x0A ∷ 0x0C ∷ 0x01 ∷ 0x0A ∷ 0x00 ∷ 0x00 ∷ 0x43 ∷ 0x00 ∷ 0x00 ∷ 0x00 ∷ 0x00 ∷ 0x10 ∷ 0x07 ∷ 0x0B ∷ []
+
+abbrev pub at_place : (place byte : ℕ) → Placed
+at_place k b = record { place = k; byte = b }
+
+abbrev pub float_code : RawCode
+float_code =
+    instr (at_place 23 0x00) nothing
+    (instr (at_place 24 0x43) (float (0x00 ∷ 0x00 ∷ 0x00 ∷ 0x00 ∷ []))
+    (instr (at_place 29 0x10) (index 7)
+    (ended 31)))
+
+abbrev pub float_body : RawBody
+float_body = record { size = 10; locals = []; code = float_code }
+
+abbrev pub float_types : Section
+float_types = types (record { params = []; results = [] } ∷ [])
+
+abbrev pub float_bodies : Section
+float_bodies = bodies (float_body ∷ [])
+
+abbrev pub float_sections : List Section
+float_sections = float_types ∷ functions (0 ∷ []) ∷ float_bodies ∷ []
+
+-- What the file spells has one float, at offset 24.
+abbrev pub FloatFound : Type 0
+FloatFound = Spells float_file float_sections × (floats float_sections ≡ 24 ∷ [])

@@ -6,7 +6,7 @@
 
 ghost use Rattle.definition_check.specs.Analysis.{OnlySleeperPauses};
 ghost use Rattle.definition_check.specs.Beginnings.{EachFileDecided};
-ghost use Rattle.definition_check.specs.Files.{AllFound, beginnings, files};
+ghost use Rattle.definition_check.specs.Files.{AllFound, FloatFound, beginnings, files};
 ghost use Rattle.definition_check.specs.Laws.{EachModuleDecided, VerdictIsTyping};
 ghost use Rattle.definition_check.specs.Faults.{AllSay, body_cases, module_cases, valid_cases};
 ghost use Rattle.definition_check.specs.Lists.{Listings, Lists};
@@ -85,4 +85,9 @@ pub fn files_fail_at_their_places()
 /// Each beginning of a module's file fails at its end, but for the four that are whole files.
 pub fn beginnings_of_a_module()
     ensures { AllFound beginnings }
+{}
+
+/// The offset of a float in code that can't be reached.
+pub fn a_float_in_dead_code_is_marked()
+    ensures { FloatFound }
 {}
