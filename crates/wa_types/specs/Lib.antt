@@ -12,6 +12,7 @@ pub mod Leb
 pub mod Liveness
 pub mod Marks
 pub mod Memory
+pub mod ModuleBounds
 pub mod Modules
 pub mod Norm
 pub mod Opcodes

@@ -1,4 +1,4 @@
--- Which locals may still be read behind a call: paths through a function's code (standard, section 4.4.8).
+-- Which locals may still be read behind a call: paths through a function's code (standard, section 4.4.5).
 use Rattle.std.specs.Prelude.{◌≡◌, ℕ, zero, suc, ◌⊎◌, ◌++◌, List, [], ◌∷◌, Option, Some, None, Bool, false, not, ◌&&◌, ◌||◌, slice_get, nat_eq}
 use Rattle.std.specs.List.{list_any}
 use Rattle.wa_types.specs.Syntax.{Plain, local_get, local_set, local_tee, br, br_if, br_table, return, unreachable, Shape, a_block, a_loop, Code, done, plain, nest, branch, Func}
@@ -29,7 +29,7 @@ abbrev pub label_of : Shape → Code → Code → Label
 label_of a_block body rest = goes_behind rest
 label_of a_loop body rest = goes_again body rest
 
--- where a branch to this label goes; one to the function's own label leaves it (4.4.8.6)
+-- where a branch to this label goes; one to the function's own label leaves it (4.4.5.6)
 abbrev pub target : List Label → ℕ → Option Position
 target [] l = None
 target (goes_behind rest ∷ ls) zero = Some (position rest ls)
@@ -50,12 +50,12 @@ PlainLeads return rest ls there = ⊥
 PlainLeads unreachable rest ls there = ⊥
 PlainLeads _ rest ls there = there ≡ position rest ls
 
--- the end of a sequence leads behind its construct (4.4.9.2)
+-- the end of a sequence leads behind its construct (4.4.6.2)
 abbrev pub EndLeads : List Label → Position → Type 0
 EndLeads [] there = ⊥
 EndLeads (x ∷ ls) there = there ≡ position (behind x) ls
 
--- a reduction may lead from this place to that (4.4.8)
+-- a reduction may lead from this place to that (4.4.5)
 abbrev pub Leads : Code → List Label → Position → Type 0
 Leads done ls there = EndLeads ls there
 Leads (plain p rest) ls there = PlainLeads p rest ls there

@@ -9,6 +9,7 @@
 //! contracts of functions with an empty body.
 #![tactic(auto)]
 
+mod bounds;
 mod control;
 mod copy;
 mod frame_laws;
@@ -22,6 +23,7 @@ mod typing_laws;
 mod values;
 mod weights;
 
+pub use bounds::{Bounds, LimitKind};
 pub use copy::copy_module;
 pub use frame_laws::{live_is_path, one_each_call, slots_are_pairs};
 pub use instrs::Instr;
