@@ -1,4 +1,4 @@
-ghost use Rattle.std.specs.Prelude.{◌≡◌};
+ghost use Rattle.std.specs.Prelude.{◌≡◌, ◌⊎◌};
 ghost use Rattle.wa_types.specs.ModuleBounds.{prepared_bounds, source_bounds};
 
 use std::marker::Model;
@@ -57,7 +57,8 @@ impl Bounds {
 
     /// The most bytes of a module's file.
     pub fn file(&self) -> u32
-        ensures { result ≡ self.now.file }
+        ensures file { result ≡ self.now.file }
+        ensures columns { (self.now ≡ source_bounds) ⊎ (self.now ≡ prepared_bounds) }
     {
         self.file
     }
