@@ -1,8 +1,12 @@
+pub mod Accepting
 pub mod Codes
 pub mod Fronts
 pub mod Functions
+pub mod LocalCounts
 pub mod Merged
 pub mod Modules
 pub mod Numbers
 pub mod Sections
+pub mod SpelledCodeSizes
+pub mod SpelledSizes
 pub mod Vectors

@@ -1,2 +1,4 @@
+pub mod Answers
+pub mod Locals
 pub mod Reading
 pub mod Small

@@ -8,7 +8,9 @@
 
 mod bodies;
 mod entries;
+mod faults;
 mod input;
+mod locals;
 
 ghost use Rattle.std.specs.Prelude.{◌≡◌, ◌<◌, ◌^◌, ◌++◌, List, ℕ, length, IfOk, MatchResult};
 ghost use Rattle.wa_types.specs.Encoding.{Enc, preamble};
@@ -21,6 +23,7 @@ ghost use Rattle.wasm_reader.specs.declared.SmallFault.TheVariants.{Memory};
 use bodies::funcs;
 use entries::{exports, sorts, types};
 use input::Input;
+pub use faults::ReadFault;
 use std::alloc::{AllocError, AllocFailed, Global};
 use thiserror::Error;
 use wa_types::{LebFault, Module};
