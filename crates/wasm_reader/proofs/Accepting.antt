@@ -1,5 +1,7 @@
 -- What is accepted keeps the size rule.
 use Rattle.std.proofs.Common.{◌≡◌, ℕ, ◌+◌, ◌*◌, ◌<◌, ◌≤◌, ◌^◌, ◌⊎◌, inl, inr, List, [], length, map, flat_map, refl, ap, sym, ◌∙◌, subst, arith, All, None}
+use Rattle.wa_types.proofs.FileReads.{whole_spelled}
+use Rattle.wa_types.specs.Begun.{IsWhole}
 use Rattle.wa_types.specs.Binary.{RawType, RawBody, Section}
 use Rattle.wa_types.specs.Marks.{parameter_counts, body_sizes, local_counts, first_above}
 use Rattle.wa_types.specs.ModuleBounds.{ModuleBounds, source_bounds, prepared_bounds}
@@ -7,13 +9,25 @@ use Rattle.wa_types.specs.Reading.{types_in, IsModule, SpellsModule}
 use Rattle.wa_types.specs.Spells.{Spells, bodies_in}
 use Rattle.wa_types.specs.Sizes.{MeetsSizes, SizeRule, StrictSizeRule}
 use Rattle.wa_types.specs.Syntax.{Func, Module}
-use Rattle.wasm_reader.specs.Answers.{IsShallow, HasFewLocals, IsAccepted}
+use Rattle.wasm_reader.specs.Answers.{IsFile, IsShallow, IsAccepted}
 use Rattle.wasm_reader.specs.Locals.{func_locals, module_locals}
+use Rattle.wasm_reader.proofs.ModulesMade.{module_made}
 use Rattle.wasm_reader.proofs.SpelledSizes.{none_above, spelled_locals, spelled_sizes}
 
 -- what is accepted is spelled
 pub accepted_spelled : (b : ModuleBounds) (bytes : List ℕ) (m : Module) → IsAccepted b bytes m → SpellsModule bytes m
 accepted_spelled b bytes m a = record { sections = a.sections; spells = a.within.before.before.before.before.before.file.spells; is_module = a.is_module }
+
+-- a whole file is spelled
+pub file_of : (b : ModuleBounds) (bytes : List ℕ) → length bytes ≤ b.file → IsWhole bytes → (ss : List Section) × IsFile b bytes ss
+file_of b bytes few whole = let s = whole_spelled bytes whole in (s.0, record { few = few; spells = s.1 })
+
+-- a file that is shallow is a module
+pub module_in : (b : ModuleBounds) (bytes : List ℕ) (ss : List Section) → IsShallow b bytes ss → (m : Module) × IsModule ss m
+module_in b bytes ss s = module_made bytes ss s.before.before.before.before.file.spells s.before.before.before.before.whole_numbers
+
+pub spelled_in : (b : ModuleBounds) (bytes : List ℕ) (ss : List Section) (m : Module) → IsShallow b bytes ss → IsModule ss m → SpellsModule bytes m
+spelled_in b bytes ss m s i = record { sections = ss; spells = s.before.before.before.before.file.spells; is_module = i }
 
 -- the locals of the module are those of the sections
 pub same_above : (bound : ℕ) (ss : List Section) (m : Module) → IsModule ss m → first_above bound (local_counts ss) ≡ first_above bound (module_locals m)

@@ -5,7 +5,9 @@ pub mod Functions
 pub mod LocalCounts
 pub mod Merged
 pub mod Modules
+pub mod ModulesMade
 pub mod Numbers
+pub mod OpcodesMade
 pub mod Sections
 pub mod SpelledCodeSizes
 pub mod SpelledSizes

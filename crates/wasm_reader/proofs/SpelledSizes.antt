@@ -19,10 +19,10 @@ use Rattle.wasm_reader.proofs.SpelledCodeSizes.{length_split, number_takes, vect
 
 -- something that is spelled in at most so many bytes
 pub record Seen (n : ℕ) {X : Type 0} (f : X → ℕ → List ℕ → Type 0) (x : X) : Type 0 where
-  place : ℕ
-  bytes : List ℕ
-  spelled : f x place bytes
-  few : length bytes ≤ n
+  pub place : ℕ
+  pub bytes : List ℕ
+  pub spelled : f x place bytes
+  pub few : length bytes ≤ n
 
 none_seen : {X : Type 0} (P : X → Type 0) → All P []
 none_seen P = λ k d l. absurd (omega (arith, l))
@@ -33,7 +33,7 @@ seen_items n f (x ∷ xs) at a h l =
     let e = length_split a h.0 h.1 h.2 in
     All-cons (Seen n f) x xs (record { place = at; bytes = h.0; spelled = h.3; few = omega (arith, e, l) }) (seen_items n f xs (at + length h.0) h.1 h.4 (omega (arith, e, l)))
 
-seen_vector : (n : ℕ) {X : Type 0} (f : X → ℕ → List ℕ → Type 0) (xs : List X) (at : ℕ) (a : List ℕ) → Vector f xs at a → length a ≤ n → All (Seen n f) xs
+pub seen_vector : (n : ℕ) {X : Type 0} (f : X → ℕ → List ℕ → Type 0) (xs : List X) (at : ℕ) (a : List ℕ) → Vector f xs at a → length a ≤ n → All (Seen n f) xs
 seen_vector n f xs at a h l = let e = length_split a h.0 h.1 h.2 in seen_items n f xs (at + length h.0) h.1 h.4 (omega (arith, e, l))
 
 section_seen : (n : ℕ) {X : Type 0} (f : X → ℕ → List ℕ → Type 0) (xs : List X) (id at : ℕ) (a : List ℕ) → (Exactly (id ∷ []) ▸ Sized (Vector f xs)) at a → length a ≤ n → All (Seen n f) xs
@@ -49,7 +49,7 @@ section_takes f t xs id at a h =
     let z = h.4.1 in
     omega (arith, length_split a h.0 h.1 h.2, length_split h.1 z.0 z.1 z.2, vector_takes f t xs (at + length h.0 + length z.0) z.1 z.4.1)
 
-held_seen : (n : ℕ) {X : Type 0} (f : X → ℕ → List ℕ → Type 0) (g : Section → List X) → ((s : Section) (at : ℕ) (a : List ℕ) → SectionOf s at a → length a ≤ n → All (Seen n f) (g s)) → (ss : List Section) (at : ℕ) (a : List ℕ) → Items SectionOf ss at a → length a ≤ n → All (Seen n f) (flat_map g ss)
+pub held_seen : (n : ℕ) {X : Type 0} (f : X → ℕ → List ℕ → Type 0) (g : Section → List X) → ((s : Section) (at : ℕ) (a : List ℕ) → SectionOf s at a → length a ≤ n → All (Seen n f) (g s)) → (ss : List Section) (at : ℕ) (a : List ℕ) → Items SectionOf ss at a → length a ≤ n → All (Seen n f) (flat_map g ss)
 held_seen n f g w [] at a h l = none_seen (Seen n f)
 held_seen n f g w (s ∷ ss) at a h l =
     let e = length_split a h.0 h.1 h.2 in
@@ -103,23 +103,27 @@ segment_takes : (s : RawSegment) (at : ℕ) (a : List ℕ) → SegmentOf s at a 
 segment_takes s at a h = omega (arith, length_split a h.0 h.1 h.2, number_takes s.memory at h.0 h.3)
 
 -- what each kind of section holds is seen, and no more of it than bytes
-types_seen : (n : ℕ) (s : Section) (at : ℕ) (a : List ℕ) → SectionOf s at a → length a ≤ n → All (Seen n FunctionType) (types_in s)
+pub types_seen : (n : ℕ) (s : Section) (at : ℕ) (a : List ℕ) → SectionOf s at a → length a ≤ n → All (Seen n FunctionType) (types_in s)
 types_seen n (types xs) at a h l = section_seen n FunctionType xs 1 at a h l
 types_seen n _ at a h l = none_seen (Seen n FunctionType)
 
-elements_seen : (n : ℕ) (s : Section) (at : ℕ) (a : List ℕ) → SectionOf s at a → length a ≤ n → All (Seen n ElementOf) (elements_in s)
+pub imports_seen : (n : ℕ) (s : Section) (at : ℕ) (a : List ℕ) → SectionOf s at a → length a ≤ n → All (Seen n ImportOf) (imports_in s)
+imports_seen n (imports xs) at a h l = section_seen n ImportOf xs 2 at a h l
+imports_seen n _ at a h l = none_seen (Seen n ImportOf)
+
+pub elements_seen : (n : ℕ) (s : Section) (at : ℕ) (a : List ℕ) → SectionOf s at a → length a ≤ n → All (Seen n ElementOf) (elements_in s)
 elements_seen n (elements xs) at a h l = section_seen n ElementOf xs 9 at a h l
 elements_seen n _ at a h l = none_seen (Seen n ElementOf)
 
-globals_seen : (n : ℕ) (s : Section) (at : ℕ) (a : List ℕ) → SectionOf s at a → length a ≤ n → All (Seen n GlobalOf) (globals_in s)
+pub globals_seen : (n : ℕ) (s : Section) (at : ℕ) (a : List ℕ) → SectionOf s at a → length a ≤ n → All (Seen n GlobalOf) (globals_in s)
 globals_seen n (globals xs) at a h l = section_seen n GlobalOf xs 6 at a h l
 globals_seen n _ at a h l = none_seen (Seen n GlobalOf)
 
-bodies_seen : (n : ℕ) (s : Section) (at : ℕ) (a : List ℕ) → SectionOf s at a → length a ≤ n → All (Seen n BodyOf) (bodies_in s)
+pub bodies_seen : (n : ℕ) (s : Section) (at : ℕ) (a : List ℕ) → SectionOf s at a → length a ≤ n → All (Seen n BodyOf) (bodies_in s)
 bodies_seen n (bodies xs) at a h l = section_seen n BodyOf xs 10 at a h l
 bodies_seen n _ at a h l = none_seen (Seen n BodyOf)
 
-segments_seen : (n : ℕ) (s : Section) (at : ℕ) (a : List ℕ) → SectionOf s at a → length a ≤ n → All (Seen n SegmentOf) (segments_in s)
+pub segments_seen : (n : ℕ) (s : Section) (at : ℕ) (a : List ℕ) → SectionOf s at a → length a ≤ n → All (Seen n SegmentOf) (segments_in s)
 segments_seen n (segments xs) at a h l = section_seen n SegmentOf xs 11 at a h l
 segments_seen n _ at a h l = none_seen (Seen n SegmentOf)
 

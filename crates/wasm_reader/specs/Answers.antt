@@ -67,3 +67,11 @@ IsRefused b bytes (Limit Locals n) = (ss : List Section) × IsShallow b bytes ss
 IsRefused b bytes (Limit Output n) = ⊥
 IsRefused b bytes (Limit Script n) = ⊥
 IsRefused b bytes (Limit Programs n) = ⊥
+
+-- Why bytes are no whole file.
+abbrev pub IsCheckFault : List ℕ → ReadFault → Type 0
+IsCheckFault bytes Memory = Unit {0}
+IsCheckFault bytes (Malformed at) = FaultAt bytes at
+IsCheckFault bytes (Float at) = ⊥
+IsCheckFault bytes (Deep at) = ⊥
+IsCheckFault bytes (Limit what n) = ⊥

@@ -1,4 +1,5 @@
 pub mod Answers
 pub mod Locals
+pub mod Marking
 pub mod Reading
 pub mod Small

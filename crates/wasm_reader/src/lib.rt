@@ -7,10 +7,15 @@
 #![tactic(auto)]
 
 mod bodies;
+mod build;
 mod entries;
 mod faults;
+mod grammar;
 mod input;
 mod locals;
+mod marks;
+mod reading;
+mod scan;
 
 ghost use Rattle.std.specs.Prelude.{◌≡◌, ◌<◌, ◌^◌, ◌++◌, List, ℕ, length, IfOk, MatchResult};
 ghost use Rattle.wa_types.specs.Encoding.{Enc, preamble};
@@ -24,6 +29,7 @@ use bodies::funcs;
 use entries::{exports, sorts, types};
 use input::Input;
 pub use faults::ReadFault;
+pub use reading::read;
 use std::alloc::{AllocError, AllocFailed, Global};
 use thiserror::Error;
 use wa_types::{LebFault, Module};

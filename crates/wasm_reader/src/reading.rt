@@ -1,0 +1,95 @@
+ghost use Rattle.std.specs.Prelude.{◌≡◌, ◌<◌, ◌^◌, ◌≤◌, ℕ, List, length, IfOk, MatchResult};
+ghost use Rattle.std.specs.Result.{IfErr};
+ghost use Rattle.wa_types.specs.Begun.{FaultAt, IsWhole};
+ghost use Rattle.wa_types.specs.Binary.{Section};
+ghost use Rattle.wa_types.specs.ModuleBounds.{source_bounds};
+ghost use Rattle.wa_types.specs.Reading.{SpellsModule};
+ghost use Rattle.wa_types.specs.Sizes.{SizeRule, StrictSizeRule};
+ghost use Rattle.wa_types.specs.Spells.{Spells};
+ghost use Rattle.wa_types.specs.Syntax.{Module as PlainModule};
+ghost use Rattle.wa_types.specs.View.{module_of};
+ghost use Rattle.wasm_reader.specs.Answers.{IsAccepted, IsCheckFault, IsFile, IsRefused};
+ghost use Rattle.wasm_reader.specs.Marking.{AreMarks, IsJudged};
+ghost use Rattle.wasm_reader.specs.declared.faults.ReadFault.TheVariants.{Memory};
+
+use crate::build::{BuildFault, build};
+use crate::faults::ReadFault;
+use crate::locals::locals_above;
+use crate::grammar::check;
+use crate::marks::Marks;
+use crate::scan::scan;
+use std::alloc::Global;
+use wa_types::{Bounds, LimitKind, Module};
+
+/// The module that the bytes spell (standard, section 5), where it has no float and is within the bounds. Any
+/// spelling is accepted, padded numbers too; custom sections are kept unread. Takes time linear in the bytes, and room
+/// for what the module holds and for the constructs that are open at once.
+///
+/// Else the first of these: `Limit` of `File`; `Malformed`, exactly where the bytes spell no module, with the least
+/// number of first bytes that no module's bytes begin with, or all of them; `Float` and `Deep` with the least offset;
+/// the other limits in the order of `LimitKind`, `Deep` before `Locals`, each with the first number past its bound.
+/// `Memory` may come in the place of any answer.
+pub fn read(alloc: Global, bytes: &[u8], bounds: &Bounds) -> Result<Module, ReadFault>
+    ensures ok { IfOk result (λ r. IsAccepted bounds.now bytes.now (module_of r)) }
+    ensures sizes { IfOk result (λ r. SizeRule (module_of r)) }
+    ensures source_sizes { bounds.now ≡ source_bounds → IfOk result (λ r. StrictSizeRule (module_of r)) }
+    ensures refused { IfErr result (λ fault. IsRefused bounds.now bytes.now fault) }
+{
+    if bytes.len() > bounds.file() as usize {
+        return Err(ReadFault::Limit {
+            what: LimitKind::File,
+            found: bounds.file() as u64 + 1,
+        });
+    }
+    check(alloc, bytes)?;
+    let Ok(marks) = scan(bytes, bounds) else {
+        unreachable!()
+    };
+    if let Some(fault) = judge(&marks, bounds) {
+        return Err(fault);
+    }
+    let module = match build(alloc, bytes) {
+        Ok(module) => module,
+        Err(BuildFault::Memory) => return Err(ReadFault::Memory),
+        Err(BuildFault::NotSpelled) => unreachable!(),
+    };
+    if let Some(found) = locals_above(&module, bounds.locals()) {
+        return Err(ReadFault::Limit {
+            what: LimitKind::Locals,
+            found,
+        });
+    }
+    Ok(module)
+}
+
+// Why a file of these marks is refused, if it is.
+fn judge(marks: &Marks, bounds: &Bounds) -> Option<ReadFault>
+    ensures { (bytes : List ℕ) (ss : List Section) → IsFile bounds.now bytes ss → AreMarks bounds.now ss marks.now → IsJudged bounds.now bytes ss result }
+{
+    if let Some(at) = marks.float {
+        return Some(ReadFault::Float { at });
+    }
+    if marks.functions > bounds.functions() as u64 {
+        return Some(ReadFault::Limit {
+            what: LimitKind::Functions,
+            found: marks.functions,
+        });
+    }
+    if let Some(found) = marks.parameters {
+        return Some(ReadFault::Limit {
+            what: LimitKind::Parameters,
+            found: found as u64,
+        });
+    }
+    if let Some(found) = marks.body {
+        return Some(ReadFault::Limit {
+            what: LimitKind::Body,
+            found: found as u64,
+        });
+    }
+    if let Some(at) = marks.deep {
+        return Some(ReadFault::Deep { at });
+    }
+    None
+}
+
