@@ -1,46 +1,54 @@
-use Rattle.std.proofs.Common.{rules, ◌≡◌, ◌<◌, ◌^◌, ◌≤◌, ℕ, List, length, IfOk, MatchResult, ◌+◌, ◌-◌, ◌*◌, ◌/◌, ◌%◌, Bool, true, false, nat_eq, nat_lt, [], ◌∷◌, ◌++◌, slice_index_or, slice_set, bit_and, bit_or, Fits, w8, w32, w64, Bor, MutBor}
-use Rattle.std.specs.Result.{IfErr}
-use Rattle.wa_types.specs.Begun.{FaultAt, IsWhole}
-use Rattle.wa_types.specs.Binary.{Section}
-use Rattle.wa_types.specs.ModuleBounds.{source_bounds}
-use Rattle.wa_types.specs.Reading.{SpellsModule}
-use Rattle.wa_types.specs.Sizes.{SizeRule, StrictSizeRule}
-use Rattle.wa_types.specs.Spells.{Spells}
-use Rattle.wa_types.specs.Syntax.{Module as PlainModule}
+use Rattle.std.proofs.Common.{◌≡◌, ◌≤◌, ap, sym, ◌∙◌, arith, length, inl, inr}
 use Rattle.wa_types.specs.View.{module_of}
-use Rattle.wasm_reader.specs.Answers.{IsAccepted, IsCheckFault, IsFile, IsRefused}
-use Rattle.wasm_reader.specs.Marking.{AreMarks, IsJudged}
-use Rattle.wasm_reader.specs.declared.faults.ReadFault.TheVariants.{Memory}
+use Rattle.wasm_reader.proofs.Accepting.{file_of, module_in, spelled_in, Stands, stands, few_runs, few_bytes, accepted, too_many, accepted_sizes, accepted_strictly}
 use Rattle.wasm_reader.proofs.reading.read.Goals as goal
 
--- src/reading.rt:46:9
 pub unreachable-requires : goal.unreachable-requires
-unreachable-requires c = ?
+unreachable-requires c =
+    let f = file_of c.args.bounds.now c.args.bytes.now (omega (arith, c.if-bytes-file.false, c.file.ensures.file)) c.in_ok-check.ensures in
+    c.in_default.ensures f.0 f.1.spells
 
--- src/reading.rt:49:9
 pub returns-in-Some-clause-refused : goal.returns-in-Some-clause-refused
-returns-in-Some-clause-refused c = ?
+returns-in-Some-clause-refused c =
+    let f = file_of c.args.bounds.now c.args.bytes.now (omega (arith, c.if-bytes-file.false, c.file.ensures.file)) c.in_ok-check.ensures in
+    c.in-Some.ensures c.args.bytes.now f.0 f.1 (c.in-Ok.ensures f.0 f.1.spells)
 
--- src/reading.rt:54:40
 pub unreachable-requires-in-Err-NotSpelled : goal.unreachable-requires-in-Err-NotSpelled
-unreachable-requires-in-Err-NotSpelled c = ?
+unreachable-requires-in-Err-NotSpelled c =
+    let f = file_of c.args.bounds.now c.args.bytes.now (omega (arith, c.if-bytes-file.false, c.file.ensures.file)) c.in_ok-check.ensures in
+    let shallow = c.in_default-judge.ensures c.args.bytes.now f.0 f.1 (c.in-Ok.ensures f.0 f.1.spells) in
+    let m = module_in c.args.bounds.now c.args.bytes.now f.0 shallow in
+    let e = c.in-Err-NotSpelled.ensures m.0 (spelled_in c.args.bounds.now c.args.bytes.now f.0 m.0 shallow m.1) in
+    absurd (let g = sym c.in-Err-NotSpelled.field-0-is ∙ e in cc)
 
--- src/reading.rt:56:26
 pub locals_above-requires : goal.locals_above-requires
-locals_above-requires c = ?
+locals_above-requires c =
+    let s = stands c.args.bounds.now c.args.bytes.now (module_of c.in-Ok-build.module) (omega (arith, c.if-bytes-file.false, c.file.ensures.file)) c.in_ok-check.ensures
+        (λ ss f. c.in_default-judge.ensures c.args.bytes.now ss f (c.in-Ok.ensures ss f.spells)) c.in-Ok-build.ensures in
+    few_runs c.args.bounds.now c.args.bytes.now c.in-Ok-build.module s (few_bytes c.args.bounds.now c.args.bytes.now c.file.ensures.columns (omega (arith, c.if-bytes-file.false, c.file.ensures.file)))
 
--- src/reading.rt:57:9
 pub returns-in-Some-locals_above-clause-refused : goal.returns-in-Some-locals_above-clause-refused
-returns-in-Some-locals_above-clause-refused c = ?
+returns-in-Some-locals_above-clause-refused c =
+    let s = stands c.args.bounds.now c.args.bytes.now (module_of c.in-Ok-build.module) (omega (arith, c.if-bytes-file.false, c.file.ensures.file)) c.in_ok-check.ensures
+        (λ ss f. c.in_default-judge.ensures c.args.bytes.now ss f (c.in-Ok.ensures ss f.spells)) c.in-Ok-build.ensures in
+    (s.sections, s.shallow, too_many c.args.bounds.now c.args.bytes.now (module_of c.in-Ok-build.module) c.locals.result c.in-Some-locals_above.found s c.locals.ensures c.in-Some-locals_above.ensures)
 
--- src/reading.rt:32:1
 pub returns-clause-ok : goal.returns-clause-ok
-returns-clause-ok c = ?
+returns-clause-ok c =
+    let s = stands c.args.bounds.now c.args.bytes.now (module_of c.in-Ok-build.module) (omega (arith, c.if-bytes-file.false, c.file.ensures.file)) c.in_ok-check.ensures
+        (λ ss f. c.in_default-judge.ensures c.args.bytes.now ss f (c.in-Ok.ensures ss f.spells)) c.in-Ok-build.ensures in
+    accepted c.args.bounds.now c.args.bytes.now (module_of c.in-Ok-build.module) c.locals.result s c.locals.ensures c.in_default-locals_above.ensures
 
--- src/reading.rt:32:1
 pub returns-clause-sizes : goal.returns-clause-sizes
-returns-clause-sizes c = ?
+returns-clause-sizes c =
+    let s = stands c.args.bounds.now c.args.bytes.now (module_of c.in-Ok-build.module) (omega (arith, c.if-bytes-file.false, c.file.ensures.file)) c.in_ok-check.ensures
+        (λ ss f. c.in_default-judge.ensures c.args.bytes.now ss f (c.in-Ok.ensures ss f.spells)) c.in-Ok-build.ensures in
+    accepted_sizes c.args.bounds.now c.args.bytes.now (module_of c.in-Ok-build.module) c.file.ensures.columns
+    (accepted c.args.bounds.now c.args.bytes.now (module_of c.in-Ok-build.module) c.locals.result s c.locals.ensures c.in_default-locals_above.ensures)
 
--- src/reading.rt:32:1
 pub returns-clause-source_sizes : goal.returns-clause-source_sizes
-returns-clause-source_sizes c = ?
+returns-clause-source_sizes c = λ e.
+    let s = stands c.args.bounds.now c.args.bytes.now (module_of c.in-Ok-build.module) (omega (arith, c.if-bytes-file.false, c.file.ensures.file)) c.in_ok-check.ensures
+        (λ ss f. c.in_default-judge.ensures c.args.bytes.now ss f (c.in-Ok.ensures ss f.spells)) c.in-Ok-build.ensures in
+    accepted_strictly c.args.bounds.now c.args.bytes.now (module_of c.in-Ok-build.module) e
+    (accepted c.args.bounds.now c.args.bytes.now (module_of c.in-Ok-build.module) c.locals.result s c.locals.ensures c.in_default-locals_above.ensures)
