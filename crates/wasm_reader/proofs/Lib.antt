@@ -9,6 +9,10 @@ pub mod ModulesMade
 pub mod Numbers
 pub mod OpcodesMade
 pub mod Sections
+pub mod ShortCode
+pub mod ShortEntries
+pub mod ShortFile
+pub mod ShortNumbers
 pub mod SpelledCodeSizes
 pub mod SpelledSizes
 pub mod Vectors

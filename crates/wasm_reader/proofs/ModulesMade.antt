@@ -28,7 +28,7 @@ back_clear : {X : Type 0} (xs ys : List X) → xs ++ ys ≡ [] → ys ≡ []
 back_clear [] ys e = e
 back_clear (x ∷ xs) ys e = absurd (cc)
 
-join_clear : {X : Type 0} (xs ys : List X) → xs ≡ [] → ys ≡ [] → xs ++ ys ≡ []
+pub join_clear : {X : Type 0} (xs ys : List X) → xs ≡ [] → ys ≡ [] → xs ++ ys ≡ []
 join_clear xs ys e f = rw (e, f) refl
 
 not_placed : (b : Bool) (k : ℕ) → place_if b k ≡ [] → b ≡ false

@@ -168,7 +168,7 @@ segments_take (segments xs) at a h = section_takes SegmentOf segment_takes xs 11
 segments_take _ at a h = omega arith
 
 -- two lists whose items are each the other's are of one length
-each_length : {X Y : Type 0} (R : X → Y → Type 0) (xs : List X) (ys : List Y) → Each R xs ys → length xs ≡ length ys
+pub each_length : {X Y : Type 0} (R : X → Y → Type 0) (xs : List X) (ys : List Y) → Each R xs ys → length xs ≡ length ys
 each_length R [] [] h = refl
 each_length R [] (y ∷ ys) h = absurd h
 each_length R (x ∷ xs) [] h = absurd h
