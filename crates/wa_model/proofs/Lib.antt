@@ -4,7 +4,12 @@ pub mod Compose
 pub mod Ends
 pub mod Follow
 pub mod FromMoves
+pub mod GrownInstances
+pub mod GrownRuns
+pub mod GrownSteps
+pub mod GrownStretches
 pub mod Moments
+pub mod NamedModules
 pub mod PrunedRuns
 pub mod Runs
 pub mod ShownMoments

@@ -5,6 +5,7 @@ pub mod Configuration
 pub mod Expected
 pub mod Flat
 pub mod FlatView
+pub mod Growth
 pub mod Instantiation
 pub mod Laws
 pub mod Machine
