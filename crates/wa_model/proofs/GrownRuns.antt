@@ -93,7 +93,7 @@ refusal_plain (DeviceFault i) h = refl
 refusal_plain (NoDevice i) h = refl
 refusal_plain _ h = absurd h
 
-end_plain : (e : End) → is_pause_end e ≡ false → unless_pause (ended e) ≡ Some (ended e)
+pub end_plain : (e : End) → is_pause_end e ≡ false → unless_pause (ended e) ≡ Some (ended e)
 end_plain e h = ap (λ b. unless_end b (ended e)) h
 
 -- ---- states

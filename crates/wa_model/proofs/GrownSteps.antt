@@ -145,7 +145,7 @@ module _ (m : Module) (ts : List FuncType) (fs : List Func) (gs : List GlobalDef
   abbrev pub n : Spaces
   n = spaces_of m
 
-  sorts_are : func_sorts p ≡ func_sorts m ++ map (λ (f : Func). f.sort) fs
+  pub sorts_are : func_sorts p ≡ func_sorts m ++ map (λ (f : Func). f.sort) fs
   sorts_are =
       ap (λ ys. imported imported_func m ++ ys) (map-append (λ (f : Func). f.sort) m.funcs fs)
       ∙ sym (append_assoc (imported imported_func m) (map (λ (f : Func). f.sort) m.funcs) (map (λ (f : Func). f.sort) fs))

@@ -11,6 +11,11 @@ pub mod GrownStretches
 pub mod Moments
 pub mod NamedModules
 pub mod PrunedRuns
+pub mod QuietBehave
+pub mod QuietRewritten
+pub mod QuietRuns
 pub mod Runs
+pub mod RuntimeValid
 pub mod ShownMoments
 pub mod ShownRuns
+pub mod WiderTyping

@@ -13,6 +13,7 @@ pub mod Outside
 pub mod Plan
 pub mod Protocol
 pub mod Pruning
+pub mod Quiet
 pub mod Rewrites
 pub mod Step
 pub mod Store
