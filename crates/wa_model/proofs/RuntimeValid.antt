@@ -1,9 +1,9 @@
 -- A valid module is valid with the runtime's parts behind its own.
-use Rattle.std.proofs.Common.{◌≡◌, ℕ, zero, suc, ◌+◌, ◌-◌, ◌<◌, ◌≤◌, ◌++◌, List, [], ◌∷◌, map, Option, Some, None, Bool, true, false, not, ◌&&◌, refl, sym, ap, ◌∙◌, subst, ⊎_elim, length, arith, append_assoc, length-append, All}
-use Rattle.std.specs.Prelude.{slice_get, nat_lt, nat_le, ◌^◌, if◌then◌else◌}
+use Rattle.std.proofs.Common.{◌≡◌, ℕ, zero, suc, ◌+◌, ◌-◌, ◌<◌, ◌≤◌, ◌++◌, List, [], ◌∷◌, map, Option, Some, None, Bool, true, false, not, ◌&&◌, refl, sym, ap, ◌∙◌, subst, ⊎_elim, length, arith, append_assoc, length-append, eqb-true, All, Contains}
+use Rattle.std.specs.Prelude.{slice_get, nat_lt, nat_le, ◌==◌, ◌^◌, if◌then◌else◌}
 use Rattle.std.specs.List.{filter_map, flat_map, list_all, list_any}
 use Rattle.std.specs.Option.{option_map}
-use Rattle.std.proofs.lemmas.Bool.{ltb-true, lt-ltb, and_parts, and_from, or_from, not_from_false, not-true, cases_lt}
+use Rattle.std.proofs.lemmas.Bool.{false_from_ne_true, ltb-true, lt-ltb, and_parts, and_from, or_from, not_from_false, not-true, cases_lt}
 use Rattle.std.proofs.lemmas.List.{append-nil, map-append, length-map}
 use Rattle.std.proofs.lemmas.List.Concat.{flat_map-append}
 use Rattle.std.proofs.lemmas.List.Elements.{All-head, All-tail, filter_map-append}
@@ -62,10 +62,26 @@ differ_joined (x ∷ xs) ys d f h =
     let none : list_any (same_name x) (xs ++ ys) ≡ false = list_any-append (same_name x) xs ys ∙ or_from (list_any (same_name x) xs) (list_any (same_name x) ys) (not-true (list_any (same_name x) xs) b.0) f.0 in
     and_from (not (list_any (same_name x) (xs ++ ys))) (all_differ (xs ++ ys)) (not_from_false (list_any (same_name x) (xs ++ ys)) none) (differ_joined xs ys b.1 f.1 h)
 
-names_each : (es : List Export) → All (λ (e : Export). list_any (same_name e.name) runtime_names ≡ false) es → Each (λ x. list_any (same_name x) runtime_names ≡ false) (map (λ (e : Export). e.name) es)
+same_is : (xs ys : List ℕ) → same_name xs ys ≡ true → xs ≡ ys
+same_is [] [] h = refl
+same_is [] (y ∷ ys) h = cc
+same_is (x ∷ xs) [] h = cc
+same_is (x ∷ xs) (y ∷ ys) h =
+    let b = and_parts (x == y) (same_name xs ys) h in ap (λ z. z ∷ xs) (eqb-true x y b.0) ∙ ap (λ zs. y ∷ zs) (same_is xs ys b.1)
+
+-- a name that isn't in a list is like none of it
+none_same : (x : List ℕ) (ys : List (List ℕ)) → (Contains ys x → ⊥) → list_any (same_name x) ys ≡ false
+none_same x [] h = refl
+none_same x (y ∷ ys) h =
+    or_from (same_name x y) (list_any (same_name x) ys)
+    (false_from_ne_true (same_name x y) (λ e. h (0, omega arith, sym (same_is x y e))))
+    (none_same x ys (λ c. let lt = c.1 in h (suc c.0, omega arith, c.2)))
+
+names_each : (es : List Export) → All (λ (e : Export). Contains runtime_names e.name → ⊥) es → Each (λ x. list_any (same_name x) runtime_names ≡ false) (map (λ (e : Export). e.name) es)
 names_each [] h = tt
 names_each (e ∷ es) h =
-    (All-head (λ (x : Export). list_any (same_name x.name) runtime_names ≡ false) e es h, names_each es (All-tail (λ (x : Export). list_any (same_name x.name) runtime_names ≡ false) e es h))
+    let P : Export → Type 0 = λ (x : Export). Contains runtime_names x.name → ⊥ in
+    (none_same e.name runtime_names (All-head P e es h), names_each es (All-tail P e es h))
 
 constant_more : (gs more : List GlobalType) (t : ValType) (code : Code) → is_constant gs t code ≡ true → is_constant (gs ++ more) t code ≡ true
 constant_more gs more t (plain (basic (const v)) done) h = h

@@ -1,9 +1,8 @@
 -- Modules of which nothing may pause: the module with the runtime's parts behind its own is theirs, rewritten.
-use Rattle.std.specs.Prelude.{◌≡◌, ℕ, false, All}
-use Rattle.std.specs.List.{list_any}
+use Rattle.std.specs.Prelude.{ℕ, All, Contains}
 use Rattle.wa_types.specs.declared.syntax.Export.{Export}
 use Rattle.wa_types.specs.Syntax.{Module}
-use Rattle.wa_types.specs.Validity.{same_name, Valid}
+use Rattle.wa_types.specs.Validity.{Valid}
 use Rattle.wa_types.specs.Pausing.{Settings, MayPause}
 use Rattle.wa_types.specs.Runtime.{runtime_names, with_runtime}
 use Rattle.wa_model.specs.Behaves.{Behaves}
@@ -15,7 +14,7 @@ NeverPauses m s = (x : ℕ) → MayPause m s x → ⊥
 
 -- no export has one of the five names of the runtime
 abbrev pub FreeOfNames : Module → Type 0
-FreeOfNames m = All (λ (e : Export). list_any (same_name e.name) runtime_names ≡ false) m.exports
+FreeOfNames m = All (λ (e : Export). Contains runtime_names e.name → ⊥) m.exports
 
 -- ---- laws
 
