@@ -5,6 +5,7 @@ pub mod SmallBodies
 pub mod SmallLocals
 pub mod SmallModules
 pub mod SmallNames
+pub mod SmallRewritten
 pub mod SmallSeven
 pub mod SmallSizes
 pub mod SmallSteps

@@ -6,7 +6,8 @@ use Rattle.vault_port.specs.Told.{WhereTold, Becomes}
 use Rattle.wa_types.specs.Syntax.{Module}
 use Rattle.wa_types.specs.Encoding.{Enc}
 use Rattle.wa_types.specs.Runtime.{with_runtime}
-use Rattle.asyncify_app.specs.Transforms.{IsWrittenAs, HoldsSmall, IsRewritten, IsTransformed, IsCutShort, IsCount}
+use Rattle.asyncify_app.specs.Transforms.{plain_settings, IsWrittenAs, HoldsSmall, IsRewritten, IsTransformed, IsCutShort, IsCount}
+use Rattle.asyncify_app.proofs.SmallRewritten.{small_modules_are_rewritten}
 
 -- a front one byte past the limit that is within it is whole
 whole_front : (bytes text : List ℕ) → length text ≤ 8388608 → take 8388609 bytes ≡ text → bytes ≡ text
@@ -45,6 +46,7 @@ transformed_at input output bytes text functions a b e w c = record {
   «module» = w.0;
   source = written_as bytes (bytes_of a input) w.0 e w.1;
   written = subst (λ (s : List ℕ). ChangesOnly output s a b) w.3 c;
+  rewritten = small_modules_are_rewritten w.0 plain_settings (w.1).0;
 }
 
 -- after the save

@@ -1,12 +1,14 @@
 -- What `transform` does to the files and what it prints.
-use Rattle.std.specs.Prelude.{◌≡◌, ◌⊎◌, ℕ, List, ◌++◌, length, take, Option, Some}
+use Rattle.std.specs.Prelude.{◌≡◌, ◌⊎◌, ℕ, List, ◌++◌, length, take, Option, Some, false}
 use Rattle.vault_port.specs.Counts.{HasRisen}
 use Rattle.vault_port.specs.Files.{Files, bytes_of, KeepsOthers, ChangesOnly}
 use Rattle.vault_port.specs.Told.{WhereTold}
 use Rattle.vault_port.specs.Taken.{Appends, AppendsLess}
 use Rattle.wa_types.specs.Syntax.{Module}
 use Rattle.wa_types.specs.Encoding.{Enc}
+use Rattle.wa_types.specs.Pausing.{Settings, every, save_all}
 use Rattle.wa_types.specs.Runtime.{with_runtime}
+use Rattle.wa_model.specs.Rewrites.{Rewrites}
 use Rattle.asyncify_app.specs.Lines.{memory_line, not_built_line, read_fault_line, write_fault_line, done_line}
 use Rattle.asyncify_app.specs.Small.{IsSmall}
 
@@ -23,11 +25,17 @@ abbrev pub IsRewritten : List ℕ → ℕ → List ℕ → Type 0
 IsRewritten bytes functions text =
     (m : Module) × IsWrittenAs bytes m × (functions ≡ length m.funcs) × (text ≡ Enc (with_runtime m))
 
--- OUT holds the small module of IN with the runtime's parts, and the other files are as before.
+-- the settings of the command: every import is listed, no indirect call is ignored, and frames save all locals
+abbrev pub plain_settings : Settings
+plain_settings = record { choice = every; ignore_indirect = false; policy = save_all }
+
+-- OUT holds the small module of IN with the runtime's parts, which is that module rewritten: unwound and rewound it behaves
+-- like the original. The other files are as before.
 pub record IsTransformed (input output : List ℕ) (old new : Files) : Type 0 where
   pub «module» : Module
   pub source : IsWrittenAs (bytes_of old input) «module»
   pub written : ChangesOnly output (Enc (with_runtime «module»)) old new
+  pub rewritten : Rewrites «module» plain_settings (with_runtime «module»)
 
 -- OUT is as before, or holds some first bytes of what it would hold; the other files are as before.
 pub record IsCutShort (input output : List ℕ) (old new : Files) : Type 0 where

@@ -5,6 +5,7 @@ pub mod Configuration
 pub mod Expected
 pub mod Flat
 pub mod FlatView
+pub mod Growth
 pub mod Instantiation
 pub mod Laws
 pub mod Machine
@@ -12,6 +13,7 @@ pub mod Outside
 pub mod Plan
 pub mod Protocol
 pub mod Pruning
+pub mod Quiet
 pub mod Rewrites
 pub mod Step
 pub mod Store

@@ -17,12 +17,16 @@
 mod answers;
 mod events;
 mod flat;
+mod growth_laws;
 mod laws;
+mod quiet_laws;
 
 pub use answers::{Answer, AnswerLine, Area, Detach, Poke};
 pub use events::{Call, End, Event, Line};
 pub use flat::{FlatFunc, FlatModule, Operand, Stmt};
+pub use growth_laws::{calls_are_named, reductions_stay};
 pub use laws::{
     moves_add_up, one_next_configuration, pruned_runs_are_the_same, reductions_end_one_way,
     runs_are_determined, runs_are_moves, runs_grow,
 };
+pub use quiet_laws::{quiet_modules_are_rewritten, runtime_is_valid};

@@ -1,0 +1,105 @@
+-- A small module is rewritten by the runtime's parts: nothing in it may pause.
+use Rattle.std.proofs.Common.{◌≡◌, ℕ, zero, suc, ◌-◌, ◌<◌, List, [], ◌∷◌, Some, None, Bool, true, false, refl, sym, ap, ◌∙◌, subst, length, arith, All, Contains}
+use Rattle.std.specs.Prelude.{slice_get, slice_index_or, nat_lt, if◌then◌else◌}
+use Rattle.std.specs.List.{filter_map, list_any}
+use Rattle.std.specs.Str.{bytes_eq}
+use Rattle.std.proofs.lemmas.Bool.{and_parts, or_parts}
+use Rattle.std.proofs.lemmas.List.Elements.{All-head, All-tail, All-nil, All-cons}
+use Rattle.std.proofs.lemmas.Slice.Eq.{bytes_eq-Decides}
+use Rattle.wa_types.specs.declared.syntax.Import.{Import}
+use Rattle.wa_types.specs.declared.syntax.Export.{Export}
+use Rattle.wa_types.specs.Syntax.{Plain, basic, local_get, call, call_indirect, Code, done, plain, nest, branch, Func, Module}
+use Rattle.wa_types.specs.Pruned.{is_last, pruned}
+use Rattle.wa_types.specs.Modules.{imported_func, func_imports, defined_at}
+use Rattle.wa_types.specs.Pausing.{Settings, Listed, listed_import, Callee, direct, indirect, callee, callee_onto, calls_of, calls_in, MayPause, calls_listed, calls_indirectly, calls_pausing}
+use Rattle.wa_types.specs.Runtime.{runtime_names, with_runtime}
+use Rattle.wa_model.specs.Rewrites.{Rewrites}
+use Rattle.wa_model.proofs.QuietRewritten.{quiet_rewritten}
+use Rattle.asyncify_runtime.specs.Reserved.{is_runtime_name}
+use Rattle.wasm_reader.specs.Small.{is_small_plain, is_small_code, IsSmallFunc, IsSmallShaped}
+use Rattle.asyncify_app.specs.Small.{IsSmall}
+
+-- ---- calls
+
+abbrev IsDirect : Callee → Type 0
+IsDirect (direct x) = Unit {0}
+IsDirect (indirect sort) = ⊥
+
+abbrev AllDirect : List Callee → Type 0
+AllDirect [] = Unit {0}
+AllDirect (c ∷ cs) = IsDirect c × AllDirect cs
+
+onto_direct : (p : Plain) (cs : List Callee) → is_small_plain p ≡ true → AllDirect cs → AllDirect (callee_onto (callee p) cs)
+onto_direct (call x) cs h d = (tt, d)
+onto_direct (call_indirect x) cs h d = cc
+onto_direct _ cs h d = d
+
+not_last : (p : Plain) → is_small_plain p ≡ true → is_last p ≡ false
+not_last (basic b) h = refl
+not_last (local_get x) h = refl
+not_last (call x) h = refl
+not_last _ h = cc
+
+pruned_small : (p : Plain) (rest : Code) → is_small_plain p ≡ true → pruned (plain p rest) ≡ plain p (pruned rest)
+unfolding pruned
+pruned_small p rest h = let e = not_last p h in rw e refl
+
+direct_calls : (code : Code) → is_small_code code ≡ true → AllDirect (calls_of (pruned code))
+unfolding is_small_code calls_of pruned
+direct_calls done h = tt
+direct_calls (plain p rest) h =
+    let b = and_parts (is_small_plain p) (is_small_code rest) h in
+    subst (λ c. AllDirect (calls_of c)) (sym (pruned_small p rest b.0)) (onto_direct p (calls_of (pruned rest)) b.0 (direct_calls rest b.1))
+direct_calls (nest s r body rest) h = cc
+direct_calls (branch r a b rest) h = cc
+
+direct_at : (cs : List Callee) (i sort : ℕ) → AllDirect cs → slice_get cs i ≡ Some (indirect sort) → ⊥
+direct_at [] i sort h e = cc
+direct_at (c ∷ cs) zero sort h e = let z : c ≡ indirect sort = cc in let bad : IsDirect (indirect sort) = subst IsDirect z h.0 in bad
+direct_at (c ∷ cs) (suc i) sort h e = direct_at cs i sort h.1 e
+
+-- ---- functions
+
+all_got : {X : Type 0} (P : X → Type 0) (xs : List X) (i : ℕ) (x : X) → All P xs → slice_get xs i ≡ Some x → P x
+all_got P [] i x h e = cc
+all_got P (y ∷ ys) zero x h e = let z : y ≡ x = cc in subst P z (All-head P y ys h)
+all_got P (y ∷ ys) (suc i) x h e = all_got P ys i x (All-tail P y ys h) e
+
+small_body : (m : Module) (x : ℕ) (f : Func) → IsSmallShaped m → defined_at m x ≡ Some f → is_small_code f.body ≡ true
+small_body m x f s = by_import (nat_lt x (func_imports m))
+  where
+    by_import : (b : Bool) → (if b then None else slice_get m.funcs (x - func_imports m)) ≡ Some f → is_small_code f.body ≡ true
+    by_import true e = cc
+    by_import false e = (all_got IsSmallFunc m.funcs (x - func_imports m) f s.funcs e).body
+
+none_listed : (m : Module) (s : Settings) (i : ℕ) → m.imports ≡ [] → slice_get (Listed m s) i ≡ Some true → ⊥
+none_listed m s i e h =
+    let z : slice_get (Listed m s) i ≡ None = ap (λ (is : List Import). slice_get (filter_map (λ (x : Import). listed_import s.choice x (imported_func x.kind)) is) i) e in
+    let bad : None ≡ Some true = sym z ∙ h in cc
+
+pub never_pauses : (m : Module) (s : Settings) → IsSmallShaped m → (x : ℕ) → MayPause m s x → ⊥
+never_pauses m s h x (calls_listed y f place i d e l) = none_listed m s i h.imports l
+never_pauses m s h x (calls_indirectly y f place sort d e i) = direct_at (calls_in f) place sort (direct_calls f.body (small_body m y f h d)) e
+never_pauses m s h x (calls_pausing y f place z d e may) = never_pauses m s h z may
+
+-- ---- names
+
+not_named : (name : List ℕ) (names : List (List ℕ)) → list_any (λ own. bytes_eq name own) names ≡ false → Contains names name → ⊥
+not_named name [] h c = let lt = c.1 in absurd (omega arith)
+not_named name (own ∷ names) h c =
+    let b = or_parts (bytes_eq name own) (list_any (λ x. bytes_eq name x) names) h in
+    at (λ e. let t = sym b.0 ∙ (bytes_eq-Decides name own).1 e in cc) (not_named name names b.1) c.0 c.1 c.2
+  where
+    at : (name ≡ own → ⊥) → (Contains names name → ⊥) → (k : ℕ) → k < length (own ∷ names) → slice_index_or (own ∷ names) k name ≡ name → ⊥
+    at differs rest zero lt e = differs (sym e)
+    at differs rest (suc k) lt e = rest (k, omega arith, e)
+
+free_of_names : (es : List Export) → list_any (λ (e : Export). is_runtime_name e.name) es ≡ false → All (λ (e : Export). Contains runtime_names e.name → ⊥) es
+free_of_names [] h = All-nil (λ (e : Export). Contains runtime_names e.name → ⊥)
+free_of_names (e ∷ es) h =
+    let b = or_parts (is_runtime_name e.name) (list_any (λ (x : Export). is_runtime_name x.name) es) h in
+    All-cons (λ (x : Export). Contains runtime_names x.name → ⊥) e es (not_named e.name runtime_names b.0) (free_of_names es b.1)
+
+-- A small module with the runtime's parts is that module, rewritten, under any settings.
+pub small_modules_are_rewritten : (m : Module) (s : Settings) → IsSmall m → Rewrites m s (with_runtime m)
+small_modules_are_rewritten m s h = quiet_rewritten m s h.valid (free_of_names m.exports h.names) (never_pauses m s h.shaped)

@@ -1,0 +1,13 @@
+use Rattle.wa_model.proofs.NamedModules.{valid_named}
+use Rattle.wa_model.proofs.GrownSteps.{step_stays}
+use Rattle.wa_model.proofs.GrownStretches.{leads_stay, ends_stay}
+use Rattle.wa_model.proofs.growth_laws.reductions_stay.Goals as goal
+
+pub returns-clause-steps : goal.returns-clause-steps
+returns-clause-steps c = λ m ts fs gs es more d v h. step_stays m ts fs gs es (valid_named m v) more d h
+
+pub returns-clause-stretches : goal.returns-clause-stretches
+returns-clause-stretches c = λ m ts fs gs es more d d' cost v h l. leads_stay m ts fs gs es (valid_named m v) more d d' cost _ h l
+
+pub returns-clause-ends : goal.returns-clause-ends
+returns-clause-ends c = λ m ts fs gs es more d left used end v h e. ends_stay m ts fs gs es (valid_named m v) more d left used end h e

@@ -1,0 +1,13 @@
+ghost use Rattle.wa_model.specs.Quiet.{QuietAreRewritten, QuietBehave, RuntimeIsValid};
+
+/// A valid module without a reserved name is valid with the runtime's parts behind its own.
+pub fn runtime_is_valid()
+    ensures { RuntimeIsValid }
+{}
+
+/// A module of which nothing may pause behaves as before with the runtime's parts behind its own, and is rewritten
+/// by them.
+pub fn quiet_modules_are_rewritten()
+    ensures behave { QuietBehave }
+    ensures rewritten { QuietAreRewritten }
+{}
