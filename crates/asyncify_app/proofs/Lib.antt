@@ -1,14 +1,5 @@
-pub mod Bounded
 pub mod Grown
 pub mod Printed
-pub mod SmallBodies
-pub mod SmallLocals
-pub mod SmallModules
-pub mod SmallNames
 pub mod SmallRewritten
-pub mod SmallSeven
-pub mod SmallSizes
-pub mod SmallSteps
-pub mod SmallWhole
 pub mod Transforming
 pub mod Written

@@ -1,10 +1,7 @@
-pub mod Bounds
 pub mod Command
-pub mod Heights
 pub mod Lines
-pub mod Locals
-pub mod Seven
+pub mod Refusals
 pub mod Small
-pub mod SmallParts
+pub mod Sources
 pub mod Transforms
 pub mod Words

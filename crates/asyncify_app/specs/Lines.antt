@@ -1,6 +1,9 @@
 -- The lines that the program prints.
-use Rattle.std.specs.Prelude.{ℕ, ◌+◌, ◌/◌, ◌%◌, nat_le, nat_lt, ◌==◌, not, ◌&&◌, List, [], ◌∷◌, ◌++◌, codes, Bool, if◌then◌else◌}
+use Rattle.std.specs.Prelude.{ℕ, ◌+◌, ◌/◌, ◌%◌, nat_le, nat_lt, ◌==◌, not, ◌&&◌, List, [], ◌∷◌, ◌++◌, codes, Option, Some, None, Bool, if◌then◌else◌}
 use Rattle.std.specs.Fmt.{decimal}
+use Rattle.wa_types.specs.declared.bounds.LimitKind.{LimitKind}
+use Rattle.wa_types.specs.declared.bounds.LimitKind.TheVariants.{File, Functions, Parameters, Body, Locals, Output, Script, Programs}
+use Rattle.asyncify_app.specs.Sources.{Cause, malformed, float, deep, limit, reserved, invalid, not_small}
 
 -- a line feed
 abbrev pub line_end : List ℕ
@@ -43,3 +46,29 @@ write_fault_line name = codes "write fault " ++ printed_name name ++ line_end
 unfoldable pub done_line : (functions instrumented bytes : ℕ) → List ℕ
 done_line functions instrumented bytes =
     codes "ok functions " ++ decimal functions ++ codes " instrumented " ++ decimal instrumented ++ codes " bytes " ++ decimal bytes ++ line_end
+
+-- the word of a limit
+abbrev pub limit_word : LimitKind → List ℕ
+limit_word File = codes "file"
+limit_word Functions = codes "functions"
+limit_word Parameters = codes "parameters"
+limit_word Body = codes "body"
+limit_word Locals = codes "locals"
+limit_word Output = codes "output"
+limit_word Script = codes "script"
+limit_word Programs = codes "programs"
+
+-- where a fault of validity is
+abbrev pub fault_place : Option ℕ → ℕ → List ℕ
+fault_place None at = codes "module"
+fault_place (Some func) at = codes "function " ++ decimal func ++ codes " at " ++ decimal at
+
+-- what is printed of each cause
+unfoldable pub line_of : Cause → List ℕ
+line_of (malformed at) = codes "malformed at " ++ decimal at ++ line_end
+line_of (float at) = codes "float at " ++ decimal at ++ line_end
+line_of (deep at) = codes "limit nesting at " ++ decimal at ++ line_end
+line_of (limit what found) = codes "limit " ++ limit_word what ++ codes " " ++ decimal found ++ line_end
+line_of (reserved name) = codes "reserved " ++ printed_name name ++ line_end
+line_of (invalid func rule at) = codes "invalid rule " ++ decimal rule ++ codes " " ++ fault_place func at ++ line_end
+line_of not_small = not_built_line

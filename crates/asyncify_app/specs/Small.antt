@@ -1,22 +1,51 @@
--- The modules that are accepted for now.
-use Rattle.std.specs.Prelude.{◌≡◌, ◌≤◌, length, false, All}
-use Rattle.std.specs.List.{list_any}
+-- The modules that are rewritten for now: those in which nothing may pause, whatever is listed.
+use Rattle.std.specs.Prelude.{◌≡◌, [], None, Bool, true, false, ◌&&◌, All}
+use Rattle.std.specs.List.{list_all}
+use Rattle.wa_types.specs.declared.values.ValType.{ValType}
+use Rattle.wa_types.specs.declared.values.ValType.TheVariants.{I32}
+use Rattle.wa_types.specs.declared.values.Value.TheVariants.{I32 as value_32}
+use Rattle.wa_types.specs.declared.operators.NumOp.TheVariants.{I32Add}
+use Rattle.wa_types.specs.declared.syntax.Space.{Space}
+use Rattle.wa_types.specs.declared.syntax.Space.TheVariants.{Func as a_func}
 use Rattle.wa_types.specs.declared.syntax.Export.{Export}
-use Rattle.wa_types.specs.Syntax.{FuncType, Func, Module}
-use Rattle.wa_types.specs.Encoding.{Enc, body_bytes}
-use Rattle.wa_types.specs.Modules.{locals_of}
-use Rattle.wa_types.specs.Validity.{Valid}
-use Rattle.asyncify_runtime.specs.Reserved.{is_runtime_name}
-use Rattle.wasm_reader.specs.Small.{IsSmallShaped}
+use Rattle.wa_types.specs.Syntax.{Plain, basic, const, num, local_get, call, Code, done, plain, FuncType, Func, Module}
 
--- A small module: of small shape, valid, within the limits of a source module, with no export under one of
--- the five names of the runtime.
+abbrev pub is_i32 : ValType → Bool
+is_i32 I32 = true
+is_i32 _ = false
+
+-- a function type of i32 alone
+abbrev pub is_small_type : FuncType → Bool
+is_small_type t = list_all is_i32 t.params && list_all is_i32 t.results
+
+-- i32.const, local.get, i32.add or call
+abbrev pub is_small_plain : Plain → Bool
+is_small_plain (basic (const (value_32 n))) = true
+is_small_plain (basic (num I32Add)) = true
+is_small_plain (local_get x) = true
+is_small_plain (call x) = true
+is_small_plain _ = false
+
+-- a list of such instructions
+unfoldable pub is_small_code : Code → Bool
+is_small_code done = true
+is_small_code (plain p rest) = is_small_plain p && is_small_code rest
+is_small_code _ = false
+
+abbrev pub is_func_space : Space → Bool
+is_func_space a_func = true
+is_func_space _ = false
+
+-- A module of function types of i32, functions of such bodies and exports of functions, alone.
 pub record IsSmall (m : Module) : Type 0 where
-  pub shaped : IsSmallShaped m
-  pub valid : Valid m
-  pub names : list_any (λ (e : Export). is_runtime_name e.name) m.exports ≡ false
-  pub file : length (Enc m) ≤ 8388608
-  pub functions : length m.funcs ≤ 100000
-  pub parameters : All (λ (t : FuncType). length t.params ≤ 1000) m.types
-  pub bodies : All (λ (f : Func). length (body_bytes f) ≤ 1048576) m.funcs
-  pub locals : All (λ (f : Func). length (locals_of m f) ≤ 50000) m.funcs
+  pub types : list_all is_small_type m.types ≡ true
+  pub imports : m.imports ≡ []
+  pub funcs : All (λ (f : Func). is_small_code f.body ≡ true) m.funcs
+  pub tables : m.tables ≡ []
+  pub memories : m.memories ≡ []
+  pub globals : m.globals ≡ []
+  pub exports : list_all (λ (e : Export). is_func_space e.space) m.exports ≡ true
+  pub start : m.start ≡ None
+  pub elems : m.elems ≡ []
+  pub segments : m.segments ≡ []
+  pub customs : m.customs ≡ []

@@ -9,54 +9,58 @@ use Rattle.wa_types.specs.Encoding.{Enc}
 use Rattle.wa_types.specs.Pausing.{Settings, every, save_all}
 use Rattle.wa_types.specs.Runtime.{with_runtime}
 use Rattle.wa_model.specs.Rewrites.{Rewrites}
-use Rattle.asyncify_app.specs.Lines.{memory_line, not_built_line, read_fault_line, write_fault_line, done_line}
-use Rattle.asyncify_app.specs.Small.{IsSmall}
+use Rattle.asyncify_app.specs.Lines.{memory_line, read_fault_line, write_fault_line, done_line, line_of}
+use Rattle.asyncify_app.specs.Sources.{IsSource, Cause, IsRefusedFor, status_of}
 
--- the bytes are those that this small module is written as
-abbrev pub IsWrittenAs : List ℕ → Module → Type 0
-IsWrittenAs bytes m = IsSmall m × (bytes ≡ Enc m)
-
--- the bytes are those of some small module
-abbrev pub HoldsSmall : List ℕ → Type 0
-HoldsSmall bytes = (m : Module) × IsWrittenAs bytes m
-
--- the bytes are a small module of so many functions, and the text is that module with the runtime's parts
+-- the bytes are an accepted source of so many functions, and the text is its module with the runtime's parts
 abbrev pub IsRewritten : List ℕ → ℕ → List ℕ → Type 0
 IsRewritten bytes functions text =
-    (m : Module) × IsWrittenAs bytes m × (functions ≡ length m.funcs) × (text ≡ Enc (with_runtime m))
+    (m : Module) × IsSource bytes m × (functions ≡ length m.funcs) × (text ≡ Enc (with_runtime m))
 
 -- the settings of the command: every import is listed, no indirect call is ignored, and frames save all locals
 abbrev pub plain_settings : Settings
 plain_settings = record { choice = every; ignore_indirect = false; policy = save_all }
 
--- OUT holds the small module of IN with the runtime's parts, which is that module rewritten: unwound and rewound it behaves
+-- OUT holds the module of IN with the runtime's parts, which is that module rewritten: unwound and rewound it behaves
 -- like the original. The other files are as before.
 pub record IsTransformed (input output : List ℕ) (old new : Files) : Type 0 where
   pub «module» : Module
-  pub source : IsWrittenAs (bytes_of old input) «module»
+  pub source : IsSource (bytes_of old input) «module»
   pub written : ChangesOnly output (Enc (with_runtime «module»)) old new
   pub rewritten : Rewrites «module» plain_settings (with_runtime «module»)
 
 -- OUT is as before, or holds some first bytes of what it would hold; the other files are as before.
 pub record IsCutShort (input output : List ℕ) (old new : Files) : Type 0 where
   pub left : (new output ≡ old output)
-      ⊎ ((m : Module) × IsWrittenAs (bytes_of old input) m × (n : ℕ) × (new output ≡ Some (take n (Enc (with_runtime m)))))
+      ⊎ ((m : Module) × IsSource (bytes_of old input) m × (n : ℕ) × (new output ≡ Some (take n (Enc (with_runtime m)))))
   pub others : KeepsOthers output old new
 
--- the functions of the small module that these bytes spell, and the bytes of what is written
+-- the functions of the module that these bytes spell, and the bytes of what is written
 abbrev pub IsCount : List ℕ → ℕ → ℕ → Type 0
 IsCount source functions bytes =
-    (m : Module) × IsWrittenAs source m × (functions ≡ length m.funcs) × (bytes ≡ length (Enc (with_runtime m)))
+    (m : Module) × IsSource source m × (functions ≡ length m.funcs) × (bytes ≡ length (Enc (with_runtime m)))
 
--- the line of a module that was written; where the files are told, that of the small module in IN
+-- the line of a module that was written; where the files are told, that of the module in IN
 abbrev pub IsDoneLine : Option Files → List ℕ → List ℕ → Type 0
 IsDoneLine files input line =
     (functions : ℕ) × (bytes : ℕ) × (line ≡ done_line functions 0 bytes) × WhereTold files (λ all. IsCount (bytes_of all input) functions bytes)
 
+-- there is an accepted source in IN
+abbrev pub HoldsSource : List ℕ → Type 0
+HoldsSource bytes = (m : Module) × IsSource bytes m
+
+-- a cause of this status; where the files are told, IN is refused for it
+abbrev pub HasCause : Option Files → List ℕ → ℕ → Type 0
+HasCause files input status = (cause : Cause) × (status ≡ status_of cause) × WhereTold files (λ all. IsRefusedFor (bytes_of all input) cause)
+
+-- the line of a refusal of IN
+abbrev pub IsRefusalLine : Option Files → List ℕ → List ℕ → Type 0
+IsRefusalLine files input line = (cause : Cause) × (line ≡ line_of cause) × WhereTold files (λ all. IsRefusedFor (bytes_of all input) cause)
+
 -- the line of a refusal, or of a module that was written
 abbrev pub IsLine : Option Files → List ℕ → List ℕ → List ℕ → Type 0
 IsLine files input output line =
-    (line ≡ not_built_line) ⊎ (line ≡ read_fault_line input) ⊎ (line ≡ write_fault_line output) ⊎ IsDoneLine files input line
+    IsRefusalLine files input line ⊎ (line ≡ read_fault_line input) ⊎ (line ≡ write_fault_line output) ⊎ IsDoneLine files input line
 
 -- the line was printed, or less of it where the sink has failed
 abbrev pub Prints : List ℕ → ℕ → ℕ → List ℕ → List ℕ → Type 0
@@ -81,3 +85,8 @@ PrintsLess files input old new = (line : List ℕ) × IsDoneLine files input lin
 -- some first bytes of a line of the command, and then some of the line on memory, were printed
 abbrev pub RunsOutOfMemory : Option Files → List ℕ → List ℕ → List ℕ → List ℕ → Type 0
 RunsOutOfMemory files input output old new = (line : List ℕ) × IsLine files input output line × PrintsMemory line old new
+
+-- the line of a cause of this status was printed, for which IN is refused; or less of it where the sink has failed
+abbrev pub PrintsRefusal : Option Files → List ℕ → ℕ → ℕ → ℕ → List ℕ → List ℕ → Type 0
+PrintsRefusal files input status faults faults' old new =
+    (cause : Cause) × (status ≡ status_of cause) × WhereTold files (λ all. IsRefusedFor (bytes_of all input) cause) × Prints (line_of cause) faults faults' old new

@@ -1,135 +1,115 @@
-ghost use Rattle.std.specs.Prelude.{◌≡◌, ◌≤◌, ◌^◌, ◌<◌, ◌↔◌, ◌&&◌, length, map, nat_lt, true, IfOk, IsTrue, All};
+ghost use Rattle.std.specs.Prelude.{◌≡◌, ◌↔◌, IsTrue, All, [], None, true};
 ghost use Rattle.std.specs.List.{list_all};
-ghost use Rattle.wa_types.specs.declared.syntax.FuncType.{FuncType};
-ghost use Rattle.wa_types.specs.declared.syntax.Func.{Func};
-ghost use Rattle.wa_types.specs.declared.syntax.Export.{Export};
-ghost use Rattle.wa_types.specs.View.{module_of, func_of, func_type_of};
-ghost use Rattle.wa_types.specs.Encoding.{Enc, body_bytes};
-ghost use Rattle.wa_types.specs.Validity.{types_there, one_result};
-ghost use Rattle.wasm_reader.specs.Small.{IsSmallShaped, IsSmallFunc};
-ghost use Rattle.asyncify_app.specs.Small.{IsSmall};
-ghost use Rattle.asyncify_app.specs.SmallParts.{fits_type, IsFrameSmall, IsFuncSmall};
+ghost use Rattle.wa_types.specs.declared.syntax.Func.{Func as FuncValue};
+ghost use Rattle.wa_types.specs.Syntax.{done};
+ghost use Rattle.wa_types.specs.View.{code, func_type_of, in_front, module_of};
+ghost use Rattle.asyncify_app.specs.Small.{IsSmall, is_func_space, is_i32, is_small_code, is_small_type};
+ghost use Rattle.asyncify_app.proofs.SmallModules.{HasFunctionsAlone};
 
-mod bodies;
-mod locals;
-mod names;
+use wa_types::{Export, Func, FuncType, Instr, Module, NumOp, Space, ValType, Value};
 
-use asyncify_runtime::reserved;
-use bodies::is_typed;
-pub(crate) use locals::are_few;
-use locals::stretches;
-use names::names_differ;
-use std::alloc::{AllocError, Global};
-use wa_types::{Func, FuncType, Module};
-use wasm_encode::body_len;
-
-const MOST_FUNCTIONS: usize = 100_000;
-
-const MOST_PARAMETERS: usize = 1_000;
-
-const MOST_BODY_BYTES: u64 = 1_048_576;
-
-/// Whether the module, of small shape, is a small module: valid, within the limits of a source module, under no
-/// reserved name. Takes time near linear in the module, and memory for the names of its exports and for the
-/// locals of one function.
-pub fn is_small(alloc: Global, module: &Module) -> Result<bool, AllocError>
-    requires shaped { IsSmallShaped (module_of «module».now) }
-    requires file { length (Enc (module_of «module».now)) ≤ 8388608 }
-    ensures { IfOk result (λ yes. IsTrue yes ↔ IsSmall (module_of «module».now)) }
+/// Whether the module is small: function types of i32, bodies of constants, local reads, additions and calls, exports
+/// of functions, and nothing else. Nothing in it may pause. Takes time linear in the module, and no memory.
+#[tactic(auto, using(crate::proofs::SmallModules::judging))]
+pub fn is_small(module: &Module) -> bool
+    ensures { IsTrue result ↔ IsSmall (module_of «module».now) }
 {
-    if !is_frame_small(module) {
-        return Ok(false);
+    if !has_functions_alone(module) {
+        return false;
     }
-    if !names_differ(alloc, &module.exports)? {
-        return Ok(false);
+    if !are_types_small(&module.types) {
+        return false;
     }
-    are_funcs_small(alloc, module)
+    if !are_exports_small(&module.exports) {
+        return false;
+    }
+    are_funcs_small(&module.funcs)
 }
 
-// Whether all but the bodies, and that the exports' names differ, is as in a small module.
-fn is_frame_small(module: &Module) -> bool
-    requires shaped { IsSmallShaped (module_of «module».now) }
-    requires file { length (Enc (module_of «module».now)) ≤ 8388608 }
-    ensures { IsTrue result ↔ IsFrameSmall (module_of «module».now) }
+// Whether the module has only types, functions and exports.
+fn has_functions_alone(module: &Module) -> bool
+    ensures { IsTrue result ↔ HasFunctionsAlone «module».now }
 {
-    if module.funcs.len() > MOST_FUNCTIONS {
+    if !module.imports.is_empty() || !module.tables.is_empty() || !module.memories.is_empty() {
         return false;
     }
-    if !types_fit(&module.types) {
+    if !module.globals.is_empty() || module.start.is_some() || !module.elems.is_empty() {
         return false;
     }
-    if !sorts_exist(module) {
-        return false;
-    }
-    if !exports_exist(module) {
-        return false;
-    }
-    reserved(module).is_none()
+    module.segments.is_empty() && module.customs.is_empty()
 }
 
-// Whether each type has few parameters, and one result at most (standard, section 3.2.2).
-fn types_fit(types: &[FuncType]) -> bool
-    ensures { result ≡ list_all (λ (t : FuncType). fits_type (func_type_of t)) types.now }
+fn are_types_small(types: &[FuncType]) -> bool
+    ensures { result ≡ list_all (λ t. is_small_type (func_type_of t)) types.now }
 {
-    types.iter().all(|ty| ty.params.len() <= MOST_PARAMETERS && ty.results.len() <= 1)
-}
-
-// Whether the type of each function is there (standard, section 3.4.1).
-fn sorts_exist(module: &Module) -> bool
-    ensures { result ≡ list_all (λ (f : Func). nat_lt f.sort (length «module».now.types.items)) «module».now.funcs.items }
-{
-    module
-        .funcs
+    types
         .iter()
-        .all(|func| (func.sort as usize) < module.types.len())
+        .all(|ty| are_i32(&ty.params) && are_i32(&ty.results))
 }
 
-// Whether each exported function is there (standard, section 3.4.8).
-fn exports_exist(module: &Module) -> bool
-    ensures { result ≡ list_all (λ (e : Export). nat_lt e.index (length «module».now.funcs.items)) «module».now.exports.items }
+fn are_i32(types: &[ValType]) -> bool
+    ensures { result ≡ list_all is_i32 types.now }
 {
-    module
-        .exports
-        .iter()
-        .all(|export| (export.index as usize) < module.funcs.len())
+    types.iter().all(|ty| is_i32(*ty))
 }
 
-// Whether each function is within the limits, with a body of its type.
-fn are_funcs_small(alloc: Global, module: &Module) -> Result<bool, AllocError>
-    requires shaped { IsSmallShaped (module_of «module».now) }
-    requires file { length (Enc (module_of «module».now)) ≤ 8388608 }
-    requires single { one_result (module_of «module».now) ≡ true }
-    requires sorts { types_there (module_of «module».now) ≡ true }
-    ensures { IfOk result (λ yes. IsTrue yes ↔ All (λ (f : Func). IsFuncSmall (module_of «module».now) (func_of f)) «module».now.funcs.items) }
+fn is_i32(ty: ValType) -> bool
+    ensures { result ≡ is_i32 ty }
 {
-    for func in &module.funcs {
-        if !is_func_small(alloc, module, func)? {
-            return Ok(false);
+    match ty {
+        ValType::I32 => true,
+        ValType::I64 => false,
+    }
+}
+
+fn are_exports_small(exports: &[Export]) -> bool
+    ensures { result ≡ list_all (λ e. is_func_space e.space) exports.now }
+{
+    exports.iter().all(|export| is_func_space(export.space))
+}
+
+fn is_func_space(space: Space) -> bool
+    ensures { result ≡ is_func_space space }
+{
+    match space {
+        Space::Func => true,
+        Space::Table | Space::Memory | Space::Global => false,
+    }
+}
+
+fn are_funcs_small(funcs: &[Func]) -> bool
+    ensures { IsTrue result ↔ All (λ (f : FuncValue). is_small_code (code f.body.items) ≡ true) funcs.now }
+{
+    for func in funcs {
+        if !is_small_body(&func.body) {
+            return false;
         }
     }
-    Ok(true)
+    true
 }
 
-// Whether the function is within the limits, with a body of its type.
-fn is_func_small(alloc: Global, module: &Module, func: &Func) -> Result<bool, AllocError>
-    requires shaped { IsSmallShaped (module_of «module».now) }
-    requires single { one_result (module_of «module».now) ≡ true }
-    requires sorts { types_there (module_of «module».now) ≡ true }
-    requires sort { func.now.sort < length «module».now.types.items }
-    requires small { IsSmallFunc (func_of func.now) }
-    requires bytes { length (body_bytes (func_of func.now)) < 2 ^ 64 }
-    ensures { IfOk result (λ yes. IsTrue yes ↔ IsFuncSmall (module_of «module».now) (func_of func.now)) }
+#[tactic(auto, using(crate::proofs::SmallModules::walking))]
+fn is_small_body(body: &[Instr]) -> bool
+    ensures { result ≡ is_small_code (code body.now) }
 {
-    let params = module.types[func.sort as usize].params.len();
-    if !are_few(params, &func.locals) {
-        return Ok(false);
+    for instr in body {
+        if !is_small_instr(instr) {
+            return false;
+        }
     }
-    if body_len(func) > MOST_BODY_BYTES {
-        return Ok(false);
-    }
-    let locals = stretches(alloc, params, &func.locals)?;
-    Ok(is_typed(module, func, &locals))
+    true
 }
 
-#[cfg(test)]
-mod tests;
+// Whether small code may begin with this instruction.
+#[tactic(auto, using(crate::proofs::SmallModules::instructions))]
+fn is_small_instr(instr: &Instr) -> bool
+    ensures { result ≡ is_small_code (in_front instr.now done) }
+{
+    match instr {
+        Instr::Const(Value::I32(_)) => true,
+        Instr::Num(NumOp::I32Add) => true,
+        Instr::LocalGet(_) => true,
+        Instr::Call(_) => true,
+        _ => false,
+    }
+}

@@ -1,28 +1,33 @@
 // From the bytes of a module to those of the written one.
-ghost use Rattle.std.specs.Prelude.{◌≡◌, ◌≤◌, length, IfOk, IsErrOf, IsTrue, OnErr, Err, ◌<◌, ◌^◌, ◌↔◌};
+ghost use Rattle.std.specs.Prelude.{◌≡◌, ◌<◌, ◌^◌, length, IfOk, Some, slice_get};
+ghost use Rattle.std.specs.Result.{IfErr};
+ghost use Rattle.std.specs.String.{string_bytes};
 ghost use Rattle.wa_types.specs.View.{module_of};
-ghost use Rattle.wa_types.specs.Encoding.{Enc};
-ghost use Rattle.wasm_encode.specs.Modules.{FewLocals};
+ghost use Rattle.wasm_reader.specs.Answers.{IsAccepted};
+ghost use Rattle.asyncify_runtime.specs.Reserved.{reserved_at};
 ghost use Rattle.asyncify_app.specs.declared.source.SourceFault.TheVariants.{Memory};
-ghost use Rattle.asyncify_app.specs.Transforms.{HoldsSmall, IsRewritten, IsWrittenAs};
+ghost use Rattle.asyncify_app.specs.Refusals.{IsFaultOf, IsOfRead};
+ghost use Rattle.asyncify_app.specs.Sources.{IsSource, reserved_name};
+ghost use Rattle.asyncify_app.specs.Transforms.{IsRewritten};
 
-use crate::bounds::is_bounded;
+use crate::refusals::Refusal;
 use crate::small::is_small;
-use asyncify_runtime::{RuntimeFault, add_runtime};
+use asyncify_runtime::{ReservedAt, RuntimeFault, add_runtime, reserved};
 use bytes::BytesMut;
 use std::alloc::{AllocError, Global};
 use thiserror::Error;
-use wa_types::Module;
+use wa_types::{Bounds, Module};
 use wasm_encode::{EncodeFault, encode};
-use wasm_reader::{SmallFault, read_small};
+use wasm_reader::{ReadFault, read};
+use wasm_validate::{Valid, ValidateFault, validate};
 
 /// Why no module was written.
-#[derive(Clone, Copy, Debug, PartialEq, Eq, Error)]
+#[derive(Debug, Drop, Error)]
 pub enum SourceFault {
     #[error("out of memory")]
     Memory,
-    #[error("not yet built")]
-    NotBuilt,
+    #[error("the module is refused")]
+    Refused(Refusal),
 }
 
 impl From<AllocError> for SourceFault {
@@ -43,15 +48,12 @@ pub struct Written {
     pub text: BytesMut,
 }
 
-/// The most bytes of a source file.
-const MOST_BYTES: usize = 8_388_608;
-
-/// The small module that these bytes are, with the runtime's parts. `NotBuilt`: exactly where they are none.
+/// The module that these bytes spell, with the runtime's parts, where it is an accepted source.
 pub fn rewrite(alloc: Global, bytes: &[u8]) -> Result<Written, SourceFault>
     ensures done { IfOk result (λ r. IsRewritten bytes.now r.functions r.text.items) }
-    ensures refused { IsErrOf result SourceFault.NotBuilt → HoldsSmall bytes.now → ⊥ }
+    ensures refused { IfErr result (λ fault. IsFaultOf bytes.now fault) }
 {
-    let module = small_module(alloc, bytes)?;
+    let module = source(alloc, bytes)?;
     let functions = module.funcs.len();
     let with = match add_runtime(alloc, module) {
         Ok(with) => with,
@@ -65,42 +67,58 @@ pub fn rewrite(alloc: Global, bytes: &[u8]) -> Result<Written, SourceFault>
     }
 }
 
-// The small module that these bytes are written as. `NotBuilt`: exactly where they are none.
-fn small_module(alloc: Global, bytes: &[u8]) -> Result<Module, SourceFault>
-    ensures small { IfOk result (λ r. IsWrittenAs bytes.now (module_of r)) }
-    ensures refused { IsErrOf result SourceFault.NotBuilt → HoldsSmall bytes.now → ⊥ }
+// The module that these bytes spell, where it is an accepted source.
+fn source(alloc: Global, bytes: &[u8]) -> Result<Module, SourceFault>
+    ensures source { IfOk result (λ r. IsSource bytes.now (module_of r)) }
+    ensures refused { IfErr result (λ fault. IsFaultOf bytes.now fault) }
 {
-    if bytes.len() > MOST_BYTES {
-        return Err(SourceFault::NotBuilt);
-    }
-    let module = match read_small(alloc, bytes) {
+    let module = match read(alloc, bytes, &Bounds::source()) {
         Ok(module) => module,
-        Err(SmallFault::Memory) => return Err(SourceFault::Memory),
-        Err(SmallFault::NotSmall) => return Err(SourceFault::NotBuilt),
+        Err(fault) => return Err(read_fault(fault)),
     };
-    if !is_bounded(&module) {
-        return Err(SourceFault::NotBuilt);
+    if let Some(at) = reserved(&module) {
+        let name = name_at(alloc, &module, at)?;
+        return Err(SourceFault::Refused(Refusal::Reserved { name }));
     }
-    if !is_written_as(alloc, &module, bytes)? {
-        return Err(SourceFault::NotBuilt);
+    let valid = match validate(alloc, module) {
+        Ok(valid) => valid,
+        Err(ValidateFault::Memory) => return Err(SourceFault::Memory),
+        Err(ValidateFault::Invalid { func, rule, at }) => {
+            return Err(SourceFault::Refused(Refusal::Invalid { func, rule, at }));
+        }
+    };
+    if !is_small(valid.module()) {
+        return Err(SourceFault::Refused(Refusal::NotBuilt));
     }
-    if !is_small(alloc, &module)? {
-        return Err(SourceFault::NotBuilt);
-    }
-    Ok(module)
+    Ok(valid.into_module())
 }
 
-// Whether the module is written as these bytes.
-fn is_written_as(alloc: Global, module: &Module, bytes: &[u8]) -> Result<bool, SourceFault>
-    requires locals { FewLocals (module_of «module».now) }
-    requires fits { length (Enc (module_of «module».now)) < 2 ^ 64 }
-    requires few { length bytes.now ≤ 8388608 }
-    ensures same { IfOk result (λ yes. IsTrue yes ↔ (bytes.now ≡ Enc (module_of «module».now))) }
-    ensures memory { OnErr result (result ≡ Err SourceFault.Memory) }
+// Why a source that isn't read is refused.
+fn read_fault(fault: ReadFault) -> SourceFault
+    ensures { IsOfRead fault result }
 {
-    match encode(alloc, module) {
-        Ok(text) => Ok(text.as_slice() == bytes),
-        Err(EncodeFault::Memory) => Err(SourceFault::Memory),
-        Err(EncodeFault::TooLong { .. }) => Ok(false),
+    match fault {
+        ReadFault::Memory => SourceFault::Memory,
+        ReadFault::Malformed { at } => SourceFault::Refused(Refusal::Malformed { at }),
+        ReadFault::Float { at } => SourceFault::Refused(Refusal::Float { at }),
+        ReadFault::Deep { at } => SourceFault::Refused(Refusal::Deep { at }),
+        ReadFault::Limit { what, found } => SourceFault::Refused(Refusal::Limit { what, found }),
+    }
+}
+
+// The name at which a module is reserved: an import's joined name, or an export's.
+fn name_at(alloc: Global, module: &Module, at: ReservedAt) -> Result<String, AllocError>
+    requires { reserved_at (module_of «module».now) ≡ Some at }
+    ensures { IfOk result (λ name. string_bytes name ≡ reserved_name (module_of «module».now) at) }
+{
+    match at {
+        ReservedAt::Import(index) => {
+            let import = &module.imports[index as usize];
+            let (first, second) = (import.module.as_str(), import.base.as_str());
+            format!(in alloc; "{first}.{second}")
+        }
+        ReservedAt::Export(index) => {
+            String::from_str(alloc, module.exports[index as usize].name.as_str())
+        }
     }
 }

@@ -1,0 +1,77 @@
+-- Which source modules are accepted, and why others are refused.
+use Rattle.std.specs.Prelude.{◌≡◌, ℕ, List, [], ◌∷◌, ◌++◌, slice_get, Option, Some, None}
+use Rattle.wa_types.specs.declared.bounds.LimitKind.{LimitKind}
+use Rattle.wa_types.specs.declared.syntax.Import.{Import}
+use Rattle.wa_types.specs.declared.syntax.Export.{Export}
+use Rattle.wa_types.specs.ModuleBounds.{source_bounds}
+use Rattle.wa_types.specs.FirstFault.{FirstFault}
+use Rattle.wa_types.specs.Validity.{Valid}
+use Rattle.wa_types.specs.Syntax.{Module}
+use Rattle.wasm_reader.specs.declared.faults.ReadFault.TheVariants.{Malformed, Float, Deep, Limit}
+use Rattle.wasm_reader.specs.Answers.{IsAccepted, IsRefused}
+use Rattle.asyncify_runtime.specs.declared.reserving.ReservedAt.{ReservedAt}
+use Rattle.asyncify_runtime.specs.declared.reserving.ReservedAt.TheVariants.{Import as at_import, Export as at_export}
+use Rattle.asyncify_runtime.specs.Reserved.{reserved_at}
+use Rattle.asyncify_app.specs.Small.{IsSmall}
+
+-- The bytes spell this module, without a float and within the limits of a source module, under no reserved name.
+pub record IsFree (bytes : List ℕ) (m : Module) : Type 0 where
+  pub read : IsAccepted source_bounds bytes m
+  pub free : reserved_at m ≡ None
+
+-- .. and it is valid
+pub record IsValidSource (bytes : List ℕ) (m : Module) : Type 0 where
+  pub unreserved : IsFree bytes m
+  pub valid : Valid m
+
+-- .. and it is small
+pub record IsSource (bytes : List ℕ) (m : Module) : Type 0 where
+  pub accepted : IsValidSource bytes m
+  pub small : IsSmall m
+
+-- the joined name of an import
+abbrev pub joined_name : Option Import → List ℕ
+joined_name None = []
+joined_name (Some i) = i.«module» ++ 46 ∷ i.base
+
+abbrev pub exported_name : Option Export → List ℕ
+exported_name None = []
+exported_name (Some e) = e.name
+
+-- the name at which a module is reserved
+abbrev pub reserved_name : Module → ReservedAt → List ℕ
+reserved_name m (at_import i) = joined_name (slice_get m.imports i)
+reserved_name m (at_export i) = exported_name (slice_get m.exports i)
+
+-- why a source is refused
+pub data Cause : Type 0 where
+  malformed float deep : (at : ℕ) → Cause
+  limit : (what : LimitKind) → (found : ℕ) → Cause
+  reserved : (name : List ℕ) → Cause
+  invalid : (func : Option ℕ) → (rule at : ℕ) → Cause
+  not_small : Cause
+
+-- The bytes are refused for this, each cause behind those before it: what reading refuses; a reserved name; what isn't
+-- valid; what isn't small.
+abbrev pub IsRefusedFor : List ℕ → Cause → Type 0
+IsRefusedFor bytes (malformed at) = IsRefused source_bounds bytes (Malformed at)
+IsRefusedFor bytes (float at) = IsRefused source_bounds bytes (Float at)
+IsRefusedFor bytes (deep at) = IsRefused source_bounds bytes (Deep at)
+IsRefusedFor bytes (limit what found) = IsRefused source_bounds bytes (Limit what found)
+IsRefusedFor bytes (reserved name) = (m : Module) × (at : ReservedAt) × IsAccepted source_bounds bytes m × (reserved_at m ≡ Some at) × (name ≡ reserved_name m at)
+IsRefusedFor bytes (invalid func rule at) = (m : Module) × IsFree bytes m × FirstFault m func rule at
+IsRefusedFor bytes not_small = (m : Module) × IsValidSource bytes m × (IsSmall m → ⊥)
+
+-- the status of each cause
+abbrev pub status_of : Cause → ℕ
+status_of (malformed at) = 3
+status_of (float at) = 4
+status_of (invalid func rule at) = 5
+status_of (limit what found) = 6
+status_of (deep at) = 6
+status_of (reserved name) = 7
+status_of not_small = 14
+
+-- the status of a refusal
+abbrev pub IsRefusal : ℕ → Type 0
+IsRefusal n = (cause : Cause) × (n ≡ status_of cause)
