@@ -1,6 +1,7 @@
 pub mod Codes
 pub mod Fronts
 pub mod Functions
+pub mod ItemFronts
 pub mod Merged
 pub mod Modules
 pub mod Numbers

@@ -1,2 +1,4 @@
+pub mod Goals
+pub mod Items
 pub mod Reading
 pub mod Small
