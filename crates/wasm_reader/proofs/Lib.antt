@@ -1,9 +1,12 @@
 pub mod Codes
+pub mod Faults
 pub mod Fronts
 pub mod Functions
+pub mod GoalStacks
 pub mod ItemFronts
 pub mod Merged
 pub mod Modules
 pub mod Numbers
 pub mod Sections
 pub mod Vectors
+pub mod Waiting

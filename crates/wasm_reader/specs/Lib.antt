@@ -1,4 +1,6 @@
+pub mod Ends
 pub mod Goals
 pub mod Items
+pub mod Machine
 pub mod Reading
 pub mod Small

@@ -32,9 +32,16 @@ pub(crate) enum Goal {
     /// This byte.
     Exact(u8),
     /// Sections with ids above `last`, where `owed` functions have no body so far (standard, section 5.5.2).
-    Sections { last: u8, owed: u32 },
+    Sections {
+        last: u8,
+        owed: u32,
+    },
     /// The size of the section with this id.
-    Size { id: u8, last: u8, owed: u32 },
+    Size {
+        id: u8,
+        last: u8,
+        owed: u32,
+    },
     /// The first number of a section whose content ends there.
     Head {
         id: u8,
@@ -69,7 +76,9 @@ pub(crate) enum Goal {
     Float32,
     Float64,
     /// Instructions up to their end; in the first arm of an if an else may stand (standard, section 5.4.1).
-    Code { first_arm: bool },
+    Code {
+        first_arm: bool,
+    },
 }
 
 // A nested construct keeps one goal for each level.

@@ -215,12 +215,7 @@ fn entry(kind: Kind, n: u32, value: u32, at: u64) -> Option<Few>
                 (Some(Goal::Mutable), init, None, more),
             )
         }
-        Kind::Exports => Some((
-            name_of(value),
-            Some(Goal::Space),
-            Some(Goal::Number),
-            more,
-        )),
+        Kind::Exports => Some((name_of(value), Some(Goal::Space), Some(Goal::Number), more)),
         Kind::Elements => Some((
             Some(Goal::Code { first_arm: false }),
             Some(Goal::Count(Kind::Indices)),
