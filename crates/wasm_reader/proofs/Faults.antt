@@ -1,15 +1,16 @@
 -- Where the bytes of a file stop being begun.
-use Rattle.std.proofs.Common.{◌≡◌, ℕ, suc, zero, ◌+◌, ◌-◌, ◌<◌, ◌≤◌, ◌⊎◌, inl, inr, List, [], ◌∷◌, ◌++◌, Option, Some, None, refl, ap, sym, ◌∙◌, subst, arith, add-zero, append-nil, append_assoc, length, take, drop, length-append, length-take-le, length-drop, Bool, true, false, MatchBool}
+use Rattle.std.proofs.Common.{◌≡◌, ℕ, suc, zero, ◌+◌, ◌-◌, ◌<◌, ◌≤◌, inl, inr, List, [], ◌∷◌, ◌++◌, Option, Some, None, refl, ap, sym, ◌∙◌, subst, arith, add-zero, append-nil, length, take, drop, length-take-le, length-drop, Bool, true, false, MatchBool, max}
 use Rattle.std.proofs.Math.Seq.{take-add, take-append_seam}
-use Rattle.std.proofs.lemmas.List.{take_all, drop-drop, take-append-drop}
-use Rattle.std.proofs.lemmas.Bool.{cases_lt}
+use Rattle.std.proofs.lemmas.List.{take_all, drop-drop}
+use Rattle.std.proofs.lemmas.Bool.{cases_lt, ne_eqb}
 use Rattle.std.specs.Option.{unwrap_or}
-use Rattle.wa_types.specs.Begun.{Goal, exact, sections, size, head, until, rest, entries, count, number, name, value_type, block_type, mutable, import_kind, space, limits, signed, name_bytes, float_bytes, code, Kind, some_types, some_imports, some_functions, some_tables, some_memories, some_globals, some_exports, some_elements, some_bodies, some_segments, some_value_types, some_runs, some_indices, some_bytes, Item, a_byte, an_unsigned, a_signed, a_name, a_constant_of, first_of, wants, IsItem, IsPart, next, Steps, Leads, arrived, item, BegunFrom, ends, part, then, Inside, settled, start, Begun, IsWhole, FaultAt}
+use Rattle.wa_types.specs.Begun.{Goal, rest, entries, signed, Kind, some_types, some_imports, some_functions, some_tables, some_memories, some_globals, some_exports, some_elements, some_bodies, some_segments, some_value_types, some_runs, some_indices, some_bytes, first_of, wants, IsItem, IsPart, next, Steps, Leads, BegunFrom, part, then, Inside, settled, start, Begun}
 use Rattle.wa_types.proofs.Items.{item_front, part_front, item_some, item_whole, one_item}
-use Rattle.wa_types.proofs.Runs.{leads_on, leads_only, leads_more, leads_through, inside_less, begun_front}
+use Rattle.wa_types.proofs.Runs.{leads_on, leads_only, leads_more, inside_less, begun_front}
+use Rattle.wasm_reader.proofs.ItemFronts.{byte_whole}
 use Rattle.wasm_reader.specs.Items.{IsTold, IsWholeItem, IsWrong}
-use Rattle.wasm_reader.specs.Ends.{NoStep, IsReached, owes_none, is_end}
-use Rattle.wasm_reader.specs.Machine.{Stands, IsPartOf, Waits, FirstFault}
+use Rattle.wasm_reader.specs.Ends.{NoStep, IsReached}
+use Rattle.wasm_reader.specs.Machine.{Stands, FirstFault}
 
 -- the bytes between two places
 abbrev pub between : List ℕ → ℕ → ℕ → List ℕ
@@ -230,3 +231,48 @@ on_false P Q false e h = h
 pub on_true : (P Q : Type 0) (b : Bool) → b ≡ true → MatchBool b P Q → P
 on_true P Q true e h = h
 on_true P Q false e h = absurd (cc)
+
+a_first : (bytes : List ℕ) → 0 < length bytes → (b : ℕ) × (bs : List ℕ) × (bytes ≡ b ∷ bs)
+a_first [] h = absurd (omega (arith, h))
+a_first (b ∷ bs) h = (b, bs, refl)
+
+-- any byte goes on with any bytes
+skip_one : (bytes : List ℕ) (at end : ℕ) (gs : List Goal) → Stands bytes at (rest end ∷ gs) → at + 1 ≤ length bytes → Inside (at + 1) (rest end ∷ gs) → Stands bytes (at + 1) (rest end ∷ gs)
+unfolding next settled Inside
+skip_one bytes at end gs s fits inside =
+    let y : Ready bytes at (at + 1) (rest end) gs = record { room = omega arith; fits = fits; leads = s.leads; below = λ j h. inside_less (rest end ∷ gs) j (at + 1) (omega (arith, h)) inside } in
+    let long = length_between bytes at (at + 1) (omega arith) fits in
+    let f = a_first (between bytes at (at + 1)) (omega (arith, long)) in
+    let before : at + 1 < end = inside.0 in
+    let steps : Steps (rest end) gs f.0 (at + 1) (rest end ∷ gs) = record {
+      new = rest end ∷ [];
+      pushed = refl;
+      settles = rw (ne_eqb (at + 1) end (λ e. omega (arith, before, e))) refl;
+      inside = inside;
+    } in
+    goes_on bytes at (at + 1) (rest end) gs y f.0 1 (rest end ∷ gs) (byte_whole f.0 f.1 (between bytes at (at + 1)) f.2) steps
+
+skips : (bytes : List ℕ) (at n end : ℕ) (gs : List Goal) → Stands bytes at (rest end ∷ gs) → at + n ≤ length bytes → Inside (at + n) (rest end ∷ gs) → Stands bytes (at + n) (rest end ∷ gs)
+skips bytes at zero end gs s fits inside = subst (λ k. Stands bytes k (rest end ∷ gs)) (sym (add-zero at)) s
+skips bytes at (suc n) end gs s fits inside =
+    let place : at + n + 1 ≡ at + suc n = omega arith in
+    let near = skips bytes at n end gs s (omega (arith, fits)) (inside_less (rest end ∷ gs) (at + n) (at + suc n) (omega arith) inside) in
+    subst (λ k. Stands bytes k (rest end ∷ gs)) place (skip_one bytes (at + n) end gs near (omega (arith, fits)) (subst (λ k. Inside k (rest end ∷ gs)) (sym place) inside))
+
+-- all but the last byte before a stop
+pub skips_to : (bytes : List ℕ) (at stop place end : ℕ) (g : Goal) (gs : List Goal) → g ≡ rest end → place ≡ max at (stop - 1) → Stands bytes at (g ∷ gs) → stop ≤ length bytes → ((j : ℕ) → j < stop → Inside j (g ∷ gs)) → Stands bytes place (g ∷ gs)
+skips_to bytes at stop place end g gs e f s fits below = elim (cases_lt at (stop - 1)) [
+  | inl lt ↦
+      let n : at + (place - at) ≡ place = omega (arith, f, lt) in
+      let t : Stands bytes at (rest end ∷ gs) = subst (λ h. Stands bytes at (h ∷ gs)) e s in
+      let i : Inside place (rest end ∷ gs) = subst (λ h. Inside place (h ∷ gs)) e (below place (omega (arith, f, lt))) in
+      let u : Stands bytes (at + (place - at)) (rest end ∷ gs) = skips bytes at (place - at) end gs t (omega (arith, n, f, lt, fits)) (subst (λ k. Inside k (rest end ∷ gs)) (sym n) i) in
+      subst (λ k. Stands bytes k (g ∷ gs)) n (subst (λ h. Stands bytes (at + (place - at)) (h ∷ gs)) (sym e) u)
+  | inr ge ↦ subst (λ k. Stands bytes k (g ∷ gs)) (let k : at ≡ place = omega (arith, f, ge) in k) s
+]
+
+-- what stands where reading goes on
+pub on_from : (bytes : List ℕ) (at from stop : ℕ) (all gs : List Goal) (g : Goal) (end : Option ℕ) → Stands bytes at all → all ≡ g ∷ gs → IsReached all (length bytes) end → stop ≡ unwrap_or end (length bytes) → (Stands bytes at (g ∷ gs) → stop ≤ length bytes → ((j : ℕ) → j < stop → Inside j (g ∷ gs)) → Stands bytes from (g ∷ gs)) → Stands bytes from all
+on_from bytes at from stop all gs g end s e reached f on =
+    let y = ready bytes at stop all gs g end s e reached f in
+    subst (Stands bytes from) (sym e) (on (subst (Stands bytes at) e s) y.fits y.below)

@@ -1,7 +1,6 @@
 -- The stack of goals, whose top is the last of a list, and the least ends beside it.
-use Rattle.std.proofs.Common.{◌≡◌, ℕ, suc, zero, ◌+◌, ◌-◌, ◌<◌, ◌≤◌, ◌⊎◌, inl, inr, List, [], ◌∷◌, ◌++◌, Option, Some, None, refl, ap, sym, ◌∙◌, subst, arith, length, take, drop, reverse, map, get_or, min, Bool, true, false}
+use Rattle.std.proofs.Common.{◌≡◌, ℕ, ◌+◌, ◌-◌, ◌<◌, ◌≤◌, List, [], ◌∷◌, ◌++◌, Option, Some, None, refl, ap, sym, ◌∙◌, subst, arith, length, take, drop, reverse, map, get_or, min, true, false}
 use Rattle.std.proofs.lemmas.List.{reverse-append, take_more, take_all}
-use Rattle.std.proofs.lemmas.Bool.{cases_lt}
 use Rattle.std.specs.Option.{is_some}
 use Rattle.wa_types.specs.Begun.{Goal, end_of, Inside, IsBefore, settled, closing, passed}
 use Rattle.wasm_reader.specs.declared.grammar.goals.Goal.{Goal as Wanted}

@@ -1,8 +1,8 @@
 -- Between two pieces of a file, and at its end.
-use Rattle.std.proofs.Common.{◌≡◌, ℕ, zero, ◌+◌, ◌-◌, ◌<◌, ◌≤◌, ◌⊎◌, inl, inr, List, [], ◌∷◌, ◌++◌, Option, Some, None, refl, ap, sym, ◌∙◌, subst, arith, add-zero, append-nil, length, take, drop, length-append, length-take-le, length-drop, Bool, true, false, nat_eq, eqb-true}
-use Rattle.std.proofs.lemmas.List.{take_all, take-append-drop, drop_all}
+use Rattle.std.proofs.Common.{◌≡◌, ℕ, ◌+◌, ◌-◌, ◌<◌, ◌≤◌, inl, inr, List, [], ◌∷◌, ◌++◌, refl, ap, sym, ◌∙◌, subst, arith, append-nil, length, take, drop, length-append, length-take-le, length-drop, true, false, eqb-true}
+use Rattle.std.proofs.lemmas.List.{take_all, take-append-drop, take-append-le, drop_all}
 use Rattle.std.proofs.Math.Seq.{take-add}
-use Rattle.wa_types.specs.Begun.{Goal, exact, sections, size, head, until, rest, entries, count, number, name, value_type, block_type, mutable, import_kind, space, limits, signed, name_bytes, float_bytes, code, wants, Item, a_byte, an_unsigned, a_signed, a_name, a_constant_of, Kind, first_of, IsItem, IsPart, Leads, arrived, item, BegunFrom, ends, part, then, Inside, start, Begun, IsWhole, FaultAt}
+use Rattle.wa_types.specs.Begun.{Goal, sections, wants, IsPart, Leads, arrived, item, BegunFrom, ends, part, Inside, start, Begun, IsWhole, FaultAt}
 use Rattle.wa_types.proofs.Items.{item_some, item_whole}
 use Rattle.wa_types.proofs.Runs.{leads_on, leads_only, leads_through, begun_front}
 use Rattle.wasm_reader.specs.Ends.{owes_none, is_end}
@@ -114,4 +114,12 @@ first_stands bytes at gs e f = record {
   within = omega (arith, e);
   leads = subst (λ n. Leads 0 start (take n bytes) gs) (sym e) (subst (Leads 0 start []) (sym f) arrived);
   inside = subst (Inside at) (sym f) (tt, (tt, (tt, (tt, (tt, (tt, (tt, (tt, (tt, tt)))))))));
+}
+
+-- more bytes change nothing of what stands
+pub stands_on : (bytes piece : List ℕ) (at : ℕ) (gs : List Goal) → Stands bytes at gs → Stands (bytes ++ piece) at gs
+stands_on bytes piece at gs s = record {
+  within = (let h = s.within in omega (arith, h, length-append bytes piece));
+  leads = subst (λ z. Leads 0 start z gs) (sym (take-append-le at bytes piece s.within)) s.leads;
+  inside = s.inside;
 }

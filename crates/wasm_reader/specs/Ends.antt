@@ -1,5 +1,5 @@
 -- Where contents end, with the goals of a place.
-use Rattle.std.specs.Prelude.{◌≡◌, ℕ, ◌<◌, ◌≤◌, min, List, [], ◌∷◌, Option, Some, None, ◌==◌, Bool, true, false}
+use Rattle.std.specs.Prelude.{ℕ, ◌<◌, ◌≤◌, min, List, [], ◌∷◌, Option, Some, None, ◌==◌, Bool, false}
 use Rattle.wa_types.specs.Begun.{Goal, sections, end_of, Inside, Steps}
 use Rattle.wasm_reader.specs.declared.grammar.ends.Closing.{Closing}
 use Rattle.wasm_reader.specs.declared.grammar.ends.Closing.TheVariants.{Wanted, Ended, Early}

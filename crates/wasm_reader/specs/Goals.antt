@@ -1,5 +1,5 @@
 -- The goals of the grammar as the code keeps them.
-use Rattle.std.specs.Prelude.{ℕ, Option, Some, None, List, [], ◌∷◌, ◌++◌, map, reverse}
+use Rattle.std.specs.Prelude.{Option, Some, None, List, [], ◌∷◌, ◌++◌, map, reverse}
 use Rattle.wa_types.specs.Begun.{Goal, exact, sections, size, head, until, rest, entries, count, number, name, value_type, block_type, mutable, import_kind, space, limits, signed, name_bytes, float_bytes, code, Kind, some_types, some_imports, some_functions, some_tables, some_memories, some_globals, some_exports, some_elements, some_bodies, some_segments, some_value_types, some_runs, some_indices, some_bytes}
 use Rattle.wasm_reader.specs.declared.grammar.goals.Kind.{Kind as Counted}
 use Rattle.wasm_reader.specs.declared.grammar.goals.Kind.TheVariants.{Types, Imports, Functions, Tables, Memories, Globals, Exports, Elements, Bodies, Segments, ValueTypes, Runs, Indices, Bytes}

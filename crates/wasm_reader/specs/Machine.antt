@@ -1,6 +1,6 @@
 -- How far the items of a file have been read, and where bytes fail.
-use Rattle.std.specs.Prelude.{◌≡◌, ℕ, ◌-◌, ◌<◌, ◌≤◌, ◌⊎◌, ◌==◌, List, [], ◌∷◌, length, take, drop, Option, Some, None, Bool, true, false}
-use Rattle.wa_types.specs.Begun.{Goal, sections, IsPart, wants, Inside, Leads, start, Begun, FaultAt}
+use Rattle.std.specs.Prelude.{◌≡◌, ℕ, ◌<◌, ◌≤◌, List, [], ◌∷◌, length, take, drop}
+use Rattle.wa_types.specs.Begun.{Goal, IsPart, wants, Inside, Leads, start, Begun, FaultAt}
 use Rattle.wasm_reader.specs.declared.grammar.machine.CheckFault.{CheckFault}
 use Rattle.wasm_reader.specs.declared.grammar.machine.CheckFault.TheVariants.{Memory, Malformed}
 

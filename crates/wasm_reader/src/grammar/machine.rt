@@ -1,5 +1,5 @@
-ghost use Rattle.std.specs.Prelude.{◌≡◌, ℕ, List, ◌<◌, ◌≤◌, ◌-◌, length, take, drop, OnOk, IfOk, IfErr, MatchBool};
-ghost use Rattle.wa_types.specs.Begun.{Begun, IsWhole, wants};
+ghost use Rattle.std.specs.Prelude.{◌≡◌, ℕ, List, ◌∷◌, ◌<◌, ◌≤◌, ◌-◌, ◌++◌, length, take, drop, OnOk, IfOk, IfErr, MatchBool};
+ghost use Rattle.wa_types.specs.Begun.{Begun, IsWhole, wants, Inside, Goal as Wanted};
 ghost use Rattle.wasm_reader.specs.Goals.{goal_of};
 ghost use Rattle.wasm_reader.specs.Items.{FrontIs};
 ghost use Rattle.wasm_reader.specs.Machine.{Stands, Waits, IsFault, IsCause};
@@ -53,6 +53,7 @@ impl Machine {
         requires { Stands bytes.now self.old.at self.old.goals }
         ensures ok { OnOk result (Waits bytes.now self.new.at self.new.goals) }
         ensures begun { OnOk result (Begun bytes.now) }
+        ensures more { OnOk result ((piece : List ℕ) → Stands (bytes.now ++ piece) self.new.at self.new.goals) }
         ensures err { IfErr result (IsFault bytes.now) }
     {
         while self.advance(alloc, bytes)? {}
@@ -90,6 +91,7 @@ impl Machine {
         };
         let end = self.goals.end_within(bytes.len());
         let stop = end.unwrap_or(bytes.len());
+        self.at = skip(goal, self.at, stop);
         match item_between(goal, bytes, self.at, stop) {
             Front::Part => match end {
                 None => Ok(false),
@@ -105,6 +107,18 @@ impl Machine {
                 Ok(true)
             }
         }
+    }
+}
+
+// Passes over bytes that may be any, but for the last one before a stop.
+fn skip(goal: Goal, at: usize, stop: usize) -> usize
+    ensures on { (bytes : List ℕ) (gs : List Wanted) → Stands bytes at (goal_of goal ∷ gs) → stop ≤ length bytes
+        → ((j : ℕ) → j < stop → Inside j (goal_of goal ∷ gs)) → Stands bytes result (goal_of goal ∷ gs) }
+    ensures ahead { at ≤ result }
+{
+    match goal {
+        Goal::Rest(_) => at.max(stop.saturating_sub(1)),
+        _ => at,
     }
 }
 
@@ -241,6 +255,35 @@ mod tests {
         Ok(())
     }
 
+    #[test]
+    fn contents_of_custom_sections_are_any_bytes(rt: HostRuntime) -> Result<(), Fail> {
+        let alloc = rt.alloc();
+        assert_eq!(rt;
+            fails_behind(alloc, b"\0\x06\x01a\xFF\0\x01\x02\0\x01\0")?,
+            None
+        );
+        assert_eq!(rt; fails_behind(alloc, b"\0\x06\x01a\xFF\0\x01")?, Some(15));
+        assert_eq!(rt;
+            fails_behind(alloc, b"\0\x06\x01a\xFF\0\x01\x02\x0C")?,
+            Some(17)
+        );
+        Ok(())
+    }
+
+    #[test]
+    fn a_file_may_come_byte_by_byte(rt: HostRuntime) -> Result<(), Fail> {
+        let alloc = rt.alloc();
+        let mut machine = Machine::new(alloc)?;
+        let mut file = Vec::new(alloc);
+        machine.feed(alloc, &file)?;
+        for byte in SLEEPER {
+            file.extend_from_slice(&[*byte])?;
+            machine.feed(alloc, &file)?;
+        }
+        machine.finish(&file)?;
+        Ok(())
+    }
+
     // Where the file fails whose one function has this code.
     fn code_fails(alloc: Global, code: &[u8]) -> Result<Option<usize>, CheckFault> {
         let mut file = Vec::new(alloc);
@@ -284,7 +327,7 @@ mod tests {
         file.extend_from_slice(
             b"\x01\x04\x01\x60\0\0\x03\x02\x01\0\x0A\x86\x80\x80\x04\x01\x81\x80\x80\x04\0",
         )?;
-        for _level in 0..4_194_304 {
+        for _level in 0..65_536 {
             file.extend_from_slice(b"\x02\x40")?;
         }
         assert_eq!(rt; fails_at(alloc, &file)?, Some(file.len()));

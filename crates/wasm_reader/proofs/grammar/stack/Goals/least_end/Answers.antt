@@ -1,4 +1,4 @@
-use Rattle.std.proofs.Common.{◌≡◌, ◌∙◌, sym, ap, reverse, arith}
+use Rattle.std.proofs.Common.{◌∙◌, sym, ap, arith}
 use Rattle.wasm_reader.specs.Ends.{least_ends}
 use Rattle.wasm_reader.proofs.GoalStacks.{empty_ends, last_end}
 use Rattle.wasm_reader.proofs.grammar.stack.Goals.least_end.Goals as goal

@@ -1,4 +1,4 @@
-use Rattle.std.proofs.Common.{◌≡◌, ◌∙◌, sym, ap}
+use Rattle.std.proofs.Common.{◌∙◌, sym, ap}
 use Rattle.wa_types.specs.Begun.{end_of}
 use Rattle.wasm_reader.specs.Goals.{goal_of, stack_of}
 use Rattle.wasm_reader.specs.Ends.{least_ends}

@@ -1,5 +1,4 @@
-use Rattle.std.proofs.Common.{◌≡◌, ◌∙◌, sym, ap, Some, reverse, ◌∷◌}
-use Rattle.wa_types.specs.Begun.{end_of}
+use Rattle.std.proofs.Common.{◌∙◌, sym, ap, Some, reverse, ◌∷◌}
 use Rattle.wasm_reader.specs.Goals.{goal_of, stack_of}
 use Rattle.wasm_reader.specs.Ends.{least_ends, lowered}
 use Rattle.wasm_reader.proofs.GoalStacks.{end_pushed, none_pushed, stack_push}

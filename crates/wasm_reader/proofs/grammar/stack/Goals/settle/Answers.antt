@@ -1,4 +1,4 @@
-use Rattle.std.proofs.Common.{◌≡◌, ◌∙◌, sym, ap, drop, Some}
+use Rattle.std.proofs.Common.{◌∙◌, sym, ap, drop, Some}
 use Rattle.wa_types.specs.Begun.{settled}
 use Rattle.wasm_reader.specs.Goals.{goal_of}
 use Rattle.wasm_reader.specs.Ends.{by_closing}
