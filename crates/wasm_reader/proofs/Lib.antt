@@ -1,7 +1,10 @@
 pub mod Accepting
 pub mod Codes
+pub mod Faults
 pub mod Fronts
 pub mod Functions
+pub mod GoalStacks
+pub mod ItemFronts
 pub mod LocalCounts
 pub mod Merged
 pub mod Modules
@@ -16,3 +19,4 @@ pub mod ShortNumbers
 pub mod SpelledCodeSizes
 pub mod SpelledSizes
 pub mod Vectors
+pub mod Waiting

@@ -1,5 +1,9 @@
 pub mod Answers
+pub mod Ends
+pub mod Goals
+pub mod Items
 pub mod Locals
+pub mod Machine
 pub mod Marking
 pub mod Reading
 pub mod Small

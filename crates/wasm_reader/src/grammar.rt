@@ -1,0 +1,8 @@
+//! The grammar of the binary format (standard, section 5): which bytes are a file's, and where others fail.
+
+mod ends;
+mod goals;
+mod items;
+mod machine;
+mod next;
+mod stack;
