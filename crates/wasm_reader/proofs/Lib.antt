@@ -1,4 +1,5 @@
 pub mod Codes
+pub mod Cursors
 pub mod Fronts
 pub mod Functions
 pub mod Merged

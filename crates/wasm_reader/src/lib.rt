@@ -8,6 +8,7 @@
 
 mod bodies;
 mod entries;
+mod front;
 mod input;
 
 ghost use Rattle.std.specs.Prelude.{◌≡◌, ◌<◌, ◌^◌, ◌++◌, List, ℕ, length, IfOk, MatchResult};
