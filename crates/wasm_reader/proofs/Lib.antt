@@ -5,5 +5,8 @@ pub mod Functions
 pub mod Merged
 pub mod Modules
 pub mod Numbers
+pub mod OpcodeRows
+pub mod Scans
 pub mod Sections
+pub mod Skipping
 pub mod Vectors

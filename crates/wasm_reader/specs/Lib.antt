@@ -1,3 +1,5 @@
 pub mod Places
 pub mod Reading
+pub mod Scanning
+pub mod Shapes
 pub mod Small
