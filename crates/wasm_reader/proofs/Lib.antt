@@ -9,4 +9,5 @@ pub mod OpcodeRows
 pub mod Scans
 pub mod Sections
 pub mod Skipping
+pub mod Turning
 pub mod Vectors

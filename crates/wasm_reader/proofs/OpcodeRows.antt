@@ -1,7 +1,7 @@
 -- The table of what follows an opcode, by ranges.
 use Rattle.std.proofs.Common.{◌≡◌, ℕ, ◌<◌, ◌≤◌, ◌⊎◌, inl, inr, Bool, true, false, Some, None, refl, arith, nat_eq, nat_le, ◌&&◌}
 use Rattle.std.proofs.lemmas.Bool.{le-leb}
-use Rattle.wa_types.specs.Opcodes.{Follows, no_operand, a_zero, an_index, an_index_and_zero, an_access, some_labels, a_constant, a_float, follows, within}
+use Rattle.wa_types.specs.Opcodes.{no_operand, a_zero, an_index, an_access, follows, within}
 
 past : (a b : ℕ) → b < a → nat_le a b ≡ false
 past a b h = grind (arith)

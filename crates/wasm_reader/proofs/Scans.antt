@@ -1,5 +1,5 @@
 -- Parts of a file scanned one behind another.
-use Rattle.std.proofs.Common.{◌≡◌, ℕ, suc, ◌+◌, ◌<◌, ◌^◌, ◌≤◌, List, [], ◌∷◌, ◌++◌, Option, Some, None, Bool, true, false, nat_lt, refl, ap, sym, ◌∙◌, subst, arith, add-zero, append_assoc, append-nil, length, length-append, Result, Ok, Err}
+use Rattle.std.proofs.Common.{◌≡◌, ℕ, ◌+◌, ◌<◌, List, [], ◌∷◌, ◌++◌, Option, Some, None, Bool, true, false, nat_lt, refl, ap, sym, ◌∙◌, subst, arith, append_assoc, length, length-append, Result, Ok, Err}
 use Rattle.wa_types.specs.Leb.{IsUnsigned}
 use Rattle.wa_types.specs.Binary.{Placed}
 use Rattle.wa_types.specs.Spells.{◌▸◌, Exactly, Number, Byte, Items}
@@ -8,7 +8,7 @@ use Rattle.wasm_reader.specs.declared.bounds.Bounds.{Bounds}
 use Rattle.wasm_reader.specs.declared.marks.Marks.{Marks}
 use Rattle.wasm_reader.specs.declared.front.NotSpelled.{NotSpelled}
 use Rattle.wasm_reader.specs.Places.{Place, behind, ReadsNumber}
-use Rattle.wasm_reader.specs.Scanning.{Seen, nothing_seen, both, seen_in, first_of, above_of, Noted, Skipped, Scanned, Skips, Scans}
+use Rattle.wasm_reader.specs.Scanning.{Seen, nothing_seen, both, seen_in, first_of, above_of, Noted, Skips, Scans}
 
 -- Notes, one behind another.
 
@@ -81,6 +81,10 @@ module _ (b : Bounds) where
   -- what a part's spelling says, said of it another way
   pub scan_as : (P Q : ℕ → List ℕ → Type 0) (s : Seen) (p : Place) (m : Marks) (r : Result (Unit {0}) NotSpelled) (q : Place) (n : Marks) → ((at : ℕ) (a : List ℕ) → P at a → Q at a) → Scans b Q s p m r q n → Scans b P s p m r q n
   scan_as P Q s p m r q n f g = record { goes = λ front rest e h. g.goes front rest e (f p.at front h) }
+
+  -- what a part's spelling tells besides
+  pub scan_told : (A : Type 0) (P : ℕ → List ℕ → Type 0) (s : Seen) (p : Place) (m : Marks) (r : Result (Unit {0}) NotSpelled) (q : Place) (n : Marks) → ((a : List ℕ) → P p.at a → A) → (A → Scans b P s p m r q n) → Scans b P s p m r q n
+  scan_told A P s p m r q n f g = record { goes = λ front rest e h. (g (f front h)).goes front rest e h }
 
   -- what is noted, said another way
   pub scan_same : (P : ℕ → List ℕ → Type 0) (s t : Seen) (p : Place) (m : Marks) (r : Result (Unit {0}) NotSpelled) (q : Place) (n : Marks) → s ≡ t → Scans b P s p m r q n → Scans b P t p m r q n

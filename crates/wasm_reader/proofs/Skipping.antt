@@ -1,10 +1,10 @@
 -- Parts in which nothing is noted.
-use Rattle.std.proofs.Common.{◌≡◌, ℕ, ◌+◌, ◌<◌, ◌≤◌, List, [], ◌∷◌, ◌++◌, Option, Some, None, refl, ap, sym, ◌∙◌, arith, length, Result, Ok, Err}
+use Rattle.std.proofs.Common.{◌≡◌, ℕ, ◌+◌, ◌<◌, List, [], ◌∷◌, ◌++◌, Option, Some, None, refl, ap, sym, ◌∙◌, arith, length, Result, Ok, Err}
 use Rattle.wa_types.specs.Leb.{IsUnsigned}
 use Rattle.wa_types.specs.declared.syntax.Limits.{Limits}
-use Rattle.wa_types.specs.Spells.{◌▸◌, Exactly, Number, Items, Text, TextBytes, Maximum, LimitsOf}
+use Rattle.wa_types.specs.Spells.{◌▸◌, Number, Items, Text, TextBytes, Maximum, LimitsOf}
 use Rattle.wasm_reader.specs.declared.front.NotSpelled.{NotSpelled}
-use Rattle.wasm_reader.specs.Places.{Place, behind, Onward, ReadsNumber}
+use Rattle.wasm_reader.specs.Places.{Place, Onward, ReadsNumber}
 use Rattle.wasm_reader.specs.Scanning.{Filled, Skips}
 use Rattle.wasm_reader.proofs.Scans.{Stepped, byte_skip, number_skip, skip_skip, skip_nothing, skip_never, skip_number, skip_as, never_skipped, never_then, never_number, taken}
 

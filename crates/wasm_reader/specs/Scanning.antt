@@ -1,6 +1,6 @@
 -- What a scan of bytes that are known to spell a file notes.
 use Rattle.std.specs.Prelude.{◌≡◌, ℕ, ◌+◌, ◌<◌, ◌^◌, List, [], ◌∷◌, ◌++◌, length, flat_map, Option, Some, None, Bool, Result, Ok, Err}
-use Rattle.wa_types.specs.Binary.{Placed, RawCode, RawType, RawImport, RawGlobal, RawElem, RawBody, RawSegment, RawRun, Section, types, imports, functions, globals, elements, bodies, segments}
+use Rattle.wa_types.specs.Binary.{Placed, RawCode, RawType, RawImport, RawGlobal, RawElem, RawBody, RawSegment, Section, types, imports, functions, globals, elements, bodies, segments}
 use Rattle.wa_types.specs.Spells.{CodeOf, Items}
 use Rattle.wa_types.specs.Marks.{float_type, code_floats, type_floats, kind_floats, body_floats, code_opens, kind_sorts, first_above}
 use Rattle.wasm_reader.specs.declared.bounds.Bounds.{Bounds}
