@@ -6,6 +6,7 @@ pub mod Merged
 pub mod Modules
 pub mod Numbers
 pub mod OpcodeRows
+pub mod Parts
 pub mod Scans
 pub mod Sections
 pub mod Skipping

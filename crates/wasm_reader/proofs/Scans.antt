@@ -298,3 +298,27 @@ module _ {X : Type 0} (b : Bounds) (F : X → ℕ → List ℕ → Type 0) (f : 
 
   pub keeps_all : (count done : ℕ) (p q : Place) (m n : Marks) → Keeps b F f count done p m q n → done ≡ count → (xs : List X) → length xs ≡ count → Scans b (Items F xs) (seen_in f xs) p m (Ok tt) q n
   keeps_all count done p q m n h e = h.carries (Ok tt) q n (λ zs. all_done count done q n zs e)
+
+pub scan_then_skip : (b : Bounds) (P Q : ℕ → List ℕ → Type 0) (s : Seen) (p q p' : Place) (m n : Marks) (r : Result (Unit {0}) NotSpelled) → Scans b P s p m (Ok tt) q n → Skips Q q r p' → Scans b (P ▸ Q) s p m r p' n
+scan_then_skip b P Q s p q p' m n r f g = record {
+  goes = λ front rest e h.
+      let x = f.goes h.0 (h.1 ++ rest) (cut p h.0 h.1 front rest e h.2) h.3 in
+      let y = g.goes h.1 rest (place_left p q h.0 (h.1 ++ rest) x.place) (subst (λ k. Q k h.1) (sym (place_at p q h.0 (h.1 ++ rest) x.place)) h.4) in
+      record { went = y.went; place = behind_both p q p' h.0 h.1 front (h.1 ++ rest) rest h.2 x.place y.place; noted = x.noted };
+}
+
+-- a part fails, and nothing behind it counts
+pub scan_fail : (b : Bounds) (P Q : ℕ → List ℕ → Type 0) (s t : Seen) (p q p' : Place) (l m n m' : Marks) (d : NotSpelled) (r : Result (Unit {0}) NotSpelled) → Scans b P s p l (Err d) q n → Scans b (P ▸ Q) t p m r p' m'
+scan_fail b P Q s t p q p' l m n m' d r f = scan_never b (P ▸ Q) t p m r p' m' (never_then P Q p (never_scanned b P s p l d q n f))
+
+pub scan_stop : (b : Bounds) (P Q : ℕ → List ℕ → Type 0) (s t : Seen) (p q p' : Place) (m n m' : Marks) (d : NotSpelled) (r : Result (Unit {0}) NotSpelled) → Scans b P s p m (Err d) q n → Scans b (P ▸ Q) t p m r p' m'
+scan_stop b P Q s t p q p' m n m' d r f = scan_never b (P ▸ Q) t p m r p' m' (never_then P Q p (never_scanned b P s p m d q n f))
+
+pub skip_stop : (b : Bounds) (P Q : ℕ → List ℕ → Type 0) (t : Seen) (p q p' : Place) (m m' : Marks) (d : NotSpelled) (r : Result (Unit {0}) NotSpelled) → Skips P p (Err d) q → Scans b (P ▸ Q) t p m r p' m'
+skip_stop b P Q t p q p' m m' d r f = scan_never b (P ▸ Q) t p m r p' m' (never_then P Q p (never_skipped P p d q f))
+
+pub number_stop : (b : Bounds) (Q : ℕ → List ℕ → Type 0) (t : Seen) (n : ℕ) (p q p' : Place) (m m' : Marks) (d : NotSpelled) (r : Result (Unit {0}) NotSpelled) → ReadsNumber (IsUnsigned 32) (Err d) p q → Scans b (Number n ▸ Q) t p m r p' m'
+number_stop b Q t n p q p' m m' d r f = scan_never b (Number n ▸ Q) t p m r p' m' (never_then (Number n) Q p (never_number n p q d f))
+
+pub byte_stop : (b : Bounds) (Q : ℕ → List ℕ → Type 0) (t : Seen) (x : ℕ) (p p' : Place) (m m' : Marks) (r : Result (Unit {0}) NotSpelled) → p.left ≡ [] → Scans b (Exactly (x ∷ []) ▸ Q) t p m r p' m'
+byte_stop b Q t x p p' m m' r f = scan_never b (Exactly (x ∷ []) ▸ Q) t p m r p' m' (never_then (Exactly (x ∷ [])) Q p (λ front rest e h. never_byte x p front rest f e h))

@@ -2,7 +2,8 @@
 use Rattle.std.proofs.Common.{◌≡◌, ℕ, ◌+◌, ◌<◌, List, [], ◌∷◌, ◌++◌, Option, Some, None, refl, ap, sym, ◌∙◌, arith, length, Result, Ok, Err}
 use Rattle.wa_types.specs.Leb.{IsUnsigned}
 use Rattle.wa_types.specs.declared.syntax.Limits.{Limits}
-use Rattle.wa_types.specs.Spells.{◌▸◌, Number, Items, Text, TextBytes, Maximum, LimitsOf}
+use Rattle.wa_types.specs.Spells.{◌▸◌, Exactly, Number, Items, Text, TextBytes, Maximum, LimitsOf}
+use Rattle.wa_types.proofs.Going.{on_right}
 use Rattle.wasm_reader.specs.declared.front.NotSpelled.{NotSpelled}
 use Rattle.wasm_reader.specs.Places.{Place, Onward, ReadsNumber}
 use Rattle.wasm_reader.specs.Scanning.{Filled, Skips}
@@ -68,7 +69,10 @@ all_done count done q (z ∷ zs) e l = absurd (omega (arith, e, l))
 pub passes_all : (count done : ℕ) (p q : Place) → Passes count done p q → done ≡ count → (xs : List ℕ) → length xs ≡ count → Skips (Items Number xs) p (Ok tt) q
 passes_all count done p q h e = h.carries (Ok tt) q (λ zs. all_done count done q zs e)
 
--- a name, behind the number of its bytes
-pub skip_text : (name : List ℕ) (v : ℕ) (p q p' : Place) (r : Result (Unit {0}) NotSpelled) → ReadsNumber (IsUnsigned 32) (Ok v) p q → Skips (Filled v) q r p' → Skips (Text name) p r p'
-skip_text name v p q p' r read f =
-    number_skip (TextBytes name) p q p' r v (length name) read (λ e. skip_as (TextBytes name) (Filled v) q r p' (λ at a h. ap length h.0 ∙ e) f)
+-- bytes, behind their number
+pub skip_text : (bytes : List ℕ) (v : ℕ) (p q p' : Place) (r : Result (Unit {0}) NotSpelled) → ReadsNumber (IsUnsigned 32) (Ok v) p q → Skips (Filled v) q r p' → Skips (Number (length bytes) ▸ Exactly bytes) p r p'
+skip_text bytes v p q p' r read f =
+    number_skip (Exactly bytes) p q p' r v (length bytes) read (λ e. skip_as (Exactly bytes) (Filled v) q r p' (λ at a h. ap length h ∙ e) f)
+
+pub text_bytes : (name : List ℕ) (at : ℕ) (a : List ℕ) → Text name at a → (Number (length name) ▸ Exactly name) at a
+text_bytes name at a h = on_right (Number (length name)) (TextBytes name) (Exactly name) at a (λ k b w. w.0) h

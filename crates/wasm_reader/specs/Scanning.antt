@@ -1,10 +1,12 @@
 -- What a scan of bytes that are known to spell a file notes.
 use Rattle.std.specs.Prelude.{◌≡◌, ℕ, ◌+◌, ◌<◌, ◌^◌, List, [], ◌∷◌, ◌++◌, length, flat_map, Option, Some, None, Bool, Result, Ok, Err}
-use Rattle.wa_types.specs.Binary.{Placed, RawCode, RawType, RawImport, RawGlobal, RawElem, RawBody, RawSegment, Section, types, imports, functions, globals, elements, bodies, segments}
-use Rattle.wa_types.specs.Spells.{CodeOf, Items}
+use Rattle.wa_types.specs.Binary.{Placed, RawCode, RawType, RawKind, RawImport, RawGlobal, RawElem, RawBody, RawSegment, Section, types, imports, functions, globals, elements, bodies, segments}
+use Rattle.wa_types.specs.Spells.{CodeOf, Items, FunctionType, ImportOf, GlobalOf, ElementOf, BodyOf, SegmentOf}
 use Rattle.wa_types.specs.Marks.{float_type, code_floats, type_floats, kind_floats, body_floats, code_opens, kind_sorts, first_above}
 use Rattle.wasm_reader.specs.declared.bounds.Bounds.{Bounds}
 use Rattle.wasm_reader.specs.declared.marks.Marks.{Marks}
+use Rattle.wasm_reader.specs.declared.scan.entries.EntryKind.{EntryKind}
+use Rattle.wasm_reader.specs.declared.scan.entries.EntryKind.TheVariants.{AType, AnImport, AGlobal, AnElement, ABody, ASegment}
 use Rattle.wasm_reader.specs.declared.front.NotSpelled.{NotSpelled}
 use Rattle.wasm_reader.specs.Places.{Place, behind}
 
@@ -83,8 +85,11 @@ seen_levels b (c ∷ cs) = both (seen_code b (length cs) c) (seen_levels b cs)
 abbrev pub seen_type : RawType → Seen
 seen_type t = record { floats_at = type_floats t; opens_at = []; funcs = []; params = length t.params ∷ []; sizes = [] }
 
+abbrev pub seen_kind : RawKind → Seen
+seen_kind k = record { floats_at = kind_floats k; opens_at = []; funcs = kind_sorts k; params = []; sizes = [] }
+
 abbrev pub seen_import : RawImport → Seen
-seen_import i = record { floats_at = kind_floats i.kind; opens_at = []; funcs = kind_sorts i.kind; params = []; sizes = [] }
+seen_import i = seen_kind i.kind
 
 abbrev pub seen_global : Bounds → RawGlobal → Seen
 seen_global b g = both (seen_placed g.ty) (seen_code b 0 g.init)
@@ -92,14 +97,39 @@ seen_global b g = both (seen_placed g.ty) (seen_code b 0 g.init)
 abbrev pub seen_body : Bounds → RawBody → Seen
 seen_body b x = record { floats_at = body_floats x; opens_at = code_opens b.nesting 0 x.code; funcs = []; params = []; sizes = x.size ∷ [] }
 
+-- the entries of sections that are scanned one by one
+abbrev pub EntryOf : EntryKind → Type 0
+EntryOf AType = RawType
+EntryOf AnImport = RawImport
+EntryOf AGlobal = RawGlobal
+EntryOf AnElement = RawElem
+EntryOf ABody = RawBody
+EntryOf ASegment = RawSegment
+
+abbrev pub EntryIs : (k : EntryKind) → EntryOf k → ℕ → List ℕ → Type 0
+EntryIs AType x = FunctionType x
+EntryIs AnImport x = ImportOf x
+EntryIs AGlobal x = GlobalOf x
+EntryIs AnElement x = ElementOf x
+EntryIs ABody x = BodyOf x
+EntryIs ASegment x = SegmentOf x
+
+abbrev pub seen_entry : Bounds → (k : EntryKind) → EntryOf k → Seen
+seen_entry b AType x = seen_type x
+seen_entry b AnImport x = seen_import x
+seen_entry b AGlobal x = seen_global b x
+seen_entry b AnElement x = seen_code b 0 x.offset
+seen_entry b ABody x = seen_body b x
+seen_entry b ASegment x = seen_code b 0 x.offset
+
 abbrev pub seen_section : Bounds → Section → Seen
-seen_section b (types ts) = seen_in seen_type ts
-seen_section b (imports is) = seen_in seen_import is
+seen_section b (types ts) = seen_in (seen_entry b AType) ts
+seen_section b (imports is) = seen_in (seen_entry b AnImport) is
 seen_section b (functions sorts) = functions_seen sorts
-seen_section b (globals gs) = seen_in (seen_global b) gs
-seen_section b (elements es) = seen_in (λ (e : RawElem). seen_code b 0 e.offset) es
-seen_section b (bodies bs) = seen_in (seen_body b) bs
-seen_section b (segments ss) = seen_in (λ (s : RawSegment). seen_code b 0 s.offset) ss
+seen_section b (globals gs) = seen_in (seen_entry b AGlobal) gs
+seen_section b (elements es) = seen_in (seen_entry b AnElement) es
+seen_section b (bodies bs) = seen_in (seen_entry b ABody) bs
+seen_section b (segments ss) = seen_in (seen_entry b ASegment) ss
 seen_section b _ = nothing_seen
 
 -- The part is behind the place, with nothing noted.

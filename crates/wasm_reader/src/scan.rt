@@ -1,2 +1,3 @@
 mod code;
+mod entries;
 mod skips;

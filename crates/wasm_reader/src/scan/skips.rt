@@ -1,6 +1,6 @@
 // Parts of a file in which nothing is noted.
 ghost use Rattle.std.specs.Prelude.{◌≡◌, ℕ, List, [], ◌∷◌, length};
-ghost use Rattle.wa_types.specs.Spells.{Exactly, Number, Vector, Text, LimitsOf};
+ghost use Rattle.wa_types.specs.Spells.{◌▸◌, Exactly, Number, Vector, LimitsOf};
 ghost use Rattle.wa_types.specs.declared.syntax.Limits.{Limits as AnyLimits};
 ghost use Rattle.wasm_reader.specs.Places.{Onward};
 ghost use Rattle.wasm_reader.specs.Scanning.{Skips, Filled};
@@ -46,9 +46,9 @@ pub(crate) fn skip_numbers(cursor: &mut Cursor<'_>) -> Result<(), NotSpelled>
     Ok(())
 }
 
-/// A name (standard, section 5.2.4).
-pub(crate) fn skip_name(cursor: &mut Cursor<'_>) -> Result<(), NotSpelled>
-    ensures skips { (name : List ℕ) → Skips (Text name) cursor.old result cursor.new }
+/// Bytes behind their number, as a name (standard, sections 5.1.3 and 5.2.4).
+pub(crate) fn skip_counted(cursor: &mut Cursor<'_>) -> Result<(), NotSpelled>
+    ensures skips { (bytes : List ℕ) → Skips (Number (length bytes) ▸ Exactly bytes) cursor.old result cursor.new }
     ensures onward { Onward cursor.old cursor.new }
 {
     let count = cursor.number()?;
