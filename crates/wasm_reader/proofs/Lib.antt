@@ -1,7 +1,9 @@
 pub mod Codes
 pub mod Cursors
+pub mod Files
 pub mod Fronts
 pub mod Functions
+pub mod Judged
 pub mod Merged
 pub mod Modules
 pub mod Numbers

@@ -60,10 +60,10 @@ noted_both b s t l m n f g = record {
 
 -- Places, one behind another.
 
-place_left : (p q : Place) (a rest : List ℕ) → q ≡ behind p a rest → q.left ≡ rest
+pub place_left : (p q : Place) (a rest : List ℕ) → q ≡ behind p a rest → q.left ≡ rest
 place_left p q a rest e = ap (λ z. z.left) e
 
-place_at : (p q : Place) (a rest : List ℕ) → q ≡ behind p a rest → q.at ≡ p.at + length a
+pub place_at : (p q : Place) (a rest : List ℕ) → q ≡ behind p a rest → q.at ≡ p.at + length a
 place_at p q a rest e = ap (λ z. z.at) e
 
 pub behind_both : (p q r : Place) (a b front more rest : List ℕ) → front ≡ a ++ b → q ≡ behind p a more → r ≡ behind q b rest → r ≡ behind p front rest
@@ -74,7 +74,7 @@ behind_both p q r a b front more rest e f g =
 cut : (p : Place) (a b front rest : List ℕ) → p.left ≡ front ++ rest → front ≡ a ++ b → p.left ≡ a ++ (b ++ rest)
 cut p a b front rest e f = e ∙ ap (λ z. z ++ rest) f ∙ append_assoc a b rest
 
-no_answer : {A : Type 0} (e : NotSpelled) (r : Result (Unit {0}) NotSpelled) → r ≡ Err e → r ≡ Ok tt → A
+pub no_answer : {A : Type 0} (e : NotSpelled) (r : Result (Unit {0}) NotSpelled) → r ≡ Err e → r ≡ Ok tt → A
 no_answer e r g h = absurd (cc)
 
 module _ (b : Bounds) where
@@ -161,7 +161,7 @@ never_byte x p front rest n e f = let h : [] ≡ (x ∷ []) ++ rest = sym n ∙ 
 pub never_number : (n : ℕ) (p q : Place) (d : NotSpelled) → ReadsNumber (IsUnsigned 32) (Err d) p q → (front rest : List ℕ) → p.left ≡ front ++ rest → Number n p.at front → ⊥
 never_number n p q d f front rest e h = let g = (f n front rest e h).0 in cc
 
-number_same : (v n : ℕ) (r : Result ℕ NotSpelled) → r ≡ Ok v → r ≡ Ok n → n ≡ v
+pub number_same : (v n : ℕ) (r : Result ℕ NotSpelled) → r ≡ Ok v → r ≡ Ok n → n ≡ v
 number_same v n r e f = cc
 
 module _ (b : Bounds) (Q : ℕ → List ℕ → Type 0) (t : Seen) (p q p' : Place) (m m' : Marks) (r : Result (Unit {0}) NotSpelled) where
