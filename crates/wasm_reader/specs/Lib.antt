@@ -1,9 +1,13 @@
 pub mod Answers
 pub mod Ends
+pub mod Found
 pub mod Goals
 pub mod Items
 pub mod Locals
 pub mod Machine
 pub mod Marking
+pub mod Places
 pub mod Reading
+pub mod Scanning
+pub mod Shapes
 pub mod Small

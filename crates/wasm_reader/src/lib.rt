@@ -15,6 +15,12 @@ mod input;
 mod locals;
 mod marks;
 mod reading;
+mod bounds;
+mod entries;
+mod front;
+mod input;
+mod marks;
+mod opcodes;
 mod scan;
 
 ghost use Rattle.std.specs.Prelude.{◌≡◌, ◌<◌, ◌^◌, ◌++◌, List, ℕ, length, IfOk, MatchResult};
