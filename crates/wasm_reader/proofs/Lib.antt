@@ -1,9 +1,15 @@
+pub mod Betweens
+pub mod CodeParts
 pub mod Codes
 pub mod Cursors
+pub mod EntryParts
 pub mod Fronts
 pub mod Functions
 pub mod Merged
 pub mod Modules
 pub mod Numbers
+pub mod PlainNames
+pub mod PlainParts
 pub mod Sections
+pub mod Steps
 pub mod Vectors

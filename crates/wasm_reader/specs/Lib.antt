@@ -1,3 +1,5 @@
+pub mod Builds
+pub mod BuildsCode
 pub mod Places
 pub mod Reading
 pub mod Small

@@ -7,6 +7,7 @@
 #![tactic(auto)]
 
 mod bodies;
+mod build;
 mod entries;
 mod front;
 mod input;
