@@ -1,6 +1,9 @@
 pub mod Accepting
+pub mod Betweens
+pub mod CodeParts
 pub mod Codes
 pub mod Cursors
+pub mod EntryParts
 pub mod Faults
 pub mod Files
 pub mod Fronts
@@ -16,6 +19,8 @@ pub mod Numbers
 pub mod OpcodeRows
 pub mod OpcodesMade
 pub mod Parts
+pub mod PlainNames
+pub mod PlainParts
 pub mod Scans
 pub mod Sections
 pub mod ShortCode
@@ -25,6 +30,7 @@ pub mod ShortNumbers
 pub mod Skipping
 pub mod SpelledCodeSizes
 pub mod SpelledSizes
+pub mod Steps
 pub mod Turning
 pub mod Vectors
 pub mod Waiting

@@ -1,4 +1,6 @@
 pub mod Answers
+pub mod Builds
+pub mod BuildsCode
 pub mod Ends
 pub mod Found
 pub mod Goals
