@@ -3,7 +3,7 @@ use Rattle.std.proofs.Common.{◌≡◌, ℕ, ◌+◌, ◌<◌, List, [], ◌∷
 use Rattle.wa_types.specs.Leb.{IsUnsigned}
 use Rattle.wa_types.specs.Binary.{RawType, RawImport, RawGlobal, RawElem, RawBody, RawSegment, Section, types, imports, functions, globals, elements, bodies, segments, section_id}
 use Rattle.wa_types.specs.Spells.{Number, Items, Vector, Sized, Filling, FunctionType, ImportOf, GlobalOf, ElementOf, BodyOf, SegmentOf, ContentOf, SectionOf, Spells}
-use Rattle.wasm_reader.specs.declared.bounds.Bounds.{Bounds}
+use Rattle.wa_types.specs.ModuleBounds.{ModuleBounds}
 use Rattle.wasm_reader.specs.declared.marks.Marks.{Marks}
 use Rattle.wasm_reader.specs.declared.front.NotSpelled.{NotSpelled}
 use Rattle.wasm_reader.specs.declared.scan.entries.EntryKind.TheVariants.{AType, AnImport, AGlobal, AnElement, ABody, ASegment}
@@ -12,7 +12,7 @@ use Rattle.wasm_reader.specs.Scanning.{Seen, functions_seen, seen_in, Noted, Ski
 use Rattle.wasm_reader.proofs.Scans.{no_answer, Stepped, skip_as, scan_as, scan_skip, scan_never, never_scanned, number_then, byte_then, number_stop, noted_none, noted_both, number_same, taken, never_taken, never_skipped, place_left, place_at}
 
 -- the functions of a section, by their number
-pub counted : (b : Bounds) (sorts s : List ℕ) (size count : ℕ) (p q o p' : Place) (m n : Marks) → p.left ≡ s ++ q.left → length s ≡ size → q.at ≡ p.at + size
+pub counted : (b : ModuleBounds) (sorts s : List ℕ) (size count : ℕ) (p q o p' : Place) (m n : Marks) → p.left ≡ s ++ q.left → length s ≡ size → q.at ≡ p.at + size
     → o ≡ place_in s 0 → ReadsNumber (IsUnsigned 32) (Ok count) o p' → (length sorts ≡ count → Noted b (functions_seen sorts) m n) → Scans b (Filling size (Vector Number sorts)) (functions_seen sorts) p m (Ok tt) q n
 counted b sorts s size count p q o p' m n e l at inner read f = record {
   goes = λ front rest g h.
@@ -24,11 +24,11 @@ counted b sorts s size count p q o p' m n e l at inner read f = record {
 no_count : (n : ℕ) (r : Result ℕ NotSpelled) (d : NotSpelled) → r ≡ Err d → r ≡ Ok n → ⊥
 no_count n r d e f = cc
 
-pub not_taken : (b : Bounds) (sorts : List ℕ) (size : ℕ) (p q : Place) (m n : Marks) (r : Result (Unit {0}) NotSpelled) → length p.left < size → Scans b (Filling size (Vector Number sorts)) (functions_seen sorts) p m r q n
+pub not_taken : (b : ModuleBounds) (sorts : List ℕ) (size : ℕ) (p q : Place) (m n : Marks) (r : Result (Unit {0}) NotSpelled) → length p.left < size → Scans b (Filling size (Vector Number sorts)) (functions_seen sorts) p m r q n
 not_taken b sorts size p q m n r short =
     scan_never b (Filling size (Vector Number sorts)) (functions_seen sorts) p m r q n (λ front rest g h. never_taken p size front rest short g h.0)
 
-pub not_counted : (b : Bounds) (sorts s : List ℕ) (size : ℕ) (p q o p' p'' : Place) (m m' : Marks) (d : NotSpelled) (r : Result (Unit {0}) NotSpelled) → p.left ≡ s ++ q.left → length s ≡ size → q.at ≡ p.at + size
+pub not_counted : (b : ModuleBounds) (sorts s : List ℕ) (size : ℕ) (p q o p' p'' : Place) (m m' : Marks) (d : NotSpelled) (r : Result (Unit {0}) NotSpelled) → p.left ≡ s ++ q.left → length s ≡ size → q.at ≡ p.at + size
     → o ≡ place_in s 0 → ReadsNumber (IsUnsigned 32) (Err d) o p' → Scans b (Filling size (Vector Number sorts)) (functions_seen sorts) p m r p'' m'
 not_counted b sorts s size p q o p' p'' m m' d r e l at inner read =
     scan_never b (Filling size (Vector Number sorts)) (functions_seen sorts) p m r p'' m' (λ front rest g h.
@@ -36,7 +36,7 @@ not_counted b sorts s size p q o p' p'' m m' d r e l at inner read =
     no_count (length sorts) (Err d) d refl (read (length sorts) h.1.0 h.1.1 (ap (λ z. z.left) inner ∙ sym t.0 ∙ h.1.2) h.1.3).0)
 
 -- what a section holds, by its id
-module _ (b : Bounds) (size : ℕ) (p q : Place) (m n : Marks) (r : Result (Unit {0}) NotSpelled) where
+module _ (b : ModuleBounds) (size : ℕ) (p q : Place) (m n : Marks) (r : Result (Unit {0}) NotSpelled) where
   abbrev pub Here : (ℕ → List ℕ → Type 0) → Seen → Type 0
   Here P s = Scans b P s p m r q n
 
@@ -78,7 +78,7 @@ pub record Passed (id : ℕ) : Type 0 where
   pub no_bodies : id ≡ 10 → ⊥
   pub no_segments : id ≡ 11 → ⊥
 
-pub in_others : (b : Bounds) (size id : ℕ) (p q : Place) (m : Marks) (r : Result (Unit {0}) NotSpelled) (s : Section) → section_id s ≡ id → Passed id → Skips (Filled size) p r q → Scans b (Filling size (ContentOf s)) (seen_section b s) p m r q m
+pub in_others : (b : ModuleBounds) (size id : ℕ) (p q : Place) (m : Marks) (r : Result (Unit {0}) NotSpelled) (s : Section) → section_id s ≡ id → Passed id → Skips (Filled size) p r q → Scans b (Filling size (ContentOf s)) (seen_section b s) p m r q m
 in_others b size id p q m r (types xs) e f g = absurd (f.no_types (sym e))
 in_others b size id p q m r (imports xs) e f g = absurd (f.no_imports (sym e))
 in_others b size id p q m r (functions xs) e f g = absurd (f.no_functions (sym e))
@@ -90,7 +90,7 @@ in_others b size id p q m r s e f g =
     scan_skip b (Filling size (ContentOf s)) p m r q (skip_as (Filling size (ContentOf s)) (Filled size) p r q (λ at a h. h.0) g)
 
 -- a section, behind its id and its size
-pub section_then : (b : Bounds) (s : Section) (id size : ℕ) (p q q' p' : Place) (m m' : Marks) (r : Result (Unit {0}) NotSpelled) → Stepped id p q → ReadsNumber (IsUnsigned 32) (Ok size) q q'
+pub section_then : (b : ModuleBounds) (s : Section) (id size : ℕ) (p q q' p' : Place) (m m' : Marks) (r : Result (Unit {0}) NotSpelled) → Stepped id p q → ReadsNumber (IsUnsigned 32) (Ok size) q q'
     → (section_id s ≡ id → Scans b (Filling size (ContentOf s)) (seen_section b s) q' m r p' m') → Scans b (SectionOf s) (seen_section b s) p m r p' m'
 section_then b s id size p q q' p' m m' r step read f =
     byte_then b (Sized (ContentOf s)) (seen_section b s) p q p' m m' r id (section_id s) step
@@ -100,26 +100,26 @@ section_then b s id size p q q' p' m m' r step read f =
           (λ k. subst (λ z. Scans b (Filling z (ContentOf s)) (seen_section b s) q' m r p' m') (sym k) (f e))).goes front rest g h.1;
     })
 
-pub section_stop : (b : Bounds) (s : Section) (id : ℕ) (p q q' p' : Place) (m m' : Marks) (d : NotSpelled) (r : Result (Unit {0}) NotSpelled) → Stepped id p q → ReadsNumber (IsUnsigned 32) (Err d) q q' → Scans b (SectionOf s) (seen_section b s) p m r p' m'
+pub section_stop : (b : ModuleBounds) (s : Section) (id : ℕ) (p q q' p' : Place) (m m' : Marks) (d : NotSpelled) (r : Result (Unit {0}) NotSpelled) → Stepped id p q → ReadsNumber (IsUnsigned 32) (Err d) q q' → Scans b (SectionOf s) (seen_section b s) p m r p' m'
 section_stop b s id p q q' p' m m' d r step read =
     byte_then b (Sized (ContentOf s)) (seen_section b s) p q p' m m' r id (section_id s) step
     (λ e. record { goes = λ front rest g h. (number_stop b (Filling h.0 (ContentOf s)) (seen_section b s) h.0 q q' p' m m' d r read).goes front rest g h.1 })
 
-abbrev seen_all : Bounds → List Section → Seen
+abbrev seen_all : ModuleBounds → List Section → Seen
 seen_all b ss = seen_in (seen_section b) ss
 
 -- Sections up to the end of the file.
-pub record Closes (b : Bounds) (ss : List Section) (p : Place) (m : Marks) (r : Result (Unit {0}) NotSpelled) (n : Marks) : Type 0 where
+pub record Closes (b : ModuleBounds) (ss : List Section) (p : Place) (m : Marks) (r : Result (Unit {0}) NotSpelled) (n : Marks) : Type 0 where
   pub closes : Items SectionOf ss p.at p.left → (r ≡ Ok tt) × Noted b (seen_in (seen_section b) ss) m n
 
 -- what is scanned of the sections that are left is scanned of all
-pub record KeepsAll (b : Bounds) (p : Place) (m : Marks) (q : Place) (n : Marks) : Type 0 where
+pub record KeepsAll (b : ModuleBounds) (p : Place) (m : Marks) (q : Place) (n : Marks) : Type 0 where
   pub carries : (r : Result (Unit {0}) NotSpelled) (m' : Marks) → ((zs : List Section) → Closes b zs q n r m') → (ss : List Section) → Closes b ss p m r m'
 
-pub all_start : (b : Bounds) (p : Place) (m : Marks) → KeepsAll b p m p m
+pub all_start : (b : ModuleBounds) (p : Place) (m : Marks) → KeepsAll b p m p m
 all_start b p m = record { carries = λ r m' k ss. k ss }
 
-one_more : (b : Bounds) (q q' : Place) (n n' m' : Marks) (r : Result (Unit {0}) NotSpelled) (zs : List Section) → (q.left ≡ [] → ⊥) → ((s : Section) → Scans b (SectionOf s) (seen_section b s) q n (Ok tt) q' n')
+one_more : (b : ModuleBounds) (q q' : Place) (n n' m' : Marks) (r : Result (Unit {0}) NotSpelled) (zs : List Section) → (q.left ≡ [] → ⊥) → ((s : Section) → Scans b (SectionOf s) (seen_section b s) q n (Ok tt) q' n')
     → ((zs : List Section) → Closes b zs q' n' r m') → Closes b zs q n r m'
 one_more b q q' n n' m' r [] some read k = record { closes = λ h. absurd (some h) }
 one_more b q q' n n' m' r (z ∷ zs) some read k = record {
@@ -130,24 +130,24 @@ one_more b q q' n n' m' r (z ∷ zs) some read k = record {
       (y.0, noted_both b (seen_section b z) (seen_all b zs) n n' m' x.noted y.1);
 }
 
-pub all_more : (b : Bounds) (p q q' : Place) (m n n' : Marks) → KeepsAll b p m q n → (q.left ≡ [] → ⊥) → ((s : Section) → Scans b (SectionOf s) (seen_section b s) q n (Ok tt) q' n') → KeepsAll b p m q' n'
+pub all_more : (b : ModuleBounds) (p q q' : Place) (m n n' : Marks) → KeepsAll b p m q n → (q.left ≡ [] → ⊥) → ((s : Section) → Scans b (SectionOf s) (seen_section b s) q n (Ok tt) q' n') → KeepsAll b p m q' n'
 all_more b p q q' m n n' h some read = record { carries = λ r m' k ss. h.carries r m' (λ zs. one_more b q q' n n' m' r zs some read k) ss }
 
-none_more : (b : Bounds) (q q' : Place) (n n' m' : Marks) (d : NotSpelled) (r : Result (Unit {0}) NotSpelled) (zs : List Section) → (q.left ≡ [] → ⊥) → ((s : Section) → Scans b (SectionOf s) (seen_section b s) q n (Err d) q' n') → Closes b zs q n r m'
+none_more : (b : ModuleBounds) (q q' : Place) (n n' m' : Marks) (d : NotSpelled) (r : Result (Unit {0}) NotSpelled) (zs : List Section) → (q.left ≡ [] → ⊥) → ((s : Section) → Scans b (SectionOf s) (seen_section b s) q n (Err d) q' n') → Closes b zs q n r m'
 none_more b q q' n n' m' d r [] some read = record { closes = λ h. absurd (some h) }
 none_more b q q' n n' m' d r (z ∷ zs) some read = record { closes = λ h. absurd (never_scanned b (SectionOf z) (seen_section b z) q n d q' n' (read z) h.0 h.1 h.2 h.3) }
 
-pub all_stop : (b : Bounds) (p q q' : Place) (m n n' m' : Marks) (d : NotSpelled) (r : Result (Unit {0}) NotSpelled) → KeepsAll b p m q n → (q.left ≡ [] → ⊥) → ((s : Section) → Scans b (SectionOf s) (seen_section b s) q n (Err d) q' n') → (ss : List Section) → Closes b ss p m r m'
+pub all_stop : (b : ModuleBounds) (p q q' : Place) (m n n' m' : Marks) (d : NotSpelled) (r : Result (Unit {0}) NotSpelled) → KeepsAll b p m q n → (q.left ≡ [] → ⊥) → ((s : Section) → Scans b (SectionOf s) (seen_section b s) q n (Err d) q' n') → (ss : List Section) → Closes b ss p m r m'
 all_stop b p q q' m n n' m' d r h some read = h.carries r m' (λ zs. none_more b q q' n n' m' d r zs some read)
 
 section_some : (s : Section) (at : ℕ) (a : List ℕ) → SectionOf s at a → 0 < length a
 section_some s at a h = omega (arith, ap length h.2, length-append h.0 h.1, ap length h.3)
 
-nothing_left : (b : Bounds) (q : Place) (n : Marks) (zs : List Section) → q.left ≡ [] → Closes b zs q n (Ok tt) n
+nothing_left : (b : ModuleBounds) (q : Place) (n : Marks) (zs : List Section) → q.left ≡ [] → Closes b zs q n (Ok tt) n
 nothing_left b q n [] e = record { closes = λ h. (refl, noted_none b n) }
 nothing_left b q n (z ∷ zs) e = record { closes = λ h. absurd (omega (arith, ap length e, ap length h.2, length-append h.0 h.1, section_some z q.at h.0 h.3)) }
 
-pub all_done : (b : Bounds) (p q : Place) (m n : Marks) → KeepsAll b p m q n → q.left ≡ [] → (ss : List Section) → Closes b ss p m (Ok tt) n
+pub all_done : (b : ModuleBounds) (p q : Place) (m n : Marks) → KeepsAll b p m q n → q.left ≡ [] → (ss : List Section) → Closes b ss p m (Ok tt) n
 all_done b p q m n h e = h.carries (Ok tt) n (λ zs. nothing_left b q n zs e)
 
 -- behind the preamble
@@ -164,5 +164,5 @@ never_begun bytes ss p q d e f s =
     absurd (never_skipped (Filled 8) p d q f h.0 h.1 (ap (λ z. z.left) e ∙ h.2) (ap length h.3))
 
 -- a section fails
-pub never_closes : {A : Type 0} (b : Bounds) (ss : List Section) (p : Place) (m n : Marks) (d : NotSpelled) → Closes b ss p m (Err d) n → Items SectionOf ss p.at p.left → A
+pub never_closes : {A : Type 0} (b : ModuleBounds) (ss : List Section) (p : Place) (m n : Marks) (d : NotSpelled) → Closes b ss p m (Err d) n → Items SectionOf ss p.at p.left → A
 never_closes b ss p m n d f h = no_answer d (Err d) refl (f.closes h).0

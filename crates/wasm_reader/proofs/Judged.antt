@@ -10,7 +10,7 @@ use Rattle.wa_types.specs.Spells.{◌▸◌, Exactly, Number, Items, Vector, Byt
 use Rattle.wa_types.specs.Reading.{types_in, imports_in}
 use Rattle.wa_types.specs.Marks.{place_if, float_type, code_floats, kind_sorts, code_opens, section_floats, section_opens, floats, opens, imported_sorts, function_count, parameter_counts, body_sizes, first_above}
 use Rattle.wa_types.proofs.NumberReading.{unsigned_some}
-use Rattle.wasm_reader.specs.declared.bounds.Bounds.{Bounds}
+use Rattle.wa_types.specs.ModuleBounds.{ModuleBounds}
 use Rattle.wasm_reader.specs.declared.marks.Marks.{Marks}
 use Rattle.wasm_reader.specs.declared.scan.entries.EntryKind.{EntryKind}
 use Rattle.wasm_reader.specs.declared.scan.entries.EntryKind.TheVariants.{AType, AnImport, AGlobal, AnElement, ABody, ASegment}
@@ -114,7 +114,7 @@ holds_op op t u at a h =
 assoc_three : (a b c : List ℕ) → a ++ (b ++ c) ≡ a ++ b ++ c
 assoc_three a b c = sym (append_assoc a b c)
 
-holds_level : (c : RawCode) (P Q : ℕ → List ℕ → Type 0) (op result : Placed) (body rest : RawCode) (b : Bounds) (level : ℕ)
+holds_level : (c : RawCode) (P Q : ℕ → List ℕ → Type 0) (op result : Placed) (body rest : RawCode) (b : ModuleBounds) (level : ℕ)
     → code_floats c ≡ float_type result ++ code_floats body ++ code_floats rest
     → code_opens b.nesting level c ≡ place_if (nat_le b.nesting level) op.place ++ code_opens b.nesting (level + 1) body ++ code_opens b.nesting level rest
     → Holds P (seen_code b (level + 1) body) → Holds Q (seen_code b level rest) → Holds (Byte op ▸ BlockType result ▸ P ▸ Q) (seen_code b level c)
@@ -130,7 +130,7 @@ holds_level c P Q op result body rest b level e f g h at a w =
       funcs = omega arith;
     }
 
-holds_code : (c : RawCode) (first_arm : Bool) (b : Bounds) (level : ℕ) → Holds (CodeOf first_arm c) (seen_code b level c)
+holds_code : (c : RawCode) (first_arm : Bool) (b : ModuleBounds) (level : ℕ) → Holds (CodeOf first_arm c) (seen_code b level c)
 holds_code (ended k) first_arm b level = holds_nothing (CodeOf first_arm (ended k))
 holds_code (otherwise k arm) first_arm b level = λ at a h. holds_behind (Byte (record { place = k; byte = 0x05 })) (CodeOf false arm) (seen_code b level arm) (holds_code arm false b level) at a h.1
 holds_code (instr op o rest) first_arm b level = λ at a h.
@@ -173,7 +173,7 @@ holds_run r = holds_behind (Number r.count) (ValueType r.ty) (seen_placed r.ty) 
 abbrev seen_run : RawRun → Seen
 seen_run r = seen_placed r.ty
 
-holds_body : (b : Bounds) (x : RawBody) → Holds (BodyOf x) (seen_body b x)
+holds_body : (b : ModuleBounds) (x : RawBody) → Holds (BodyOf x) (seen_body b x)
 holds_body b x at a h =
     let P = Vector RunOf x.locals in
     let Q = Expression x.code in
@@ -183,7 +183,7 @@ holds_body b x at a h =
     (λ k d w. holds_both P Q s u (λ j e v. floats_only (seen_in seen_run x.locals) j e (holds_vector RunOf seen_run holds_run x.locals j e v)) (holds_code x.code false b 0) k d w.1) at a h in
     record { floats = y.floats; opens = y.opens; funcs = y.funcs }
 
-holds_entry : (b : Bounds) (k : EntryKind) (x : EntryOf k) → Holds (EntryIs k x) (seen_entry b k x)
+holds_entry : (b : ModuleBounds) (k : EntryKind) (x : EntryOf k) → Holds (EntryIs k x) (seen_entry b k x)
 holds_entry b AType x = holds_func_type x
 holds_entry b AnImport x = holds_behind (Text x.module_name) (Text x.base ▸ ImportKindOf x.kind) (seen_kind x.kind) (holds_behind (Text x.base) (ImportKindOf x.kind) (seen_kind x.kind) (holds_kind x.kind))
 holds_entry b AGlobal x = holds_both (GlobalType x.ty x.mutable) (Expression x.init) (seen_placed x.ty) (seen_code b 0 x.init) (holds_global_type x.ty x.mutable) (holds_code x.init false b 0)
@@ -203,7 +203,7 @@ numbers_fit (n ∷ ns) at a h = omega (arith, ap length h.2, length-append h.0 h
 holds_sorts : (sorts : List ℕ) → Holds (Vector Number sorts) (functions_seen sorts)
 holds_sorts sorts at a h = record { floats = omega arith; opens = omega arith; funcs = omega (arith, ap length h.2, length-append h.0 h.1, numbers_fit sorts (at + length h.0) h.1 h.4) }
 
-holds_content : (b : Bounds) (s : Section) → Holds (ContentOf s) (seen_section b s)
+holds_content : (b : ModuleBounds) (s : Section) → Holds (ContentOf s) (seen_section b s)
 holds_content b (types xs) = holds_vector FunctionType (seen_entry b AType) (holds_entry b AType) xs
 holds_content b (imports xs) = holds_vector ImportOf (seen_entry b AnImport) (holds_entry b AnImport) xs
 holds_content b (functions xs) = holds_sorts xs
@@ -213,12 +213,12 @@ holds_content b (bodies xs) = holds_vector BodyOf (seen_entry b ABody) (holds_en
 holds_content b (segments xs) = holds_vector SegmentOf (seen_entry b ASegment) (holds_entry b ASegment) xs
 holds_content b s = holds_nothing (ContentOf s)
 
-holds_section : (b : Bounds) (s : Section) → Holds (SectionOf s) (seen_section b s)
+holds_section : (b : ModuleBounds) (s : Section) → Holds (SectionOf s) (seen_section b s)
 holds_section b s =
     holds_behind (Exactly (section_id s ∷ [])) (Sized (ContentOf s)) (seen_section b s)
     (λ at a h. holds_behind (Number h.0) (Filling h.0 (ContentOf s)) (seen_section b s) (λ k d w. holds_content b s k d w.1) at a h.1)
 
-holds_file : (b : Bounds) (ss : List Section) (bytes : List ℕ) → Spells bytes ss → Held (seen_in (seen_section b) ss) 0 bytes
+holds_file : (b : ModuleBounds) (ss : List Section) (bytes : List ℕ) → Spells bytes ss → Held (seen_in (seen_section b) ss) 0 bytes
 holds_file b ss bytes s = holds_behind (Exactly preamble) (Items SectionOf ss) (seen_in (seen_section b) ss) (holds_items SectionOf (seen_section b) (holds_section b) ss) 0 bytes s.parts
 
 -- What stands in the sections, by the definitions of marks.
@@ -239,7 +239,7 @@ map_both : {X : Type 0} (f : X → ℕ) (xs ys : List X) → map f (xs ++ ys) �
 map_both f [] ys = refl
 map_both f (x ∷ xs) ys = ap (λ z. f x ∷ z) (map_both f xs ys)
 
-floats_of : (b : Bounds) (s : Section) → (seen_section b s).floats_at ≡ section_floats s
+floats_of : (b : ModuleBounds) (s : Section) → (seen_section b s).floats_at ≡ section_floats s
 floats_of b (types xs) = refl
 floats_of b (imports xs) = refl
 floats_of b (functions xs) = refl
@@ -249,7 +249,7 @@ floats_of b (bodies xs) = refl
 floats_of b (segments xs) = refl
 floats_of b _ = refl
 
-opens_of : (b : Bounds) (s : Section) → (seen_section b s).opens_at ≡ section_opens b.nesting s
+opens_of : (b : ModuleBounds) (s : Section) → (seen_section b s).opens_at ≡ section_opens b.nesting s
 opens_of b (types xs) = flat_nothing xs
 opens_of b (imports xs) = flat_nothing xs
 opens_of b (functions xs) = refl
@@ -262,7 +262,7 @@ opens_of b _ = refl
 abbrev sorts_of_import : RawImport → List ℕ
 sorts_of_import i = kind_sorts i.kind
 
-funcs_of : (b : Bounds) (s : Section) → length (seen_section b s).funcs ≡ length (flat_map sorts_of_import (imports_in s)) + length (sorts_in s)
+funcs_of : (b : ModuleBounds) (s : Section) → length (seen_section b s).funcs ≡ length (flat_map sorts_of_import (imports_in s)) + length (sorts_in s)
 funcs_of b (types xs) = ap length (flat_nothing xs)
 funcs_of b (imports xs) = omega arith
 funcs_of b (functions xs) = omega arith
@@ -272,7 +272,7 @@ funcs_of b (bodies xs) = ap length (flat_nothing xs)
 funcs_of b (segments xs) = ap length (flat_nothing xs)
 funcs_of b _ = refl
 
-funcs_all : (b : Bounds) (ss : List Section) → length (flat_map (λ s. (seen_section b s).funcs) ss) ≡ function_count ss
+funcs_all : (b : ModuleBounds) (ss : List Section) → length (flat_map (λ s. (seen_section b s).funcs) ss) ≡ function_count ss
 funcs_all b [] = refl
 funcs_all b (s ∷ ss) =
     omega (
@@ -288,7 +288,7 @@ funcs_all b (s ∷ ss) =
 abbrev params_of : RawType → ℕ
 params_of t = length t.params
 
-parameters_of : (b : Bounds) (s : Section) → (seen_section b s).params ≡ map params_of (types_in s)
+parameters_of : (b : ModuleBounds) (s : Section) → (seen_section b s).params ≡ map params_of (types_in s)
 parameters_of b (types xs) = flat_map_single params_of xs
 parameters_of b (imports xs) = flat_nothing xs
 parameters_of b (functions xs) = refl
@@ -298,7 +298,7 @@ parameters_of b (bodies xs) = flat_nothing xs
 parameters_of b (segments xs) = flat_nothing xs
 parameters_of b _ = refl
 
-parameters_all : (b : Bounds) (ss : List Section) → flat_map (λ s. (seen_section b s).params) ss ≡ parameter_counts ss
+parameters_all : (b : ModuleBounds) (ss : List Section) → flat_map (λ s. (seen_section b s).params) ss ≡ parameter_counts ss
 parameters_all b [] = refl
 parameters_all b (s ∷ ss) =
     ap (λ z. z ++ flat_map (λ s. (seen_section b s).params) ss) (parameters_of b s) ∙ ap (λ z. map params_of (types_in s) ++ z) (parameters_all b ss) ∙ sym (map_both params_of (types_in s) (flat_map types_in ss))
@@ -306,7 +306,7 @@ parameters_all b (s ∷ ss) =
 abbrev size_of : RawBody → ℕ
 size_of x = x.size
 
-sizes_of : (b : Bounds) (s : Section) → (seen_section b s).sizes ≡ map size_of (bodies_in s)
+sizes_of : (b : ModuleBounds) (s : Section) → (seen_section b s).sizes ≡ map size_of (bodies_in s)
 sizes_of b (types xs) = flat_nothing xs
 sizes_of b (imports xs) = flat_nothing xs
 sizes_of b (functions xs) = refl
@@ -316,7 +316,7 @@ sizes_of b (bodies xs) = flat_map_single size_of xs
 sizes_of b (segments xs) = flat_nothing xs
 sizes_of b _ = refl
 
-sizes_all : (b : Bounds) (ss : List Section) → flat_map (λ s. (seen_section b s).sizes) ss ≡ body_sizes ss
+sizes_all : (b : ModuleBounds) (ss : List Section) → flat_map (λ s. (seen_section b s).sizes) ss ≡ body_sizes ss
 sizes_all b [] = refl
 sizes_all b (s ∷ ss) =
     ap (λ z. z ++ flat_map (λ s. (seen_section b s).sizes) ss) (sizes_of b s) ∙ ap (λ z. map size_of (bodies_in s) ++ z) (sizes_all b ss) ∙ sym (map_both size_of (bodies_in s) (flat_map bodies_in ss))
@@ -324,7 +324,7 @@ sizes_all b (s ∷ ss) =
 first_in : (o : Option ℕ) (ks js : List ℕ) (high : ℕ) → o ≡ first_of None ks → ks ≡ js → Within 0 high ks → IsFirst o js
 first_in o ks js high e f h = subst (λ z. IsFirst z js) (sym e) (subst (λ z. IsFirst (first_of None ks) z) f (first_is_least ks 0 high h))
 
-pub judged : (b : Bounds) (ss : List Section) (bytes : List ℕ) (n m : Marks) → Spells bytes ss → length bytes < 2 ^ 32 → n ≡ (let z : Marks = record { float = None; functions = 0; parameters = None; body = None; deep = None } in z)
+pub judged : (b : ModuleBounds) (ss : List Section) (bytes : List ℕ) (n m : Marks) → Spells bytes ss → length bytes < 2 ^ 32 → n ≡ (let z : Marks = record { float = None; functions = 0; parameters = None; body = None; deep = None } in z)
     → Noted b (seen_in (seen_section b) ss) n m → MarksOf b ss m
 judged b ss bytes n m s short e noted =
     let held = holds_file b ss bytes s in

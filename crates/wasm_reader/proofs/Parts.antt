@@ -5,7 +5,7 @@ use Rattle.wa_types.specs.declared.syntax.Limits.{Limits}
 use Rattle.wa_types.specs.Binary.{Placed, RawType, RawKind, raw_func, raw_table, raw_memory, raw_global, RawImport, RawBody}
 use Rattle.wa_types.specs.Spells.{◌▸◌, Exactly, Number, Items, Vector, ValueType, FunctionType, LimitsOf, TableType, GlobalType, ImportKindOf, ImportOf, Text, Expression, RunOf, BodyOf, Filling}
 use Rattle.wa_types.proofs.Going.{to_right, on_left, on_right}
-use Rattle.wasm_reader.specs.declared.bounds.Bounds.{Bounds}
+use Rattle.wa_types.specs.ModuleBounds.{ModuleBounds}
 use Rattle.wasm_reader.specs.declared.marks.Marks.{Marks}
 use Rattle.wasm_reader.specs.declared.front.NotSpelled.{NotSpelled}
 use Rattle.wasm_reader.specs.Places.{Place}
@@ -35,7 +35,7 @@ type_parts t at a h =
     on_right (Exactly (0x60 ∷ [])) (Vector ValueType t.params ▸ Vector ValueType t.results) (Number (length t.params) ▸ Items ValueType t.params ▸ Number (length t.results) ▸ Items ValueType t.results) at a
     (λ k b w. to_right (Number (length t.params)) (Items ValueType t.params) (Vector ValueType t.results) k b w) h
 
-module _ (b : Bounds) (p q p' : Place) (m m' : Marks) (r : Result (Unit {0}) NotSpelled) where
+module _ (b : ModuleBounds) (p q p' : Place) (m m' : Marks) (r : Result (Unit {0}) NotSpelled) where
   kind_byte : RawKind → ℕ
   kind_byte (raw_func sort) = 0
   kind_byte (raw_table l) = 1

@@ -4,7 +4,7 @@ use Rattle.wa_types.specs.Leb.{IsUnsigned}
 use Rattle.wa_types.specs.Binary.{Placed}
 use Rattle.wa_types.specs.Spells.{◌▸◌, Exactly, Number, Byte, Items}
 use Rattle.wa_types.specs.Marks.{first_above}
-use Rattle.wasm_reader.specs.declared.bounds.Bounds.{Bounds}
+use Rattle.wa_types.specs.ModuleBounds.{ModuleBounds}
 use Rattle.wasm_reader.specs.declared.marks.Marks.{Marks}
 use Rattle.wasm_reader.specs.declared.front.NotSpelled.{NotSpelled}
 use Rattle.wasm_reader.specs.Places.{Place, behind, ReadsNumber}
@@ -36,7 +36,7 @@ above_both : (b : ℕ) (o : Option ℕ) (ns ks : List ℕ) → above_of b o (ns 
 above_both b None ns ks = above_list b ns ks
 above_both b (Some k) ns ks = refl
 
-pub noted_none : (b : Bounds) (m : Marks) → Noted b nothing_seen m m
+pub noted_none : (b : ModuleBounds) (m : Marks) → Noted b nothing_seen m m
 noted_none b m = record {
   float = sym (first_none m.float);
   functions = λ h. omega arith;
@@ -45,7 +45,7 @@ noted_none b m = record {
   deep = sym (first_none m.deep);
 }
 
-pub noted_both : (b : Bounds) (s t : Seen) (l m n : Marks) → Noted b s l m → Noted b t m n → Noted b (both s t) l n
+pub noted_both : (b : ModuleBounds) (s t : Seen) (l m n : Marks) → Noted b s l m → Noted b t m n → Noted b (both s t) l n
 noted_both b s t l m n f g = record {
   float = g.float ∙ ap (λ o. first_of o t.floats_at) f.float ∙ sym (first_both l.float s.floats_at t.floats_at);
   functions = λ h.
@@ -77,7 +77,7 @@ cut p a b front rest e f = e ∙ ap (λ z. z ++ rest) f ∙ append_assoc a b res
 pub no_answer : {A : Type 0} (e : NotSpelled) (r : Result (Unit {0}) NotSpelled) → r ≡ Err e → r ≡ Ok tt → A
 no_answer e r g h = absurd (cc)
 
-module _ (b : Bounds) where
+module _ (b : ModuleBounds) where
   -- what a part's spelling says, said of it another way
   pub scan_as : (P Q : ℕ → List ℕ → Type 0) (s : Seen) (p : Place) (m : Marks) (r : Result (Unit {0}) NotSpelled) (q : Place) (n : Marks) → ((at : ℕ) (a : List ℕ) → P at a → Q at a) → Scans b Q s p m r q n → Scans b P s p m r q n
   scan_as P Q s p m r q n f g = record { goes = λ front rest e h. g.goes front rest e (f p.at front h) }
@@ -164,7 +164,7 @@ never_number n p q d f front rest e h = let g = (f n front rest e h).0 in cc
 pub number_same : (v n : ℕ) (r : Result ℕ NotSpelled) → r ≡ Ok v → r ≡ Ok n → n ≡ v
 number_same v n r e f = cc
 
-module _ (b : Bounds) (Q : ℕ → List ℕ → Type 0) (t : Seen) (p q p' : Place) (m m' : Marks) (r : Result (Unit {0}) NotSpelled) where
+module _ (b : ModuleBounds) (Q : ℕ → List ℕ → Type 0) (t : Seen) (p q p' : Place) (m m' : Marks) (r : Result (Unit {0}) NotSpelled) where
   -- a number, and a part behind it
   pub number_then : (v n : ℕ) → ReadsNumber (IsUnsigned 32) (Ok v) p q → (n ≡ v → Scans b Q t q m r p' m') → Scans b (Number n ▸ Q) t p m r p' m'
   number_then v n f g = record {
@@ -193,7 +193,7 @@ module _ (b : Bounds) (Q : ℕ → List ℕ → Type 0) (t : Seen) (p q p' : Pla
   }
 
 -- a byte at its place
-pub placed_scan : (b : Bounds) (s : Seen) (v : ℕ) (x : Placed) (p q : Place) (m n : Marks) → Stepped v p q → (x.byte ≡ v → x.place ≡ p.at → Noted b s m n) → Scans b (Byte x) s p m (Ok tt) q n
+pub placed_scan : (b : ModuleBounds) (s : Seen) (v : ℕ) (x : Placed) (p q : Place) (m n : Marks) → Stepped v p q → (x.byte ≡ v → x.place ≡ p.at → Noted b s m n) → Scans b (Byte x) s p m (Ok tt) q n
 placed_scan b s v x p q m n f g = record {
   goes = λ front rest e h.
       let u = stepped v x.byte p q front rest f e h.1 in
@@ -267,10 +267,10 @@ pub never_taken : (p : Place) (n : ℕ) (front rest : List ℕ) → length p.lef
 never_taken p n front rest short e k = omega (arith, short, ap length e, length-append front rest, k)
 
 -- Entries, one by one: what is scanned of those that are left is scanned of all.
-pub record Keeps {X : Type 0} (b : Bounds) (F : X → ℕ → List ℕ → Type 0) (f : X → Seen) (count done : ℕ) (p : Place) (m : Marks) (q : Place) (n : Marks) : Type 0 where
+pub record Keeps {X : Type 0} (b : ModuleBounds) (F : X → ℕ → List ℕ → Type 0) (f : X → Seen) (count done : ℕ) (p : Place) (m : Marks) (q : Place) (n : Marks) : Type 0 where
   pub carries : (r : Result (Unit {0}) NotSpelled) (p' : Place) (m' : Marks) → ((zs : List X) → done + length zs ≡ count → Scans b (Items F zs) (seen_in f zs) q n r p' m') → (xs : List X) → length xs ≡ count → Scans b (Items F xs) (seen_in f xs) p m r p' m'
 
-module _ {X : Type 0} (b : Bounds) (F : X → ℕ → List ℕ → Type 0) (f : X → Seen) where
+module _ {X : Type 0} (b : ModuleBounds) (F : X → ℕ → List ℕ → Type 0) (f : X → Seen) where
   pub keeps_start : (count done : ℕ) (p : Place) (m : Marks) → done ≡ 0 → Keeps b F f count done p m p m
   keeps_start count done p m e = record { carries = λ r p' m' k xs l. k xs (omega (arith, e, l)) }
 
@@ -299,7 +299,7 @@ module _ {X : Type 0} (b : Bounds) (F : X → ℕ → List ℕ → Type 0) (f : 
   pub keeps_all : (count done : ℕ) (p q : Place) (m n : Marks) → Keeps b F f count done p m q n → done ≡ count → (xs : List X) → length xs ≡ count → Scans b (Items F xs) (seen_in f xs) p m (Ok tt) q n
   keeps_all count done p q m n h e = h.carries (Ok tt) q n (λ zs. all_done count done q n zs e)
 
-pub scan_then_skip : (b : Bounds) (P Q : ℕ → List ℕ → Type 0) (s : Seen) (p q p' : Place) (m n : Marks) (r : Result (Unit {0}) NotSpelled) → Scans b P s p m (Ok tt) q n → Skips Q q r p' → Scans b (P ▸ Q) s p m r p' n
+pub scan_then_skip : (b : ModuleBounds) (P Q : ℕ → List ℕ → Type 0) (s : Seen) (p q p' : Place) (m n : Marks) (r : Result (Unit {0}) NotSpelled) → Scans b P s p m (Ok tt) q n → Skips Q q r p' → Scans b (P ▸ Q) s p m r p' n
 scan_then_skip b P Q s p q p' m n r f g = record {
   goes = λ front rest e h.
       let x = f.goes h.0 (h.1 ++ rest) (cut p h.0 h.1 front rest e h.2) h.3 in
@@ -308,17 +308,17 @@ scan_then_skip b P Q s p q p' m n r f g = record {
 }
 
 -- a part fails, and nothing behind it counts
-pub scan_fail : (b : Bounds) (P Q : ℕ → List ℕ → Type 0) (s t : Seen) (p q p' : Place) (l m n m' : Marks) (d : NotSpelled) (r : Result (Unit {0}) NotSpelled) → Scans b P s p l (Err d) q n → Scans b (P ▸ Q) t p m r p' m'
+pub scan_fail : (b : ModuleBounds) (P Q : ℕ → List ℕ → Type 0) (s t : Seen) (p q p' : Place) (l m n m' : Marks) (d : NotSpelled) (r : Result (Unit {0}) NotSpelled) → Scans b P s p l (Err d) q n → Scans b (P ▸ Q) t p m r p' m'
 scan_fail b P Q s t p q p' l m n m' d r f = scan_never b (P ▸ Q) t p m r p' m' (never_then P Q p (never_scanned b P s p l d q n f))
 
-pub scan_stop : (b : Bounds) (P Q : ℕ → List ℕ → Type 0) (s t : Seen) (p q p' : Place) (m n m' : Marks) (d : NotSpelled) (r : Result (Unit {0}) NotSpelled) → Scans b P s p m (Err d) q n → Scans b (P ▸ Q) t p m r p' m'
+pub scan_stop : (b : ModuleBounds) (P Q : ℕ → List ℕ → Type 0) (s t : Seen) (p q p' : Place) (m n m' : Marks) (d : NotSpelled) (r : Result (Unit {0}) NotSpelled) → Scans b P s p m (Err d) q n → Scans b (P ▸ Q) t p m r p' m'
 scan_stop b P Q s t p q p' m n m' d r f = scan_never b (P ▸ Q) t p m r p' m' (never_then P Q p (never_scanned b P s p m d q n f))
 
-pub skip_stop : (b : Bounds) (P Q : ℕ → List ℕ → Type 0) (t : Seen) (p q p' : Place) (m m' : Marks) (d : NotSpelled) (r : Result (Unit {0}) NotSpelled) → Skips P p (Err d) q → Scans b (P ▸ Q) t p m r p' m'
+pub skip_stop : (b : ModuleBounds) (P Q : ℕ → List ℕ → Type 0) (t : Seen) (p q p' : Place) (m m' : Marks) (d : NotSpelled) (r : Result (Unit {0}) NotSpelled) → Skips P p (Err d) q → Scans b (P ▸ Q) t p m r p' m'
 skip_stop b P Q t p q p' m m' d r f = scan_never b (P ▸ Q) t p m r p' m' (never_then P Q p (never_skipped P p d q f))
 
-pub number_stop : (b : Bounds) (Q : ℕ → List ℕ → Type 0) (t : Seen) (n : ℕ) (p q p' : Place) (m m' : Marks) (d : NotSpelled) (r : Result (Unit {0}) NotSpelled) → ReadsNumber (IsUnsigned 32) (Err d) p q → Scans b (Number n ▸ Q) t p m r p' m'
+pub number_stop : (b : ModuleBounds) (Q : ℕ → List ℕ → Type 0) (t : Seen) (n : ℕ) (p q p' : Place) (m m' : Marks) (d : NotSpelled) (r : Result (Unit {0}) NotSpelled) → ReadsNumber (IsUnsigned 32) (Err d) p q → Scans b (Number n ▸ Q) t p m r p' m'
 number_stop b Q t n p q p' m m' d r f = scan_never b (Number n ▸ Q) t p m r p' m' (never_then (Number n) Q p (never_number n p q d f))
 
-pub byte_stop : (b : Bounds) (Q : ℕ → List ℕ → Type 0) (t : Seen) (x : ℕ) (p p' : Place) (m m' : Marks) (r : Result (Unit {0}) NotSpelled) → p.left ≡ [] → Scans b (Exactly (x ∷ []) ▸ Q) t p m r p' m'
+pub byte_stop : (b : ModuleBounds) (Q : ℕ → List ℕ → Type 0) (t : Seen) (x : ℕ) (p p' : Place) (m m' : Marks) (r : Result (Unit {0}) NotSpelled) → p.left ≡ [] → Scans b (Exactly (x ∷ []) ▸ Q) t p m r p' m'
 byte_stop b Q t x p p' m m' r f = scan_never b (Exactly (x ∷ []) ▸ Q) t p m r p' m' (never_then (Exactly (x ∷ [])) Q p (λ front rest e h. never_byte x p front rest f e h))

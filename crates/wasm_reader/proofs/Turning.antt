@@ -6,7 +6,7 @@ use Rattle.wa_types.specs.Spells.{◌▸◌, Exactly, Number, SignedNumber, Vect
 use Rattle.wa_types.specs.Marks.{place_if, float_type, code_floats, code_opens}
 use Rattle.wa_types.proofs.CodeReads.{nest_range}
 use Rattle.wa_types.proofs.Going.{to_right, on_left, on_right}
-use Rattle.wasm_reader.specs.declared.bounds.Bounds.{Bounds}
+use Rattle.wa_types.specs.ModuleBounds.{ModuleBounds}
 use Rattle.wasm_reader.specs.declared.marks.Marks.{Marks}
 use Rattle.wasm_reader.specs.declared.front.NotSpelled.{NotSpelled}
 use Rattle.wasm_reader.specs.Places.{Place}
@@ -178,7 +178,7 @@ branched_part : (op result : Placed) (arms rest : RawCode) (cs : List RawCode) (
 branched_part op result arms rest cs at a h = level_part (branched op result arms rest) op result arms rest cs at a (λ d w. inner_part true w.0 op result arms rest at d w.1.1) h
 
 -- what stands in a construct
-level_seen : (b : Bounds) (c : RawCode) (op result : Placed) (body rest : RawCode) (cs : List RawCode) (at : ℕ) → op.place ≡ at
+level_seen : (b : ModuleBounds) (c : RawCode) (op result : Placed) (body rest : RawCode) (cs : List RawCode) (at : ℕ) → op.place ≡ at
     → code_floats c ≡ float_type result ++ code_floats body ++ code_floats rest
     → code_opens b.nesting (length cs) c ≡ place_if (nat_le b.nesting (length cs)) op.place ++ code_opens b.nesting (length cs + 1) body ++ code_opens b.nesting (length cs) rest
     → both (opens_seen (place_if (nat_le b.nesting (length cs)) at)) (both (seen_placed result) (seen_levels b (body ∷ rest ∷ cs))) ≡ seen_levels b (c ∷ cs)
@@ -195,7 +195,7 @@ level_seen b c op result body rest cs at e f g =
     ∙ ap (λ z. z ++ s.opens_at) (sym g) in
     λ i. record { floats_at = floats i; opens_at = opens i; funcs = s.funcs; params = s.params; sizes = s.sizes }
 
-instr_seen : (b : Bounds) (op : Placed) (o : Operands) (rest : RawCode) (cs : List RawCode) (v at : ℕ) → op.byte ≡ v → op.place ≡ at
+instr_seen : (b : ModuleBounds) (op : Placed) (o : Operands) (rest : RawCode) (cs : List RawCode) (v at : ℕ) → op.byte ≡ v → op.place ≡ at
     → both (floats_seen (place_if (is_float_op v) at)) (seen_levels b (rest ∷ cs)) ≡ seen_levels b (instr op o rest ∷ cs)
 instr_seen b op o rest cs v at e f =
     let s = seen_levels b cs in
@@ -206,7 +206,7 @@ instr_seen b op o rest cs v at e f =
     λ i. record { floats_at = floats i; opens_at = code_opens b.nesting (length cs) rest ++ s.opens_at; funcs = s.funcs; params = s.params; sizes = s.sizes }
 
 -- The arms of an instruction.
-module _ (b : Bounds) (v : ℕ) (p q p' : Place) (m m' : Marks) (r : Result (Unit {0}) NotSpelled) (step : Stepped v p q) where
+module _ (b : ModuleBounds) (v : ℕ) (p q p' : Place) (m m' : Marks) (r : Result (Unit {0}) NotSpelled) (step : Stepped v p q) where
   other_head : (c : RawCode) (cs : List RawCode) → (Tagged v (kind c) → ⊥) → Scans b (Items Arm (c ∷ cs)) (seen_levels b (c ∷ cs)) p m r p' m'
   other_head c cs f = scan_never b (Items Arm (c ∷ cs)) (seen_levels b (c ∷ cs)) p m r p' m' (λ front rest e h. f (head_is c cs v p q front rest step e h))
 
@@ -260,43 +260,43 @@ module _ (b : Bounds) (v : ℕ) (p q p' : Place) (m m' : Marks) (r : Result (Uni
   arm_plain c cs n d e g noted f = other_head c cs (λ t. omega (arith, t.is_plain d e g))
 
 -- no code stands where no byte is left
-pub no_code : (b : Bounds) (c : RawCode) (cs : List RawCode) (s : Seen) (p p' : Place) (m m' : Marks) (r : Result (Unit {0}) NotSpelled) → p.left ≡ [] → Scans b (Items Arm (c ∷ cs)) s p m r p' m'
+pub no_code : (b : ModuleBounds) (c : RawCode) (cs : List RawCode) (s : Seen) (p p' : Place) (m m' : Marks) (r : Result (Unit {0}) NotSpelled) → p.left ≡ [] → Scans b (Items Arm (c ∷ cs)) s p m r p' m'
 no_code b c cs s p p' m m' r e = scan_never b (Items Arm (c ∷ cs)) s p m r p' m' (λ front rest f h. never_empty c cs p front rest e f h)
 
 -- one level at least stands open
-pub by_first : (b : Bounds) (level : ℕ) (cs : List RawCode) (p p' : Place) (m m' : Marks) (r : Result (Unit {0}) NotSpelled) → length cs ≡ level + 1
+pub by_first : (b : ModuleBounds) (level : ℕ) (cs : List RawCode) (p p' : Place) (m m' : Marks) (r : Result (Unit {0}) NotSpelled) → length cs ≡ level + 1
     → ((c : RawCode) (ds : List RawCode) → length ds ≡ level → Scans b (Items Arm (c ∷ ds)) (seen_levels b (c ∷ ds)) p m r p' m') → Scans b (Items Arm cs) (seen_levels b cs) p m r p' m'
 by_first b level [] p p' m m' r e f = absurd (omega (arith, e))
 by_first b level (c ∷ cs) p p' m m' r e f = f c cs (omega (arith, e))
 
 -- none stands open
-pub no_level : (b : Bounds) (cs : List RawCode) (p : Place) (m : Marks) → length cs ≡ 0 → Scans b (Items Arm cs) (seen_levels b cs) p m (Ok tt) p m
+pub no_level : (b : ModuleBounds) (cs : List RawCode) (p : Place) (m : Marks) → length cs ≡ 0 → Scans b (Items Arm cs) (seen_levels b cs) p m (Ok tt) p m
 no_level b [] p m e = scan_nothing b p m
 no_level b (c ∷ cs) p m e = absurd (omega (arith, e))
 
 -- an expression is the code of one level
-pub one_level : (b : Bounds) (c : RawCode) (p p' : Place) (m m' : Marks) (r : Result (Unit {0}) NotSpelled) → Scans b (Items Arm (c ∷ [])) (seen_levels b (c ∷ [])) p m r p' m' → Scans b (Expression c) (seen_code b 0 c) p m r p' m'
+pub one_level : (b : ModuleBounds) (c : RawCode) (p p' : Place) (m m' : Marks) (r : Result (Unit {0}) NotSpelled) → Scans b (Items Arm (c ∷ [])) (seen_levels b (c ∷ [])) p m r p' m' → Scans b (Expression c) (seen_code b 0 c) p m r p' m'
 one_level b c p p' m m' r f =
     let seen : seen_levels b (c ∷ []) ≡ seen_code b 0 c = λ i. record { floats_at = append-nil (code_floats c) i; opens_at = append-nil (code_opens b.nesting 0 c) i; funcs = []; params = []; sizes = [] } in
     scan_same b (Expression c) (seen_levels b (c ∷ [])) (seen_code b 0 c) p m r p' m' seen
     (scan_as b (Expression c) (Items Arm (c ∷ [])) (seen_levels b (c ∷ [])) p m r p' m' (λ at a h. (a, [], sym (append-nil a), (false, h), refl)) f)
 
 -- an instruction can't be read
-pub turns_stop : (b : Bounds) (level : ℕ) (p q : Place) (m n : Marks) (result : Result (Option ℕ) NotSpelled) (d e : NotSpelled) → result ≡ Err d → d ≡ e
+pub turns_stop : (b : ModuleBounds) (level : ℕ) (p q : Place) (m n : Marks) (result : Result (Option ℕ) NotSpelled) (d e : NotSpelled) → result ≡ Err d → d ≡ e
     → ((c : RawCode) (cs : List RawCode) (r : Result (Unit {0}) NotSpelled) (p' : Place) (m' : Marks) → length cs ≡ level → Scans b (Items Arm (c ∷ cs)) (seen_levels b (c ∷ cs)) p m r p' m')
     → Turns b level p m result q n
 turns_stop b level p q m n result d e f g h =
     subst (λ z. Turns b level p m z q n) (sym f) (λ cs r p' m' l. by_first b level cs p p' m m' r l (λ c ds k. h c ds r p' m' k))
 
-pub result_then : (b : Bounds) (result : Placed) (Q : ℕ → List ℕ → Type 0) (t : Seen) (q q' p' : Place) (m n m' : Marks) (r : Result (Unit {0}) NotSpelled)
+pub result_then : (b : ModuleBounds) (result : Placed) (Q : ℕ → List ℕ → Type 0) (t : Seen) (q q' p' : Place) (m n m' : Marks) (r : Result (Unit {0}) NotSpelled)
     → Scans b (Byte result) (seen_placed result) q m (Ok tt) q' n → Scans b Q t q' n r p' m' → Scans b (BlockType result ▸ Q) (both (seen_placed result) t) q m r p' m'
 result_then b result Q t q q' p' m n m' r f g =
     scan_then b (BlockType result) Q (seen_placed result) t q q' p' m n m' r (scan_as b (BlockType result) (Byte result) (seen_placed result) q m (Ok tt) q' n (λ at a h. h.1) f) g
 
-pub result_never : (b : Bounds) (result : Placed) (Q : ℕ → List ℕ → Type 0) (t : Seen) (q q' p' : Place) (m n m' : Marks) (d : NotSpelled) (r : Result (Unit {0}) NotSpelled)
+pub result_never : (b : ModuleBounds) (result : Placed) (Q : ℕ → List ℕ → Type 0) (t : Seen) (q q' p' : Place) (m n m' : Marks) (d : NotSpelled) (r : Result (Unit {0}) NotSpelled)
     → Scans b (Byte result) (seen_placed result) q m (Err d) q' n → Scans b (BlockType result ▸ Q) t q m r p' m'
 result_never b result Q t q q' p' m n m' d r f =
     scan_never b (BlockType result ▸ Q) t q m r p' m' (never_then (BlockType result) Q q (λ front rest e h. never_scanned b (Byte result) (seen_placed result) q m d q' n f front rest e h.1))
 
-pub operands_never : (b : Bounds) (P Q : ℕ → List ℕ → Type 0) (t : Seen) (q q' p' : Place) (m m' : Marks) (d : NotSpelled) (r : Result (Unit {0}) NotSpelled) → Skips P q (Err d) q' → Scans b (P ▸ Q) t q m r p' m'
+pub operands_never : (b : ModuleBounds) (P Q : ℕ → List ℕ → Type 0) (t : Seen) (q q' p' : Place) (m m' : Marks) (d : NotSpelled) (r : Result (Unit {0}) NotSpelled) → Skips P q (Err d) q' → Scans b (P ▸ Q) t q m r p' m'
 operands_never b P Q t q q' p' m m' d r f = scan_never b (P ▸ Q) t q m r p' m' (never_then P Q q (never_skipped P q d q' f))

@@ -9,7 +9,5 @@ pub mod Locals
 pub mod Machine
 pub mod Marking
 pub mod Places
-pub mod Reading
 pub mod Scanning
 pub mod Shapes
-pub mod Small

@@ -3,7 +3,7 @@ use Rattle.std.specs.Prelude.{◌≡◌, ℕ, ◌+◌, ◌<◌, ◌^◌, List, [
 use Rattle.wa_types.specs.Binary.{Placed, RawCode, RawType, RawKind, RawImport, RawGlobal, RawElem, RawBody, RawSegment, Section, types, imports, functions, globals, elements, bodies, segments}
 use Rattle.wa_types.specs.Spells.{CodeOf, Items, FunctionType, ImportOf, GlobalOf, ElementOf, BodyOf, SegmentOf}
 use Rattle.wa_types.specs.Marks.{float_type, code_floats, type_floats, kind_floats, body_floats, code_opens, kind_sorts, first_above}
-use Rattle.wasm_reader.specs.declared.bounds.Bounds.{Bounds}
+use Rattle.wa_types.specs.ModuleBounds.{ModuleBounds}
 use Rattle.wasm_reader.specs.declared.marks.Marks.{Marks}
 use Rattle.wasm_reader.specs.declared.scan.entries.EntryKind.{EntryKind}
 use Rattle.wasm_reader.specs.declared.scan.entries.EntryKind.TheVariants.{AType, AnImport, AGlobal, AnElement, ABody, ASegment}
@@ -63,7 +63,7 @@ above_of bound (Some n) ns = Some n
 above_of bound None ns = first_above bound ns
 
 -- What was met, from what was met before a part. Functions are counted as far as 64 bits go.
-pub record Noted (b : Bounds) (s : Seen) (old new : Marks) : Type 0 where
+pub record Noted (b : ModuleBounds) (s : Seen) (old new : Marks) : Type 0 where
   pub float : new.float ≡ first_of old.float s.floats_at
   pub functions : old.functions + length s.funcs < 2 ^ 64 → new.functions ≡ old.functions + length s.funcs
   pub parameters : new.parameters ≡ above_of b.parameters old.parameters s.params
@@ -74,11 +74,11 @@ pub record Noted (b : Bounds) (s : Seen) (old new : Marks) : Type 0 where
 abbrev pub seen_placed : Placed → Seen
 seen_placed t = floats_seen (float_type t)
 
-abbrev pub seen_code : Bounds → (level : ℕ) → RawCode → Seen
+abbrev pub seen_code : ModuleBounds → (level : ℕ) → RawCode → Seen
 seen_code b level c = record { floats_at = code_floats c; opens_at = code_opens b.nesting level c; funcs = []; params = []; sizes = [] }
 
 -- code of levels inside one another, the innermost first
-abbrev pub seen_levels : Bounds → List RawCode → Seen
+abbrev pub seen_levels : ModuleBounds → List RawCode → Seen
 seen_levels b [] = nothing_seen
 seen_levels b (c ∷ cs) = both (seen_code b (length cs) c) (seen_levels b cs)
 
@@ -91,10 +91,10 @@ seen_kind k = record { floats_at = kind_floats k; opens_at = []; funcs = kind_so
 abbrev pub seen_import : RawImport → Seen
 seen_import i = seen_kind i.kind
 
-abbrev pub seen_global : Bounds → RawGlobal → Seen
+abbrev pub seen_global : ModuleBounds → RawGlobal → Seen
 seen_global b g = both (seen_placed g.ty) (seen_code b 0 g.init)
 
-abbrev pub seen_body : Bounds → RawBody → Seen
+abbrev pub seen_body : ModuleBounds → RawBody → Seen
 seen_body b x = record { floats_at = body_floats x; opens_at = code_opens b.nesting 0 x.code; funcs = []; params = []; sizes = x.size ∷ [] }
 
 -- the entries of sections that are scanned one by one
@@ -114,7 +114,7 @@ EntryIs AnElement x = ElementOf x
 EntryIs ABody x = BodyOf x
 EntryIs ASegment x = SegmentOf x
 
-abbrev pub seen_entry : Bounds → (k : EntryKind) → EntryOf k → Seen
+abbrev pub seen_entry : ModuleBounds → (k : EntryKind) → EntryOf k → Seen
 seen_entry b AType x = seen_type x
 seen_entry b AnImport x = seen_import x
 seen_entry b AGlobal x = seen_global b x
@@ -122,7 +122,7 @@ seen_entry b AnElement x = seen_code b 0 x.offset
 seen_entry b ABody x = seen_body b x
 seen_entry b ASegment x = seen_code b 0 x.offset
 
-abbrev pub seen_section : Bounds → Section → Seen
+abbrev pub seen_section : ModuleBounds → Section → Seen
 seen_section b (types ts) = seen_in (seen_entry b AType) ts
 seen_section b (imports is) = seen_in (seen_entry b AnImport) is
 seen_section b (functions sorts) = functions_seen sorts
@@ -138,7 +138,7 @@ pub record Skipped (p : Place) (front rest : List ℕ) (result : Result (Unit {0
   pub place : q ≡ behind p front rest
 
 -- The part is behind the place, and what stands in it is noted.
-pub record Scanned (b : Bounds) (s : Seen) (p : Place) (m : Marks) (front rest : List ℕ) (result : Result (Unit {0}) NotSpelled) (q : Place) (n : Marks) : Type 0 where
+pub record Scanned (b : ModuleBounds) (s : Seen) (p : Place) (m : Marks) (front rest : List ℕ) (result : Result (Unit {0}) NotSpelled) (q : Place) (n : Marks) : Type 0 where
   pub went : result ≡ Ok tt
   pub place : q ≡ behind p front rest
   pub noted : Noted b s m n
@@ -147,7 +147,7 @@ pub record Scanned (b : Bounds) (s : Seen) (p : Place) (m : Marks) (front rest :
 pub record Skips (P : ℕ → List ℕ → Type 0) (p : Place) (result : Result (Unit {0}) NotSpelled) (q : Place) : Type 0 where
   pub goes : (front rest : List ℕ) → p.left ≡ front ++ rest → P p.at front → Skipped p front rest result q
 
-pub record Scans (b : Bounds) (P : ℕ → List ℕ → Type 0) (s : Seen) (p : Place) (m : Marks) (result : Result (Unit {0}) NotSpelled) (q : Place) (n : Marks) : Type 0 where
+pub record Scans (b : ModuleBounds) (P : ℕ → List ℕ → Type 0) (s : Seen) (p : Place) (m : Marks) (result : Result (Unit {0}) NotSpelled) (q : Place) (n : Marks) : Type 0 where
   pub goes : (front rest : List ℕ) → p.left ≡ front ++ rest → P p.at front → Scanned b s p m front rest result q n
 
 -- so many bytes
@@ -160,7 +160,7 @@ Arm c at bytes = (first_arm : Bool) × CodeOf first_arm c at bytes
 
 -- An instruction, an else or an end was read, inside so many constructs. What is scanned from there is scanned from
 -- here, with it in front.
-abbrev pub Turns : Bounds → (level : ℕ) → Place → Marks → Result (Option ℕ) NotSpelled → Place → Marks → Type 0
+abbrev pub Turns : ModuleBounds → (level : ℕ) → Place → Marks → Result (Option ℕ) NotSpelled → Place → Marks → Type 0
 Turns b level p m (Err e) q n =
     (cs : List RawCode) (r : Result (Unit {0}) NotSpelled) (p' : Place) (m' : Marks) → length cs ≡ level + 1
     → Scans b (Items Arm cs) (seen_levels b cs) p m r p' m'

@@ -2,9 +2,9 @@ ghost use Rattle.std.specs.Prelude.{◌≡◌, nat_le, None, List, ℕ, length};
 ghost use Rattle.wa_types.specs.Marks.{place_if};
 ghost use Rattle.wa_types.specs.Opcodes.{is_float_op, is_float_type};
 ghost use Rattle.wasm_reader.specs.Scanning.{Noted, floats_seen, opens_seen, functions_seen, parameters_seen, size_seen};
-ghost use Rattle.wasm_reader.specs.declared.bounds.Bounds.{Bounds as AnyBounds};
+ghost use Rattle.wa_types.specs.ModuleBounds.{ModuleBounds};
 
-use crate::bounds::Bounds;
+use wa_types::Bounds;
 use crate::opcodes::{is_float_op, is_float_type};
 
 /// What a file is judged by besides its spelling.
@@ -38,7 +38,7 @@ impl Marks {
 
     /// A value type at this offset.
     pub(crate) fn note_type(&mut self, byte: u8, at: u64)
-        ensures { (b : AnyBounds) → Noted b (floats_seen (place_if (is_float_type byte) at)) self.old self.new }
+        ensures { (b : ModuleBounds) → Noted b (floats_seen (place_if (is_float_type byte) at)) self.old self.new }
     {
         if self.float.is_none() && is_float_type(byte) {
             self.float = Some(at);
@@ -47,7 +47,7 @@ impl Marks {
 
     /// An opcode at this offset.
     pub(crate) fn note_op(&mut self, op: u8, at: u64)
-        ensures { (b : AnyBounds) → Noted b (floats_seen (place_if (is_float_op op) at)) self.old self.new }
+        ensures { (b : ModuleBounds) → Noted b (floats_seen (place_if (is_float_op op) at)) self.old self.new }
     {
         if self.float.is_none() && is_float_op(op) {
             self.float = Some(at);
@@ -58,14 +58,14 @@ impl Marks {
     pub(crate) fn note_level(&mut self, level: u64, at: u64, bounds: &Bounds)
         ensures { Noted bounds.now (opens_seen (place_if (nat_le bounds.now.nesting level) at)) self.old self.new }
     {
-        if self.deep.is_none() && bounds.nesting as u64 <= level {
+        if self.deep.is_none() && bounds.nesting() as u64 <= level {
             self.deep = Some(at);
         }
     }
 
     /// More functions.
     pub(crate) fn note_functions(&mut self, count: u32)
-        ensures { (b : AnyBounds) (sorts : List ℕ) → length sorts ≡ count → Noted b (functions_seen sorts) self.old self.new }
+        ensures { (b : ModuleBounds) (sorts : List ℕ) → length sorts ≡ count → Noted b (functions_seen sorts) self.old self.new }
     {
         self.functions = self.functions.saturating_add(count as u64);
     }
@@ -74,7 +74,7 @@ impl Marks {
     pub(crate) fn note_parameters(&mut self, count: u32, bounds: &Bounds)
         ensures { Noted bounds.now (parameters_seen count) self.old self.new }
     {
-        if self.parameters.is_none() && bounds.parameters < count {
+        if self.parameters.is_none() && bounds.parameters() < count {
             self.parameters = Some(count);
         }
     }
@@ -83,7 +83,7 @@ impl Marks {
     pub(crate) fn note_size(&mut self, size: u32, bounds: &Bounds)
         ensures { Noted bounds.now (size_seen size) self.old self.new }
     {
-        if self.body.is_none() && bounds.body < size {
+        if self.body.is_none() && bounds.body() < size {
             self.body = Some(size);
         }
     }

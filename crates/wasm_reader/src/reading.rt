@@ -9,7 +9,8 @@ ghost use Rattle.wa_types.specs.Spells.{Spells};
 ghost use Rattle.wa_types.specs.Syntax.{Module as PlainModule};
 ghost use Rattle.wa_types.specs.View.{module_of};
 ghost use Rattle.wasm_reader.specs.Answers.{IsAccepted, IsCheckFault, IsFile, IsRefused};
-ghost use Rattle.wasm_reader.specs.Marking.{AreMarks, IsJudged};
+ghost use Rattle.wasm_reader.specs.Found.{MarksOf};
+ghost use Rattle.wasm_reader.specs.Marking.{IsJudged};
 ghost use Rattle.wasm_reader.specs.declared.faults.ReadFault.TheVariants.{Memory};
 
 use crate::build::{BuildFault, build};
@@ -64,7 +65,7 @@ pub fn read(alloc: Global, bytes: &[u8], bounds: &Bounds) -> Result<Module, Read
 
 // Why a file of these marks is refused, if it is.
 fn judge(marks: &Marks, bounds: &Bounds) -> Option<ReadFault>
-    ensures { (bytes : List ℕ) (ss : List Section) → IsFile bounds.now bytes ss → AreMarks bounds.now ss marks.now → IsJudged bounds.now bytes ss result }
+    ensures { (bytes : List ℕ) (ss : List Section) → IsFile bounds.now bytes ss → MarksOf bounds.now ss marks.now → IsJudged bounds.now bytes ss result }
 {
     if let Some(at) = marks.float {
         return Some(ReadFault::Float { at });

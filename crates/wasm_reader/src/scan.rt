@@ -9,9 +9,9 @@ ghost use Rattle.wa_types.specs.Spells.{Spells, Number, Vector, Filling, Content
 ghost use Rattle.wasm_reader.specs.Found.{GivesMarks};
 ghost use Rattle.wasm_reader.specs.Places.{Onward};
 ghost use Rattle.wasm_reader.specs.Scanning.{Scans, functions_seen, seen_section};
-ghost use Rattle.wasm_reader.specs.declared.bounds.Bounds.{Bounds as AnyBounds};
+ghost use Rattle.wa_types.specs.ModuleBounds.{ModuleBounds};
 
-use crate::bounds::Bounds;
+use wa_types::Bounds;
 use crate::front::{Cursor, NotSpelled};
 use crate::marks::Marks;
 use entries::{EntryKind, entries};
@@ -22,7 +22,7 @@ const PREAMBLE: u32 = 8;
 
 // The number of a section's functions (standard, section 5.5.6).
 fn functions(cursor: &mut Cursor<'_>, marks: &mut Marks, size: u32) -> Result<(), NotSpelled>
-    ensures scans { (b : AnyBounds) (sorts : List ℕ) → Scans b (Filling size (Vector Number sorts)) (functions_seen sorts) cursor.old marks.old result cursor.new marks.new }
+    ensures scans { (b : ModuleBounds) (sorts : List ℕ) → Scans b (Filling size (Vector Number sorts)) (functions_seen sorts) cursor.old marks.old result cursor.new marks.new }
     ensures onward { Onward cursor.old cursor.new }
 {
     let content = cursor.take(size)?;

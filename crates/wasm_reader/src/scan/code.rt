@@ -7,7 +7,7 @@ ghost use Rattle.wasm_reader.specs.Places.{Onward};
 ghost use Rattle.wasm_reader.specs.Scanning.{Skips, Scans, Turns, seen_placed, seen_code};
 
 use super::skips::{skip_byte, skip_bytes, skip_number, skip_numbers};
-use crate::bounds::Bounds;
+use wa_types::Bounds;
 use crate::front::{Cursor, NotSpelled};
 use crate::marks::Marks;
 use crate::opcodes::{Shape, operand_shape};

@@ -8,7 +8,7 @@ ghost use Rattle.wasm_reader.specs.Scanning.{Scans, EntryOf, EntryIs, floats_see
 
 use super::code::{expression, value_type};
 use super::skips::{skip_byte, skip_bytes, skip_counted, skip_limits, skip_number, skip_numbers};
-use crate::bounds::Bounds;
+use wa_types::Bounds;
 use crate::front::{Cursor, NotSpelled};
 use crate::marks::Marks;
 
