@@ -1,4 +1,4 @@
-ghost use Rattle.std.specs.Prelude.{◌≡◌, ℕ, List, ◌∷◌, Option, Some, reverse};
+ghost use Rattle.std.specs.Prelude.{◌≡◌, List, ◌∷◌, Option, Some, reverse};
 ghost use Rattle.wa_types.specs.Begun.{end_of, closing, passed, Goal as Wanted};
 ghost use Rattle.wasm_reader.specs.Goals.{goal_of};
 ghost use Rattle.wasm_reader.specs.Ends.{by_closing, lowered};

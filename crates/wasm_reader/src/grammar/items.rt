@@ -1,4 +1,4 @@
-ghost use Rattle.std.specs.Prelude.{◌≡◌, ◌<◌, ◌≤◌, length};
+ghost use Rattle.std.specs.Prelude.{◌≡◌, ◌<◌};
 ghost use Rattle.wa_types.specs.Begun.{wants, first_of, a_byte, an_unsigned, a_signed, a_name, a_constant_of};
 ghost use Rattle.wasm_reader.specs.Goals.{goal_of, kind_of};
 ghost use Rattle.wasm_reader.specs.Items.{item_of, unread, FrontIs};

@@ -1,6 +1,6 @@
-ghost use Rattle.std.specs.Prelude.{◌≡◌, ℕ, ◌+◌, ◌<◌, ◌≤◌, ◌^◌, Some, [], ◌∷◌, ◌==◌};
-ghost use Rattle.wa_types.specs.Begun.{next, may_follow, name_of, some_of, others, and_then, entry, where_true, content, behind_flag, behind_kind, behind_opcode, operands_of, size as sized_content, code as of_code};
-ghost use Rattle.wa_types.specs.Opcodes.{within, follows, is_value_type, is_block_type};
+ghost use Rattle.std.specs.Prelude.{◌≡◌, ℕ, ◌<◌, ◌^◌, Some, [], ◌∷◌};
+ghost use Rattle.wa_types.specs.Begun.{next, may_follow, name_of, some_of, others, and_then, entry, where_true, content, behind_flag, behind_kind, behind_opcode, operands_of, size as size_of};
+ghost use Rattle.wa_types.specs.Opcodes.{within, follows, is_value_type};
 ghost use Rattle.wasm_reader.specs.Goals.{goal_of, kind_of, list_of, few_of, new_of, follows_of};
 
 use crate::grammar::goals::{Goal, Kind, TextLen};
@@ -126,7 +126,7 @@ fn may_follow(id: u8, last: u8, owed: u32) -> bool
 
 // Behind the id of a section.
 fn behind_id(last: u8, owed: u32, value: u32) -> Option<Few>
-    ensures { new_of result ≡ where_true (may_follow value last owed) (sized_content value last owed ∷ []) }
+    ensures { new_of result ≡ where_true (may_follow value last owed) (size_of value last owed ∷ []) }
 {
     if value > 11 {
         return None;

@@ -1,4 +1,4 @@
-ghost use Rattle.std.specs.Prelude.{◌≡◌, ◌<◌, ◌^◌, [], ◌∷◌, ◌++◌, drop, length, IfNone, IfSome, OnOk, OnErr, IfOk, Some, None, MatchBool};
+ghost use Rattle.std.specs.Prelude.{◌≡◌, ◌<◌, ◌^◌, [], ◌∷◌, ◌++◌, drop, IfNone, IfSome, OnOk, OnErr, IfOk, Some, None, MatchBool};
 ghost use Rattle.std.specs.Bool.{OnTrue, OnFalse};
 ghost use Rattle.wa_types.specs.Begun.{settled, start, Steps};
 ghost use Rattle.wasm_reader.specs.Goals.{goal_of, list_of, few_of, stack_of};
@@ -137,6 +137,7 @@ impl Goals {
     // Puts a goal before the others, or leaves them.
     fn push(&mut self, _alloc: Global, goal: Goal) -> Result<(), AllocError>
         ensures ok { OnOk result (self.new ≡ goal_of goal ∷ self.old) }
+        ensures err { OnErr result (self.new ≡ self.old) }
     {
         let Some(end) = end_of(goal) else {
             self.stack.push(goal)?;
