@@ -1,8 +1,8 @@
 -- What a refusal of the program says.
 use Rattle.std.specs.Prelude.{◌≡◌, List, ℕ}
 use Rattle.std.specs.String.{string_bytes}
-use Rattle.wasm_reader.specs.declared.faults.ReadFault.{ReadFault}
-use Rattle.wasm_reader.specs.declared.faults.ReadFault.TheVariants.{Memory as read_memory, Malformed as read_malformed, Float as read_float, Deep as read_deep, Limit as read_limit}
+use Rattle.wasm_reader.specs.declared.read_fault.ReadFault.{ReadFault}
+use Rattle.wasm_reader.specs.declared.read_fault.ReadFault.TheVariants.{Memory as read_memory, Malformed as read_malformed, Float as read_float, Deep as read_deep, Limit as read_limit}
 use Rattle.asyncify_app.specs.declared.refusals.Refusal.{Refusal}
 use Rattle.asyncify_app.specs.declared.refusals.Refusal.TheVariants.{Malformed, Float, Deep, Limit, Reserved, Invalid, NotBuilt}
 use Rattle.asyncify_app.specs.declared.source.SourceFault.{SourceFault}

@@ -7,7 +7,7 @@ use Rattle.wa_types.specs.ModuleBounds.{source_bounds}
 use Rattle.wa_types.specs.FirstFault.{FirstFault}
 use Rattle.wa_types.specs.Validity.{Valid}
 use Rattle.wa_types.specs.Syntax.{Module}
-use Rattle.wasm_reader.specs.declared.faults.ReadFault.TheVariants.{Malformed, Float, Deep, Limit}
+use Rattle.wasm_reader.specs.declared.read_fault.ReadFault.TheVariants.{Malformed, Float, Deep, Limit}
 use Rattle.wasm_reader.specs.Answers.{IsAccepted, IsRefused}
 use Rattle.asyncify_runtime.specs.declared.reserving.ReservedAt.{ReservedAt}
 use Rattle.asyncify_runtime.specs.declared.reserving.ReservedAt.TheVariants.{Import as at_import, Export as at_export}

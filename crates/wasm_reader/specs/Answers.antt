@@ -8,8 +8,8 @@ use Rattle.wa_types.specs.Marks.{floats, opens, IsLeast, function_count, paramet
 use Rattle.wa_types.specs.Reading.{IsModule}
 use Rattle.wa_types.specs.ModuleBounds.{ModuleBounds}
 use Rattle.wa_types.specs.Syntax.{Module}
-use Rattle.wasm_reader.specs.declared.faults.ReadFault.{ReadFault}
-use Rattle.wasm_reader.specs.declared.faults.ReadFault.TheVariants.{Memory, Malformed, Float, Deep, Limit}
+use Rattle.wasm_reader.specs.declared.read_fault.ReadFault.{ReadFault}
+use Rattle.wasm_reader.specs.declared.read_fault.ReadFault.TheVariants.{Memory, Malformed, Float, Deep, Limit}
 
 -- the bytes, not too many, spell these sections
 pub record IsFile (b : ModuleBounds) (bytes : List ℕ) (ss : List Section) : Type 0 where
@@ -67,11 +67,3 @@ IsRefused b bytes (Limit Locals n) = (ss : List Section) × IsShallow b bytes ss
 IsRefused b bytes (Limit Output n) = ⊥
 IsRefused b bytes (Limit Script n) = ⊥
 IsRefused b bytes (Limit Programs n) = ⊥
-
--- Why bytes are no whole file.
-abbrev pub IsCheckFault : List ℕ → ReadFault → Type 0
-IsCheckFault bytes Memory = Unit {0}
-IsCheckFault bytes (Malformed at) = FaultAt bytes at
-IsCheckFault bytes (Float at) = ⊥
-IsCheckFault bytes (Deep at) = ⊥
-IsCheckFault bytes (Limit what n) = ⊥

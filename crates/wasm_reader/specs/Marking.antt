@@ -2,7 +2,7 @@
 use Rattle.std.specs.Prelude.{ℕ, List, Option, Some, None}
 use Rattle.wa_types.specs.Binary.{Section}
 use Rattle.wa_types.specs.ModuleBounds.{ModuleBounds}
-use Rattle.wasm_reader.specs.declared.faults.ReadFault.{ReadFault}
+use Rattle.wasm_reader.specs.declared.read_fault.ReadFault.{ReadFault}
 use Rattle.wasm_reader.specs.Answers.{IsShallow, IsRefused}
 
 -- a refusal of the file, or that it is shallow

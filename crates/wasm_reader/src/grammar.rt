@@ -6,3 +6,5 @@ mod items;
 mod machine;
 mod next;
 mod stack;
+
+pub(crate) use machine::{CheckFault, check};

@@ -10,7 +10,7 @@
 #![tactic(auto)]
 
 mod build;
-mod faults;
+mod read_fault;
 mod front;
 mod grammar;
 mod locals;
@@ -19,5 +19,5 @@ mod opcodes;
 mod reading;
 mod scan;
 
-pub use faults::ReadFault;
+pub use read_fault::ReadFault;
 pub use reading::read;

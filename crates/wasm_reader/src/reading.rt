@@ -1,22 +1,19 @@
-ghost use Rattle.std.specs.Prelude.{◌≡◌, ◌<◌, ◌^◌, ◌≤◌, ℕ, List, length, IfOk, MatchResult};
+ghost use Rattle.std.specs.Prelude.{◌≡◌, ◌≤◌, ◌⊎◌, ℕ, List, length, IfOk};
 ghost use Rattle.std.specs.Result.{IfErr};
-ghost use Rattle.wa_types.specs.Begun.{FaultAt, IsWhole};
+ghost use Rattle.wa_types.specs.Begun.{IsWhole};
 ghost use Rattle.wa_types.specs.Binary.{Section};
-ghost use Rattle.wa_types.specs.ModuleBounds.{source_bounds};
-ghost use Rattle.wa_types.specs.Reading.{SpellsModule};
+ghost use Rattle.wa_types.specs.Encoding.{Enc};
+ghost use Rattle.wa_types.specs.ModuleBounds.{prepared_bounds, source_bounds};
 ghost use Rattle.wa_types.specs.Sizes.{SizeRule, StrictSizeRule};
-ghost use Rattle.wa_types.specs.Spells.{Spells};
-ghost use Rattle.wa_types.specs.Syntax.{Module as PlainModule};
 ghost use Rattle.wa_types.specs.View.{module_of};
-ghost use Rattle.wasm_reader.specs.Answers.{IsAccepted, IsCheckFault, IsFile, IsRefused};
+ghost use Rattle.wasm_reader.specs.Answers.{IsAccepted, IsFile, IsRefused};
 ghost use Rattle.wasm_reader.specs.Found.{MarksOf};
 ghost use Rattle.wasm_reader.specs.Marking.{IsJudged};
-ghost use Rattle.wasm_reader.specs.declared.faults.ReadFault.TheVariants.{Memory};
 
 use crate::build::{BuildFault, build};
-use crate::faults::ReadFault;
+use crate::read_fault::ReadFault;
 use crate::locals::locals_above;
-use crate::grammar::check;
+use crate::grammar::{CheckFault, check};
 use crate::marks::Marks;
 use crate::scan::scan;
 use std::alloc::Global;
@@ -34,6 +31,7 @@ pub fn read(alloc: Global, bytes: &[u8], bounds: &Bounds) -> Result<Module, Read
     ensures ok { IfOk result (λ r. IsAccepted bounds.now bytes.now (module_of r)) }
     ensures sizes { IfOk result (λ r. SizeRule (module_of r)) }
     ensures source_sizes { bounds.now ≡ source_bounds → IfOk result (λ r. StrictSizeRule (module_of r)) }
+    ensures short { IfOk result (λ r. length (Enc (module_of r)) ≤ length bytes.now) }
     ensures refused { IfErr result (λ fault. IsRefused bounds.now bytes.now fault) }
 {
     if bytes.len() > bounds.file() as usize {
@@ -42,7 +40,21 @@ pub fn read(alloc: Global, bytes: &[u8], bounds: &Bounds) -> Result<Module, Read
             found: bounds.file() as u64 + 1,
         });
     }
-    check(alloc, bytes)?;
+    match check(alloc, bytes) {
+        Ok(()) => read_whole(alloc, bytes, bounds),
+        Err(CheckFault::Memory) => Err(ReadFault::Memory),
+        Err(CheckFault::Malformed { at }) => Err(ReadFault::Malformed { at: at as u64 }),
+    }
+}
+
+// The module of a whole file, or why it is refused.
+fn read_whole(alloc: Global, bytes: &[u8], bounds: &Bounds) -> Result<Module, ReadFault>
+    requires few { length bytes.now ≤ bounds.now.file }
+    requires columns { (bounds.now ≡ source_bounds) ⊎ (bounds.now ≡ prepared_bounds) }
+    requires whole { IsWhole bytes.now }
+    ensures ok { IfOk result (λ r. IsAccepted bounds.now bytes.now (module_of r)) }
+    ensures refused { IfErr result (λ fault. IsRefused bounds.now bytes.now fault) }
+{
     let Ok(marks) = scan(bytes, bounds) else {
         unreachable!()
     };

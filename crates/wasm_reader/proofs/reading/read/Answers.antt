@@ -1,54 +1,17 @@
-use Rattle.std.proofs.Common.{◌≡◌, ◌≤◌, ap, sym, ◌∙◌, arith, length, inl, inr}
+use Rattle.std.proofs.lemmas.Result.{IfOk-weaker}
 use Rattle.wa_types.specs.View.{module_of}
-use Rattle.wasm_reader.proofs.Accepting.{file_of, module_in, spelled_in, Stands, stands, few_runs, few_bytes, accepted, too_many, accepted_sizes, accepted_strictly}
+use Rattle.wasm_reader.proofs.Accepting.{accepted_spelled, accepted_sizes, accepted_strictly}
+use Rattle.wasm_reader.proofs.ShortFile.{written_short}
 use Rattle.wasm_reader.proofs.reading.read.Goals as goal
 
-pub unreachable-requires : goal.unreachable-requires
-unreachable-requires c =
-    let f = file_of c.args.bounds.now c.args.bytes.now (omega (arith, c.if-bytes-file.false, c.file.ensures.file)) c.in_ok-check.ensures in
-    c.in_default.ensures f.0 f.1.spells
+pub returns-in-Ok-clause-sizes : goal.returns-in-Ok-clause-sizes
+returns-in-Ok-clause-sizes c =
+    IfOk-weaker c.read_whole.result _ _ (λ r e. accepted_sizes c.args.bounds.now c.args.bytes.now (module_of r) c.file.ensures.columns e) c.read_whole.ensures.ok
 
-pub returns-in-Some-clause-refused : goal.returns-in-Some-clause-refused
-returns-in-Some-clause-refused c =
-    let f = file_of c.args.bounds.now c.args.bytes.now (omega (arith, c.if-bytes-file.false, c.file.ensures.file)) c.in_ok-check.ensures in
-    c.in-Some.ensures c.args.bytes.now f.0 f.1 (c.in-Ok.ensures f.0 f.1.spells)
+pub returns-in-Ok-clause-source_sizes : goal.returns-in-Ok-clause-source_sizes
+returns-in-Ok-clause-source_sizes c = λ s.
+    IfOk-weaker c.read_whole.result _ _ (λ r e. accepted_strictly c.args.bounds.now c.args.bytes.now (module_of r) s e) c.read_whole.ensures.ok
 
-pub unreachable-requires-in-Err-NotSpelled : goal.unreachable-requires-in-Err-NotSpelled
-unreachable-requires-in-Err-NotSpelled c =
-    let f = file_of c.args.bounds.now c.args.bytes.now (omega (arith, c.if-bytes-file.false, c.file.ensures.file)) c.in_ok-check.ensures in
-    let shallow = c.in_default-judge.ensures c.args.bytes.now f.0 f.1 (c.in-Ok.ensures f.0 f.1.spells) in
-    let m = module_in c.args.bounds.now c.args.bytes.now f.0 shallow in
-    let e = c.in-Err-NotSpelled.ensures m.0 (spelled_in c.args.bounds.now c.args.bytes.now f.0 m.0 shallow m.1) in
-    absurd (let g = sym c.in-Err-NotSpelled.field-0-is ∙ e in cc)
-
-pub locals_above-requires : goal.locals_above-requires
-locals_above-requires c =
-    let s = stands c.args.bounds.now c.args.bytes.now (module_of c.in-Ok-build.module) (omega (arith, c.if-bytes-file.false, c.file.ensures.file)) c.in_ok-check.ensures
-        (λ ss f. c.in_default-judge.ensures c.args.bytes.now ss f (c.in-Ok.ensures ss f.spells)) c.in-Ok-build.ensures in
-    few_runs c.args.bounds.now c.args.bytes.now c.in-Ok-build.module s (few_bytes c.args.bounds.now c.args.bytes.now c.file.ensures.columns (omega (arith, c.if-bytes-file.false, c.file.ensures.file)))
-
-pub returns-in-Some-locals_above-clause-refused : goal.returns-in-Some-locals_above-clause-refused
-returns-in-Some-locals_above-clause-refused c =
-    let s = stands c.args.bounds.now c.args.bytes.now (module_of c.in-Ok-build.module) (omega (arith, c.if-bytes-file.false, c.file.ensures.file)) c.in_ok-check.ensures
-        (λ ss f. c.in_default-judge.ensures c.args.bytes.now ss f (c.in-Ok.ensures ss f.spells)) c.in-Ok-build.ensures in
-    (s.sections, s.shallow, too_many c.args.bounds.now c.args.bytes.now (module_of c.in-Ok-build.module) c.locals.result c.in-Some-locals_above.found s c.locals.ensures c.in-Some-locals_above.ensures)
-
-pub returns-clause-ok : goal.returns-clause-ok
-returns-clause-ok c =
-    let s = stands c.args.bounds.now c.args.bytes.now (module_of c.in-Ok-build.module) (omega (arith, c.if-bytes-file.false, c.file.ensures.file)) c.in_ok-check.ensures
-        (λ ss f. c.in_default-judge.ensures c.args.bytes.now ss f (c.in-Ok.ensures ss f.spells)) c.in-Ok-build.ensures in
-    accepted c.args.bounds.now c.args.bytes.now (module_of c.in-Ok-build.module) c.locals.result s c.locals.ensures c.in_default-locals_above.ensures
-
-pub returns-clause-sizes : goal.returns-clause-sizes
-returns-clause-sizes c =
-    let s = stands c.args.bounds.now c.args.bytes.now (module_of c.in-Ok-build.module) (omega (arith, c.if-bytes-file.false, c.file.ensures.file)) c.in_ok-check.ensures
-        (λ ss f. c.in_default-judge.ensures c.args.bytes.now ss f (c.in-Ok.ensures ss f.spells)) c.in-Ok-build.ensures in
-    accepted_sizes c.args.bounds.now c.args.bytes.now (module_of c.in-Ok-build.module) c.file.ensures.columns
-    (accepted c.args.bounds.now c.args.bytes.now (module_of c.in-Ok-build.module) c.locals.result s c.locals.ensures c.in_default-locals_above.ensures)
-
-pub returns-clause-source_sizes : goal.returns-clause-source_sizes
-returns-clause-source_sizes c = λ e.
-    let s = stands c.args.bounds.now c.args.bytes.now (module_of c.in-Ok-build.module) (omega (arith, c.if-bytes-file.false, c.file.ensures.file)) c.in_ok-check.ensures
-        (λ ss f. c.in_default-judge.ensures c.args.bytes.now ss f (c.in-Ok.ensures ss f.spells)) c.in-Ok-build.ensures in
-    accepted_strictly c.args.bounds.now c.args.bytes.now (module_of c.in-Ok-build.module) e
-    (accepted c.args.bounds.now c.args.bytes.now (module_of c.in-Ok-build.module) c.locals.result s c.locals.ensures c.in_default-locals_above.ensures)
+pub returns-in-Ok-clause-short : goal.returns-in-Ok-clause-short
+returns-in-Ok-clause-short c =
+    IfOk-weaker c.read_whole.result _ _ (λ r e. written_short c.args.bytes.now (module_of r) (accepted_spelled c.args.bounds.now c.args.bytes.now (module_of r) e)) c.read_whole.ensures.ok

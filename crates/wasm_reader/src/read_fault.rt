@@ -24,7 +24,7 @@ pub enum ReadFault {
 
 impl From<AllocError> for ReadFault {
     ghost use Rattle.std.specs.Prelude.{◌≡◌};
-    ghost use Rattle.wasm_reader.specs.declared.faults.ReadFault.TheVariants.{Memory};
+    ghost use Rattle.wasm_reader.specs.declared.read_fault.ReadFault.TheVariants.{Memory};
 
     ghost from_gives = { λ _ fault. fault ≡ Memory };
 
