@@ -1,0 +1,6 @@
+//! Which modules are valid, and the first fault of those that aren't (standard, section 3).
+#![tactic(auto)]
+
+mod valid;
+
+pub use valid::{Valid, ValidateFault};
