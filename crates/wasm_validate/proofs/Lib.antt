@@ -1,3 +1,5 @@
+pub mod ContextLemmas
 pub mod Decided
 pub mod Exact
+pub mod Lists
 pub mod Right

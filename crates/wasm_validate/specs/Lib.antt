@@ -1,2 +1,5 @@
 pub mod Laws
 pub mod Running
+pub mod Spaces
+pub mod Stack
+pub mod Table
