@@ -3,3 +3,4 @@ pub mod Decided
 pub mod Exact
 pub mod Lists
 pub mod Right
+pub mod Trees

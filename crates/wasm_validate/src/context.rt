@@ -31,13 +31,13 @@ impl<'m> Model for Context<'m> {
     ghost Value = { Around };
 
     ghost view = { λ c. record {
-        types = map func_type_of c.types.now;
-        funcs = map (λ s. or_empty (slice_get (map func_type_of c.types.now) s)) c.sorts.now;
-        table = c.table;
-        memory = c.memory;
-        globals = map global_type_of c.globals.now;
-        locals = c.params.now ++ declared_locals c.runs.now;
-        result = c.result;
+      types = map func_type_of c.types.now;
+      funcs = map (λ s. or_empty (slice_get (map func_type_of c.types.now) s)) c.sorts.now;
+      table = c.table;
+      memory = c.memory;
+      globals = map global_type_of c.globals.now;
+      locals = c.params.now ++ declared_locals c.runs.now;
+      result = c.result;
     } };
 
     ghost invariant = { λ c. (c.ends.now ≡ ends_from 0 c.runs.now) × All (λ s. s < length c.types.now) c.sorts.now };

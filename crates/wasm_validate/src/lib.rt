@@ -1,6 +1,7 @@
 //! Which modules are valid, and the first fault of those that aren't (standard, section 3).
 #![tactic(auto)]
 
+mod bodies;
 mod context;
 mod spaces;
 mod stack;

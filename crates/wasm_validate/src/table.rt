@@ -22,7 +22,10 @@ pub(crate) enum Asks<'a> {
         outs: &'a [ValType],
     },
     /// Takes operands off, and control never goes on behind it.
-    Leaves { test: bool, ins: &'a [ValType] },
+    Leaves {
+        test: bool,
+        ins: &'a [ValType],
+    },
     Drops,
     Selects,
     Lacks(u8),
@@ -454,10 +457,14 @@ fn operands_of(op: NumOp) -> &'static [ValType]
         NumOp::I64Eqz | NumOp::I64Clz | NumOp::I64Ctz | NumOp::I64Popcnt => &[ValType::I64],
         NumOp::I32WrapI64 => &[ValType::I64],
         NumOp::I32Eq | NumOp::I32Ne | NumOp::I32LtS | NumOp::I32LtU | NumOp::I32GtS => two_of_32(),
-        NumOp::I32GtU | NumOp::I32LeS | NumOp::I32LeU | NumOp::I32GeS | NumOp::I32GeU => two_of_32(),
-        NumOp::I32Add | NumOp::I32Sub | NumOp::I32Mul | NumOp::I32DivS | NumOp::I32DivU => two_of_32(),
-        NumOp::I32RemS | NumOp::I32RemU | NumOp::I32And | NumOp::I32Or | NumOp::I32Xor => two_of_32(),
-        NumOp::I32Shl | NumOp::I32ShrS | NumOp::I32ShrU | NumOp::I32Rotl | NumOp::I32Rotr => two_of_32(),
+        NumOp::I32GtU | NumOp::I32LeS | NumOp::I32LeU | NumOp::I32GeS | NumOp::I32GeU =>
+            two_of_32(),
+        NumOp::I32Add | NumOp::I32Sub | NumOp::I32Mul | NumOp::I32DivS | NumOp::I32DivU =>
+            two_of_32(),
+        NumOp::I32RemS | NumOp::I32RemU | NumOp::I32And | NumOp::I32Or | NumOp::I32Xor =>
+            two_of_32(),
+        NumOp::I32Shl | NumOp::I32ShrS | NumOp::I32ShrU | NumOp::I32Rotl | NumOp::I32Rotr =>
+            two_of_32(),
         _ => &[ValType::I64, ValType::I64],
     }
 }
@@ -477,7 +484,8 @@ fn result_of(op: NumOp) -> ValType
         NumOp::I64DivU | NumOp::I64RemS | NumOp::I64RemU | NumOp::I64And => ValType::I64,
         NumOp::I64Or | NumOp::I64Xor | NumOp::I64Shl | NumOp::I64ShrS => ValType::I64,
         NumOp::I64ShrU | NumOp::I64Rotl | NumOp::I64Rotr | NumOp::I64Clz => ValType::I64,
-        NumOp::I64Ctz | NumOp::I64Popcnt | NumOp::I64ExtendI32S | NumOp::I64ExtendI32U => ValType::I64,
+        NumOp::I64Ctz | NumOp::I64Popcnt | NumOp::I64ExtendI32S | NumOp::I64ExtendI32U =>
+            ValType::I64,
         _ => ValType::I32,
     }
 }
