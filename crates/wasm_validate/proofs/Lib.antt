@@ -3,4 +3,5 @@ pub mod Decided
 pub mod Exact
 pub mod Lists
 pub mod Right
+pub mod SpaceLemmas
 pub mod Trees
