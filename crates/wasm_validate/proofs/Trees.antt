@@ -97,7 +97,7 @@ pub size_empty : (xs : List Instr) (i : ℕ) → length xs ≤ i → size (code 
 size_empty xs i h = ap size (code_empty xs i h) ∙ size_done
 
 -- an else is counted where its arm isn't empty
-mid_front : (x : Instr) (rest : Code) → mid (in_front x rest) ≡ 1
+pub mid_front : (x : Instr) (rest : Code) → mid (in_front x rest) ≡ 1
 mid_front x rest = elim (kind x) [
   | is_block r v e ↦ ap (λ (y : Instr). mid (in_front y rest)) e ∙ ap mid (in_block r v rest)
   | is_loop r v e ↦ ap (λ (y : Instr). mid (in_front y rest)) e ∙ ap mid (in_loop r v rest)

@@ -1,5 +1,6 @@
 pub mod Judging
 pub mod Laws
+pub mod Outside
 pub mod Running
 pub mod Spaces
 pub mod Stack

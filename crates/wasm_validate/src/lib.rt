@@ -3,6 +3,8 @@
 
 mod bodies;
 mod context;
+mod indices;
+mod outside;
 mod spaces;
 mod stack;
 mod table;

@@ -57,7 +57,7 @@ pub(crate) fn listing(r: Option<ValType>) -> &'static [ValType]
     }
 }
 
-fn type_of_value(v: Value) -> ValType
+pub(crate) fn type_of_value(v: Value) -> ValType
     ensures { result ≡ type_of v }
 {
     match v {
