@@ -2,7 +2,9 @@ pub mod ContextLemmas
 pub mod Decided
 pub mod Exact
 pub mod ExpressionLemmas
+pub mod FuncLemmas
 pub mod Lists
+pub mod NameLemmas
 pub mod OutsideLemmas
 pub mod Right
 pub mod SpaceLemmas

@@ -1,5 +1,5 @@
 -- Tests of lists that are put together.
-use Rattle.std.proofs.Common.{arith, ◌≡◌, ℕ, List, [], ◌∷◌, ◌++◌, map, Option, Some, None, Bool, true, false, ◌&&◌, refl, ap, sym, ◌∙◌, nat_lt}
+use Rattle.std.proofs.Common.{zero, suc, take, length, arith, ◌≡◌, ℕ, List, [], ◌∷◌, ◌++◌, map, Option, Some, None, Bool, true, false, ◌&&◌, refl, ap, sym, ◌∙◌, nat_lt}
 use Rattle.std.specs.List.{filter_map, flat_map, list_all}
 use Rattle.std.proofs.lemmas.List.Folds.{list_all-append, list_all-map}
 use Rattle.std.proofs.lemmas.List.Concat.{flat_map-append}
@@ -98,3 +98,18 @@ pub four_fourth : (a b c d r : Bool) → true ≡ a → true ≡ b → true ≡ 
 four_fourth a b c d r e f g h = h ∙ ap (λ z. z && d) g ∙ ap (λ z. z && (c && d)) f ∙ ap (λ z. z && (b && (c && d))) e
 
 pub ruleset joining = (two_first, two_second)
+
+map_take : {X Y : Type 0} (f : X → Y) (n : ℕ) (xs : List X) → map f (take n xs) ≡ take n (map f xs)
+map_take f zero xs = refl
+map_take f (suc n) [] = refl
+map_take f (suc n) (x ∷ xs) = ap (λ z. f x ∷ z) (map_take f n xs)
+
+take_front : {X : Type 0} (n : ℕ) (xs ys : List X) → n ≡ length xs → take n (xs ++ ys) ≡ xs
+take_front zero [] ys e = refl
+take_front zero (x ∷ xs) ys e = absurd (omega arith)
+take_front (suc n) [] ys e = absurd (omega arith)
+take_front (suc n) (x ∷ xs) ys e = ap (λ z. x ∷ z) (take_front n xs ys (omega arith))
+
+-- the first ones of a list that is mapped
+pub taken : {X Y : Type 0} (f : X → Y) (n : ℕ) (all : List X) (xs ys : List Y) → map f all ≡ xs ++ ys → n ≡ length xs → map f (take n all) ≡ xs
+taken f n all xs ys e h = map_take f n all ∙ ap (take n) e ∙ take_front n xs ys h

@@ -5,3 +5,4 @@ pub mod Running
 pub mod Spaces
 pub mod Stack
 pub mod Table
+pub mod Validated

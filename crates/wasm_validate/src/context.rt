@@ -1,11 +1,13 @@
-ghost use Rattle.std.specs.Prelude.{◌≡◌, None, Some, MatchOption, slice_get};
-ghost use Rattle.wa_types.specs.View.{func_type_of};
-ghost use Rattle.wa_types.specs.Modules.{declared_locals};
-ghost use Rattle.wasm_validate.specs.Spaces.{ends_from, global_type_of};
+ghost use Rattle.std.specs.Prelude.{◌≡◌, ◌<◌, true, None, Some, MatchOption, length, slice_get};
+ghost use Rattle.wa_types.specs.View.{func_type_of, module_of};
+ghost use Rattle.wa_types.specs.Modules.{around, declared_locals};
+ghost use Rattle.wa_types.specs.Syntax.{Func as PlainFunc};
+ghost use Rattle.wa_types.specs.Validity.{types_there};
+ghost use Rattle.wasm_validate.specs.Spaces.{ends_from, global_type_of, SpacesOf};
 
-use crate::spaces::GlobalType;
+use crate::spaces::{GlobalType, Spaces};
 use std::marker::Model;
-use wa_types::{FuncType, Run, ValType};
+use wa_types::{FuncType, Module, Run, ValType};
 
 /// What stands around a body (standard, section 3.1.1). Contracts see the context of the definitions.
 #[derive(Drop)]
@@ -44,6 +46,28 @@ impl<'m> Model for Context<'m> {
 }
 
 impl<'m> Context<'m> {
+    /// What stands around the body of the defined function of this index, counted without imported ones.
+    pub(crate) fn of(module: &'m Module, spaces: &'m Spaces, index: usize) -> Context<'m>
+        requires spaces { SpacesOf (module_of «module».now) spaces.now }
+        requires sorts { types_there (module_of «module».now) ≡ true }
+        requires index { index < length «module».now.funcs.items }
+        ensures { (f : PlainFunc) → slice_get (module_of «module».now).funcs index ≡ Some f → result ≡ around (module_of «module».now) f }
+    {
+        let func = &module.funcs[index];
+        let ty = &module.types[func.sort as usize];
+        Context {
+            types: &module.types,
+            sorts: &spaces.sorts,
+            table: spaces.tables > 0,
+            memory: spaces.memories > 0,
+            globals: &spaces.globals,
+            params: &ty.params,
+            runs: &func.locals,
+            ends: &spaces.ends[index],
+            result: first_result(ty),
+        }
+    }
+
     pub(crate) fn has_table(&self) -> bool
         ensures { result ≡ self.now.table }
     {
@@ -100,6 +124,13 @@ impl<'m> Context<'m> {
         }
         declared(self.runs, self.ends, (x - self.params.len()) as u64)
     }
+}
+
+/// The result of a type, if it has one.
+fn first_result(ty: &FuncType) -> Option<ValType>
+    ensures { result ≡ slice_get ty.now.results.items 0 }
+{
+    ty.results.get(0).copied()
 }
 
 /// The type of the declared local of this index: that of the run in which it lies, found by halving.

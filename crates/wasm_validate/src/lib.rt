@@ -4,10 +4,12 @@
 mod bodies;
 mod context;
 mod indices;
+mod names;
 mod outside;
+mod rules;
 mod spaces;
 mod stack;
 mod table;
 mod valid;
 
-pub use valid::{Valid, ValidateFault};
+pub use valid::{Valid, ValidateFault, validate};

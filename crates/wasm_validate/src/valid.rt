@@ -1,9 +1,19 @@
-ghost use Rattle.std.specs.Prelude.{◌≡◌};
+ghost use Rattle.std.specs.Prelude.{◌≡◌, ◌+◌, ◌<◌, true, Some, length, slice_get};
+ghost use Rattle.wa_types.specs.FirstFault.{FirstFault};
+ghost use Rattle.wa_types.specs.Modules.{around, func_imports};
 ghost use Rattle.wa_types.specs.Sizes.{SizeRule};
-ghost use Rattle.wa_types.specs.Validity.{Valid as IsValid};
+ghost use Rattle.wa_types.specs.Syntax.{Func as PlainFunc};
+ghost use Rattle.wa_types.specs.Validity.{Valid as IsValid, types_there};
 ghost use Rattle.wa_types.specs.View.{module_of};
+ghost use Rattle.wasm_validate.specs.Running.{body_verdict, funcs_answer};
+ghost use Rattle.wasm_validate.specs.Spaces.{SpacesOf};
+ghost use Rattle.wasm_validate.specs.Validated.{Answers, Tells, Validates};
 
-use std::alloc::AllocError;
+use crate::bodies::{BodyFail, check_whole};
+use crate::context::Context;
+use crate::rules::broken_outside;
+use crate::spaces::Spaces;
+use std::alloc::{AllocError, Global};
 use std::marker::Model;
 use thiserror::Error;
 use wa_types::Module;
@@ -12,6 +22,7 @@ use wa_types::Module;
 #[derive(Debug, Drop)]
 pub struct Valid {
     module: Module,
+    spaces: Spaces,
 }
 
 impl Model for Valid {
@@ -20,6 +31,7 @@ impl Model for Valid {
     ghost use Rattle.wa_types.specs.View.{module_of};
     ghost use Rattle.wa_types.specs.declared.syntax.Module.{Module as ModuleValue};
     ghost use Rattle.wa_types.specs.contracts.instrs.Instr as instr;
+    ghost use Rattle.wasm_validate.specs.Spaces.{SpacesOf};
     ghost use Rattle.std.specs.Coded.{codes};
 
     ghost coded = { Prim.hlevel (codes, instr.the_row.coded) };
@@ -28,7 +40,7 @@ impl Model for Valid {
 
     ghost view = { λ s. s.«module» };
 
-    ghost invariant = { λ s. IsValid (module_of s.«module») × SizeRule (module_of s.«module») };
+    ghost invariant = { λ s. IsValid (module_of s.«module») × SizeRule (module_of s.«module») × SpacesOf (module_of s.«module») s.spaces };
 }
 
 impl Valid {
@@ -65,5 +77,63 @@ impl From<AllocError> for ValidateFault {
 
     fn from(_error: AllocError) -> ValidateFault {
         ValidateFault::Memory
+    }
+}
+
+/// The module where it is valid (standard, section 3.4), and else its first fault. Takes time near linear in the
+/// module, and goes no deeper than its bodies nest.
+pub fn validate(alloc: Global, module: Module) -> Result<Valid, ValidateFault>
+    requires { SizeRule (module_of «module») }
+    ensures { Validates «module» result }
+{
+    let spaces = Spaces::of(alloc, &module)?;
+    if let Some(rule) = broken_outside(alloc, &module, &spaces)? {
+        return Err(ValidateFault::Invalid {
+            func: None,
+            rule,
+            at: 0,
+        });
+    }
+    check_funcs(alloc, &module, &spaces)?;
+    Ok(Valid { module, spaces })
+}
+
+/// Checks the bodies in index order.
+#[tactic(auto, using(crate::proofs::FuncLemmas::checking))]
+fn check_funcs(alloc: Global, module: &Module, spaces: &Spaces) -> Result<(), ValidateFault>
+    requires sizes { SizeRule (module_of «module».now) }
+    requires spaces { SpacesOf (module_of «module».now) spaces.now }
+    requires sorts { types_there (module_of «module».now) ≡ true }
+    ensures { Answers result (funcs_answer (module_of «module».now) (func_imports (module_of «module».now)) (module_of «module».now).funcs) }
+{
+    for index in 0..module.funcs.len() {
+        check_func(alloc, module, spaces, index)?;
+    }
+    Ok(())
+}
+
+/// Checks the body of the defined function of this index, counted without imported ones.
+#[tactic(auto, using(crate::proofs::FuncLemmas::checking))]
+fn check_func(
+    alloc: Global,
+    module: &Module,
+    spaces: &Spaces,
+    index: usize,
+) -> Result<(), ValidateFault>
+    requires sizes { SizeRule (module_of «module».now) }
+    requires spaces { SpacesOf (module_of «module».now) spaces.now }
+    requires sorts { types_there (module_of «module».now) ≡ true }
+    requires index { index < length «module».now.funcs.items }
+    ensures { (f : PlainFunc) → slice_get (module_of «module».now).funcs index ≡ Some f → Tells result (func_imports (module_of «module».now) + index) (body_verdict (around (module_of «module».now) f) f.body) }
+{
+    let context = Context::of(module, spaces, index);
+    match check_whole(alloc, &context, &module.funcs[index].body) {
+        Ok(()) => Ok(()),
+        Err(BodyFail::Memory) => Err(ValidateFault::Memory),
+        Err(BodyFail::Invalid { rule, at }) => Err(ValidateFault::Invalid {
+            func: Some((spaces.func_imports + index) as u32),
+            rule,
+            at,
+        }),
     }
 }
