@@ -9,3 +9,4 @@ pub mod OutsideLemmas
 pub mod Right
 pub mod SpaceLemmas
 pub mod Trees
+pub mod Walks

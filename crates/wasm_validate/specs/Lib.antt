@@ -6,3 +6,4 @@ pub mod Spaces
 pub mod Stack
 pub mod Table
 pub mod Validated
+pub mod Walk

@@ -11,5 +11,7 @@ mod spaces;
 mod stack;
 mod table;
 mod valid;
+mod walk;
 
 pub use valid::{Valid, ValidateFault, validate};
+pub use walk::Typing;

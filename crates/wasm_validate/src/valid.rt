@@ -1,6 +1,6 @@
 ghost use Rattle.std.specs.Prelude.{◌≡◌, ◌+◌, ◌<◌, true, Some, length, slice_get};
 ghost use Rattle.wa_types.specs.FirstFault.{FirstFault};
-ghost use Rattle.wa_types.specs.Modules.{around, func_imports};
+ghost use Rattle.wa_types.specs.Modules.{around, defined_at, func_imports};
 ghost use Rattle.wa_types.specs.Sizes.{SizeRule};
 ghost use Rattle.wa_types.specs.Syntax.{Func as PlainFunc};
 ghost use Rattle.wa_types.specs.Validity.{Valid as IsValid, types_there};
@@ -8,6 +8,7 @@ ghost use Rattle.wa_types.specs.View.{module_of};
 ghost use Rattle.wasm_validate.specs.Running.{body_verdict, funcs_answer};
 ghost use Rattle.wasm_validate.specs.Spaces.{SpacesOf};
 ghost use Rattle.wasm_validate.specs.Validated.{Answers, Tells, Validates};
+ghost use Rattle.wasm_validate.specs.Walk.{around_or};
 
 use crate::bodies::{BodyFail, check_whole};
 use crate::context::Context;
@@ -51,6 +52,23 @@ impl Valid {
         ensures sizes { SizeRule (module_of result.now) }
     {
         &self.module
+    }
+
+    /// The index of a defined function among the defined ones.
+    pub(crate) fn defined(&self, func: u32) -> usize
+        requires { (f : PlainFunc) × (defined_at (module_of self.now) func ≡ Some f) }
+        ensures within { result < length self.now.funcs.items }
+        ensures same { defined_at (module_of self.now) func ≡ slice_get (module_of self.now).funcs result }
+    {
+        func as usize - self.spaces.func_imports
+    }
+
+    /// What stands around the body of the defined function of this index, counted without imported ones.
+    pub(crate) fn context(&self, index: usize) -> Context<'_>
+        requires { index < length self.now.funcs.items }
+        ensures { result ≡ around_or (module_of self.now) (slice_get (module_of self.now).funcs index) }
+    {
+        Context::of(&self.module, &self.spaces, index)
     }
 }
 
