@@ -1,0 +1,12 @@
+pub mod ContextLemmas
+pub mod Decided
+pub mod Exact
+pub mod ExpressionLemmas
+pub mod FuncLemmas
+pub mod Lists
+pub mod NameLemmas
+pub mod OutsideLemmas
+pub mod Right
+pub mod SpaceLemmas
+pub mod Trees
+pub mod Walks
