@@ -6,10 +6,10 @@ use Rattle.wa_types.specs.Spells.{Number, Items, Vector, Sized, Filling, Functio
 use Rattle.wa_types.specs.ModuleBounds.{ModuleBounds}
 use Rattle.wasm_reader.specs.declared.marks.Marks.{Marks}
 use Rattle.wasm_reader.specs.declared.front.NotSpelled.{NotSpelled}
-use Rattle.wasm_reader.specs.declared.scan.entries.EntryKind.TheVariants.{AType, AnImport, AGlobal, AnElement, ABody, ASegment}
+use Rattle.wasm_reader.specs.declared.scan.entries.EntryKind.TheVariants.{FuncType as a_type, Import as an_import, Global as a_global, Element as an_element, Body as a_body, Segment as a_segment}
 use Rattle.wasm_reader.specs.Places.{Place, place_in, ReadsNumber}
 use Rattle.wasm_reader.specs.Scanning.{Seen, functions_seen, seen_in, Noted, Skips, Scans, Filled, seen_entry, seen_section}
-use Rattle.wasm_reader.proofs.Scans.{no_answer, Stepped, skip_as, scan_as, scan_skip, scan_never, never_scanned, number_then, byte_then, number_stop, noted_none, noted_both, number_same, taken, never_taken, never_skipped, place_left, place_at}
+use Rattle.wasm_reader.proofs.Scans.{no_answer, Stepped, skip_as, scan_as, scan_skip, scan_never, never_scanned, number_then, byte_then, number_stop, noted_none, noted_both, number_same, taken, never_taken, place_left, place_at}
 
 -- the functions of a section, by their number
 pub counted : (b : ModuleBounds) (sorts s : List ℕ) (size count : ℕ) (p q o p' : Place) (m n : Marks) → p.left ≡ s ++ q.left → length s ≡ size → q.at ≡ p.at + size
@@ -40,32 +40,32 @@ module _ (b : ModuleBounds) (size : ℕ) (p q : Place) (m n : Marks) (r : Result
   abbrev pub Here : (ℕ → List ℕ → Type 0) → Seen → Type 0
   Here P s = Scans b P s p m r q n
 
-  pub in_types : (s : Section) → section_id s ≡ 1 → ((xs : List RawType) → Here (Vector FunctionType xs) (seen_in (seen_entry b AType) xs)) → Here (Filling size (ContentOf s)) (seen_section b s)
-  in_types (types xs) e f = scan_as b (Filling size (Vector FunctionType xs)) (Vector FunctionType xs) (seen_in (seen_entry b AType) xs) p m r q n (λ at a h. h.1) (f xs)
+  pub in_types : (s : Section) → section_id s ≡ 1 → ((xs : List RawType) → Here (Vector FunctionType xs) (seen_in (seen_entry b a_type) xs)) → Here (Filling size (ContentOf s)) (seen_section b s)
+  in_types (types xs) e f = scan_as b (Filling size (Vector FunctionType xs)) (Vector FunctionType xs) (seen_in (seen_entry b a_type) xs) p m r q n (λ at a h. h.1) (f xs)
   in_types _ e f = absurd (omega (arith, e))
 
-  pub in_imports : (s : Section) → section_id s ≡ 2 → ((xs : List RawImport) → Here (Vector ImportOf xs) (seen_in (seen_entry b AnImport) xs)) → Here (Filling size (ContentOf s)) (seen_section b s)
-  in_imports (imports xs) e f = scan_as b (Filling size (Vector ImportOf xs)) (Vector ImportOf xs) (seen_in (seen_entry b AnImport) xs) p m r q n (λ at a h. h.1) (f xs)
+  pub in_imports : (s : Section) → section_id s ≡ 2 → ((xs : List RawImport) → Here (Vector ImportOf xs) (seen_in (seen_entry b an_import) xs)) → Here (Filling size (ContentOf s)) (seen_section b s)
+  in_imports (imports xs) e f = scan_as b (Filling size (Vector ImportOf xs)) (Vector ImportOf xs) (seen_in (seen_entry b an_import) xs) p m r q n (λ at a h. h.1) (f xs)
   in_imports _ e f = absurd (omega (arith, e))
 
   pub in_functions : (s : Section) → section_id s ≡ 3 → ((xs : List ℕ) → Here (Filling size (Vector Number xs)) (functions_seen xs)) → Here (Filling size (ContentOf s)) (seen_section b s)
   in_functions (functions xs) e f = f xs
   in_functions _ e f = absurd (omega (arith, e))
 
-  pub in_globals : (s : Section) → section_id s ≡ 6 → ((xs : List RawGlobal) → Here (Vector GlobalOf xs) (seen_in (seen_entry b AGlobal) xs)) → Here (Filling size (ContentOf s)) (seen_section b s)
-  in_globals (globals xs) e f = scan_as b (Filling size (Vector GlobalOf xs)) (Vector GlobalOf xs) (seen_in (seen_entry b AGlobal) xs) p m r q n (λ at a h. h.1) (f xs)
+  pub in_globals : (s : Section) → section_id s ≡ 6 → ((xs : List RawGlobal) → Here (Vector GlobalOf xs) (seen_in (seen_entry b a_global) xs)) → Here (Filling size (ContentOf s)) (seen_section b s)
+  in_globals (globals xs) e f = scan_as b (Filling size (Vector GlobalOf xs)) (Vector GlobalOf xs) (seen_in (seen_entry b a_global) xs) p m r q n (λ at a h. h.1) (f xs)
   in_globals _ e f = absurd (omega (arith, e))
 
-  pub in_elements : (s : Section) → section_id s ≡ 9 → ((xs : List RawElem) → Here (Vector ElementOf xs) (seen_in (seen_entry b AnElement) xs)) → Here (Filling size (ContentOf s)) (seen_section b s)
-  in_elements (elements xs) e f = scan_as b (Filling size (Vector ElementOf xs)) (Vector ElementOf xs) (seen_in (seen_entry b AnElement) xs) p m r q n (λ at a h. h.1) (f xs)
+  pub in_elements : (s : Section) → section_id s ≡ 9 → ((xs : List RawElem) → Here (Vector ElementOf xs) (seen_in (seen_entry b an_element) xs)) → Here (Filling size (ContentOf s)) (seen_section b s)
+  in_elements (elements xs) e f = scan_as b (Filling size (Vector ElementOf xs)) (Vector ElementOf xs) (seen_in (seen_entry b an_element) xs) p m r q n (λ at a h. h.1) (f xs)
   in_elements _ e f = absurd (omega (arith, e))
 
-  pub in_bodies : (s : Section) → section_id s ≡ 10 → ((xs : List RawBody) → Here (Vector BodyOf xs) (seen_in (seen_entry b ABody) xs)) → Here (Filling size (ContentOf s)) (seen_section b s)
-  in_bodies (bodies xs) e f = scan_as b (Filling size (Vector BodyOf xs)) (Vector BodyOf xs) (seen_in (seen_entry b ABody) xs) p m r q n (λ at a h. h.1) (f xs)
+  pub in_bodies : (s : Section) → section_id s ≡ 10 → ((xs : List RawBody) → Here (Vector BodyOf xs) (seen_in (seen_entry b a_body) xs)) → Here (Filling size (ContentOf s)) (seen_section b s)
+  in_bodies (bodies xs) e f = scan_as b (Filling size (Vector BodyOf xs)) (Vector BodyOf xs) (seen_in (seen_entry b a_body) xs) p m r q n (λ at a h. h.1) (f xs)
   in_bodies _ e f = absurd (omega (arith, e))
 
-  pub in_segments : (s : Section) → section_id s ≡ 11 → ((xs : List RawSegment) → Here (Vector SegmentOf xs) (seen_in (seen_entry b ASegment) xs)) → Here (Filling size (ContentOf s)) (seen_section b s)
-  in_segments (segments xs) e f = scan_as b (Filling size (Vector SegmentOf xs)) (Vector SegmentOf xs) (seen_in (seen_entry b ASegment) xs) p m r q n (λ at a h. h.1) (f xs)
+  pub in_segments : (s : Section) → section_id s ≡ 11 → ((xs : List RawSegment) → Here (Vector SegmentOf xs) (seen_in (seen_entry b a_segment) xs)) → Here (Filling size (ContentOf s)) (seen_section b s)
+  in_segments (segments xs) e f = scan_as b (Filling size (Vector SegmentOf xs)) (Vector SegmentOf xs) (seen_in (seen_entry b a_segment) xs) p m r q n (λ at a h. h.1) (f xs)
   in_segments _ e f = absurd (omega (arith, e))
 
 -- the ids of sections that are looked into
@@ -157,11 +157,6 @@ begun bytes ss p q e f s =
     let x = f.goes h.0 h.1 (ap (λ z. z.left) e ∙ h.2) (ap length h.3) in
     let at : q.at ≡ 0 + length h.0 = place_at p q h.0 h.1 x.place ∙ ap (λ z. z.at + length h.0) e in
     subst (λ z. Items SectionOf ss z q.left) (sym at) (subst (Items SectionOf ss (0 + length h.0)) (sym (place_left p q h.0 h.1 x.place)) h.4)
-
-pub never_begun : {A : Type 0} (bytes : List ℕ) (ss : List Section) (p q : Place) (d : NotSpelled) → p ≡ place_in bytes 0 → Skips (Filled 8) p (Err d) q → Spells bytes ss → A
-never_begun bytes ss p q d e f s =
-    let h = s.parts in
-    absurd (never_skipped (Filled 8) p d q f h.0 h.1 (ap (λ z. z.left) e ∙ h.2) (ap length h.3))
 
 -- a section fails
 pub never_closes : {A : Type 0} (b : ModuleBounds) (ss : List Section) (p : Place) (m n : Marks) (d : NotSpelled) → Closes b ss p m (Err d) n → Items SectionOf ss p.at p.left → A

@@ -13,8 +13,9 @@ use Rattle.wa_types.proofs.NumberReading.{unsigned_some}
 use Rattle.wa_types.specs.ModuleBounds.{ModuleBounds}
 use Rattle.wasm_reader.specs.declared.marks.Marks.{Marks}
 use Rattle.wasm_reader.specs.declared.scan.entries.EntryKind.{EntryKind}
-use Rattle.wasm_reader.specs.declared.scan.entries.EntryKind.TheVariants.{AType, AnImport, AGlobal, AnElement, ABody, ASegment}
+use Rattle.wasm_reader.specs.declared.scan.entries.EntryKind.TheVariants.{FuncType as a_type, Import as an_import, Global as a_global, Element as an_element, Body as a_body, Segment as a_segment}
 use Rattle.wasm_reader.specs.Scanning.{Seen, nothing_seen, both, floats_seen, opens_seen, functions_seen, seen_in, first_of, above_of, Noted, seen_placed, seen_code, seen_type, seen_kind, seen_body, EntryOf, EntryIs, seen_entry, seen_section}
+use Rattle.wasm_reader.proofs.Parts.{flat_nothing}
 use Rattle.wasm_reader.specs.Found.{IsFirst, MarksOf}
 
 -- Offsets that rise from one offset, and stay below another.
@@ -111,9 +112,6 @@ holds_op op t u at a h =
     let here : (b : Bool) → Within at (at + length a) (place_if b op.place) = λ b. subst (λ z. Within at z (place_if b op.place)) n (subst (λ z. Within at (at + 1) (place_if b z)) h.0 (within_if b at)) in
     record { floats = here t; opens = here u; funcs = omega arith }
 
-assoc_three : (a b c : List ℕ) → a ++ (b ++ c) ≡ a ++ b ++ c
-assoc_three a b c = sym (append_assoc a b c)
-
 holds_level : (c : RawCode) (P Q : ℕ → List ℕ → Type 0) (op result : Placed) (body rest : RawCode) (b : ModuleBounds) (level : ℕ)
     → code_floats c ≡ float_type result ++ code_floats body ++ code_floats rest
     → code_opens b.nesting level c ≡ place_if (nat_le b.nesting level) op.place ++ code_opens b.nesting (level + 1) body ++ code_opens b.nesting level rest
@@ -125,8 +123,8 @@ holds_level c P Q op result body rest b level e f g h at a w =
     let x = holds_both (Byte op) (BlockType result ▸ P ▸ Q) (opens_seen here) (both (seen_placed result) (both inner after)) (holds_op op false (nat_le b.nesting level))
     (holds_both (BlockType result) (P ▸ Q) (seen_placed result) (both inner after) (λ k d u. holds_type result k d u.1) (holds_both P Q inner after g h)) at a w in
     record {
-      floats = subst (λ z. Within at (at + length a) z) (assoc_three (float_type result) (code_floats body) (code_floats rest) ∙ sym e) x.floats;
-      opens = subst (λ z. Within at (at + length a) z) (assoc_three here (code_opens b.nesting (level + 1) body) (code_opens b.nesting level rest) ∙ sym f) x.opens;
+      floats = subst (λ z. Within at (at + length a) z) (sym (append_assoc (float_type result) (code_floats body) (code_floats rest)) ∙ sym e) x.floats;
+      opens = subst (λ z. Within at (at + length a) z) (sym (append_assoc here (code_opens b.nesting (level + 1) body) (code_opens b.nesting level rest)) ∙ sym f) x.opens;
       funcs = omega arith;
     }
 
@@ -184,13 +182,13 @@ holds_body b x at a h =
     record { floats = y.floats; opens = y.opens; funcs = y.funcs }
 
 holds_entry : (b : ModuleBounds) (k : EntryKind) (x : EntryOf k) → Holds (EntryIs k x) (seen_entry b k x)
-holds_entry b AType x = holds_func_type x
-holds_entry b AnImport x = holds_behind (Text x.module_name) (Text x.base ▸ ImportKindOf x.kind) (seen_kind x.kind) (holds_behind (Text x.base) (ImportKindOf x.kind) (seen_kind x.kind) (holds_kind x.kind))
-holds_entry b AGlobal x = holds_both (GlobalType x.ty x.mutable) (Expression x.init) (seen_placed x.ty) (seen_code b 0 x.init) (holds_global_type x.ty x.mutable) (holds_code x.init false b 0)
-holds_entry b AnElement x =
+holds_entry b a_type x = holds_func_type x
+holds_entry b an_import x = holds_behind (Text x.module_name) (Text x.base ▸ ImportKindOf x.kind) (seen_kind x.kind) (holds_behind (Text x.base) (ImportKindOf x.kind) (seen_kind x.kind) (holds_kind x.kind))
+holds_entry b a_global x = holds_both (GlobalType x.ty x.mutable) (Expression x.init) (seen_placed x.ty) (seen_code b 0 x.init) (holds_global_type x.ty x.mutable) (holds_code x.init false b 0)
+holds_entry b an_element x =
     holds_behind (Number x.table) (Expression x.offset ▸ Vector Number x.funcs) (seen_code b 0 x.offset) (holds_before (Expression x.offset) (Vector Number x.funcs) (seen_code b 0 x.offset) (holds_code x.offset false b 0))
-holds_entry b ABody x = holds_body b x
-holds_entry b ASegment x =
+holds_entry b a_body x = holds_body b x
+holds_entry b a_segment x =
     let B = Number (length x.bytes) ▸ Exactly x.bytes in
     holds_behind (Number x.memory) (Expression x.offset ▸ B) (seen_code b 0 x.offset) (holds_before (Expression x.offset) B (seen_code b 0 x.offset) (holds_code x.offset false b 0))
 
@@ -204,13 +202,13 @@ holds_sorts : (sorts : List ℕ) → Holds (Vector Number sorts) (functions_seen
 holds_sorts sorts at a h = record { floats = omega arith; opens = omega arith; funcs = omega (arith, ap length h.2, length-append h.0 h.1, numbers_fit sorts (at + length h.0) h.1 h.4) }
 
 holds_content : (b : ModuleBounds) (s : Section) → Holds (ContentOf s) (seen_section b s)
-holds_content b (types xs) = holds_vector FunctionType (seen_entry b AType) (holds_entry b AType) xs
-holds_content b (imports xs) = holds_vector ImportOf (seen_entry b AnImport) (holds_entry b AnImport) xs
+holds_content b (types xs) = holds_vector FunctionType (seen_entry b a_type) (holds_entry b a_type) xs
+holds_content b (imports xs) = holds_vector ImportOf (seen_entry b an_import) (holds_entry b an_import) xs
 holds_content b (functions xs) = holds_sorts xs
-holds_content b (globals xs) = holds_vector GlobalOf (seen_entry b AGlobal) (holds_entry b AGlobal) xs
-holds_content b (elements xs) = holds_vector ElementOf (seen_entry b AnElement) (holds_entry b AnElement) xs
-holds_content b (bodies xs) = holds_vector BodyOf (seen_entry b ABody) (holds_entry b ABody) xs
-holds_content b (segments xs) = holds_vector SegmentOf (seen_entry b ASegment) (holds_entry b ASegment) xs
+holds_content b (globals xs) = holds_vector GlobalOf (seen_entry b a_global) (holds_entry b a_global) xs
+holds_content b (elements xs) = holds_vector ElementOf (seen_entry b an_element) (holds_entry b an_element) xs
+holds_content b (bodies xs) = holds_vector BodyOf (seen_entry b a_body) (holds_entry b a_body) xs
+holds_content b (segments xs) = holds_vector SegmentOf (seen_entry b a_segment) (holds_entry b a_segment) xs
 holds_content b s = holds_nothing (ContentOf s)
 
 holds_section : (b : ModuleBounds) (s : Section) → Holds (SectionOf s) (seen_section b s)
@@ -222,10 +220,6 @@ holds_file : (b : ModuleBounds) (ss : List Section) (bytes : List ℕ) → Spell
 holds_file b ss bytes s = holds_behind (Exactly preamble) (Items SectionOf ss) (seen_in (seen_section b) ss) (holds_items SectionOf (seen_section b) (holds_section b) ss) 0 bytes s.parts
 
 -- What stands in the sections, by the definitions of marks.
-
-flat_nothing : {X : Type 0} (xs : List X) → flat_map {A = ℕ} (λ x. []) xs ≡ []
-flat_nothing [] = refl
-flat_nothing (x ∷ xs) = flat_nothing xs
 
 flat_same : {X : Type 0} (f g : X → List ℕ) → ((x : X) → f x ≡ g x) → (xs : List X) → flat_map f xs ≡ flat_map g xs
 flat_same f g h [] = refl

@@ -13,17 +13,12 @@ use Rattle.wasm_reader.specs.Scanning.{nothing_seen, floats_seen, functions_seen
 use Rattle.wasm_reader.proofs.Scans.{Stepped, scan_skip, note_then, byte_then}
 use Rattle.wasm_reader.proofs.Skipping.{text_bytes}
 
-none_of : List ℕ
-none_of = []
-
-flat_nothing : {X : Type 0} (xs : List X) → flat_map (λ x. none_of) xs ≡ none_of
-unfolding none_of
+pub flat_nothing : {X : Type 0} (xs : List X) → flat_map {A = ℕ} (λ x. []) xs ≡ []
 flat_nothing [] = refl
 flat_nothing (x ∷ xs) = flat_nothing xs
 
 -- entries that have floats alone
 pub floats_alone : {X : Type 0} (f : X → List ℕ) (xs : List X) → seen_in (λ x. floats_seen (f x)) xs ≡ floats_seen (flat_map f xs)
-unfolding none_of
 floats_alone f xs = λ i. record { floats_at = flat_map f xs; opens_at = flat_nothing xs i; funcs = flat_nothing xs i; params = flat_nothing xs i; sizes = flat_nothing xs i }
 
 -- a function type, flat

@@ -319,6 +319,3 @@ skip_stop b P Q t p q p' m m' d r f = scan_never b (P ▸ Q) t p m r p' m' (neve
 
 pub number_stop : (b : ModuleBounds) (Q : ℕ → List ℕ → Type 0) (t : Seen) (n : ℕ) (p q p' : Place) (m m' : Marks) (d : NotSpelled) (r : Result (Unit {0}) NotSpelled) → ReadsNumber (IsUnsigned 32) (Err d) p q → Scans b (Number n ▸ Q) t p m r p' m'
 number_stop b Q t n p q p' m m' d r f = scan_never b (Number n ▸ Q) t p m r p' m' (never_then (Number n) Q p (never_number n p q d f))
-
-pub byte_stop : (b : ModuleBounds) (Q : ℕ → List ℕ → Type 0) (t : Seen) (x : ℕ) (p p' : Place) (m m' : Marks) (r : Result (Unit {0}) NotSpelled) → p.left ≡ [] → Scans b (Exactly (x ∷ []) ▸ Q) t p m r p' m'
-byte_stop b Q t x p p' m m' r f = scan_never b (Exactly (x ∷ []) ▸ Q) t p m r p' m' (never_then (Exactly (x ∷ [])) Q p (λ front rest e h. never_byte x p front rest f e h))

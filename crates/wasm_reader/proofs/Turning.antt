@@ -10,8 +10,8 @@ use Rattle.wa_types.specs.ModuleBounds.{ModuleBounds}
 use Rattle.wasm_reader.specs.declared.marks.Marks.{Marks}
 use Rattle.wasm_reader.specs.declared.front.NotSpelled.{NotSpelled}
 use Rattle.wasm_reader.specs.Places.{Place}
-use Rattle.wasm_reader.specs.Scanning.{Seen, both, floats_seen, opens_seen, Noted, Skips, Scans, Arm, Turns, seen_placed, seen_code, seen_levels}
-use Rattle.wasm_reader.proofs.Scans.{Stepped, scan_as, scan_told, scan_same, scan_never, scan_nothing, scan_then, note_then, byte_then, placed_then, never_then, never_scanned, never_skipped}
+use Rattle.wasm_reader.specs.Scanning.{Seen, both, floats_seen, opens_seen, Noted, Scans, Arm, Turns, seen_placed, seen_code, seen_levels}
+use Rattle.wasm_reader.proofs.Scans.{Stepped, scan_as, scan_told, scan_same, scan_never, scan_nothing, scan_then, note_then, byte_then, placed_then, never_then, never_scanned}
 
 -- what stands behind an opcode, by what the table says
 abbrev pub Behind : Follows → ℕ → List ℕ → Type 0
@@ -40,9 +40,6 @@ same_shape f g o d e = cc
 -- the operands of an opcode, where the table says what they are
 pub operands_are : (op : ℕ) (f : Follows) (o : Operands) → Some f ≡ follows op → follows op ≡ Some (shape o) → (at : ℕ) (a : List ℕ) → OperandsOf o at a → Behind f at a
 operands_are op f o d e at a h = subst (λ k. Behind k at a) (same_shape (shape o) f (follows op) e (sym d)) (behind_of o at a h)
-
-pub no_operands : {A : Type 0} (op : ℕ) (o : Operands) → None ≡ follows op → follows op ≡ Some (shape o) → A
-no_operands op o d e = absurd (let h : None ≡ Some (shape o) = d ∙ e in cc)
 
 assoc_three : (a b c d : List ℕ) → a ++ (b ++ (c ++ d)) ≡ (a ++ b ++ c) ++ d
 assoc_three a b c d = sym (append_assoc a b (c ++ d)) ∙ sym (append_assoc (a ++ b) c d)
@@ -297,6 +294,3 @@ pub result_never : (b : ModuleBounds) (result : Placed) (Q : ℕ → List ℕ �
     → Scans b (Byte result) (seen_placed result) q m (Err d) q' n → Scans b (BlockType result ▸ Q) t q m r p' m'
 result_never b result Q t q q' p' m n m' d r f =
     scan_never b (BlockType result ▸ Q) t q m r p' m' (never_then (BlockType result) Q q (λ front rest e h. never_scanned b (Byte result) (seen_placed result) q m d q' n f front rest e h.1))
-
-pub operands_never : (b : ModuleBounds) (P Q : ℕ → List ℕ → Type 0) (t : Seen) (q q' p' : Place) (m m' : Marks) (d : NotSpelled) (r : Result (Unit {0}) NotSpelled) → Skips P q (Err d) q' → Scans b (P ▸ Q) t q m r p' m'
-operands_never b P Q t q q' p' m m' d r f = scan_never b (P ▸ Q) t q m r p' m' (never_then P Q q (never_skipped P q d q' f))

@@ -6,7 +6,7 @@ use Rattle.wa_types.specs.Marks.{float_type, code_floats, type_floats, kind_floa
 use Rattle.wa_types.specs.ModuleBounds.{ModuleBounds}
 use Rattle.wasm_reader.specs.declared.marks.Marks.{Marks}
 use Rattle.wasm_reader.specs.declared.scan.entries.EntryKind.{EntryKind}
-use Rattle.wasm_reader.specs.declared.scan.entries.EntryKind.TheVariants.{AType, AnImport, AGlobal, AnElement, ABody, ASegment}
+use Rattle.wasm_reader.specs.declared.scan.entries.EntryKind.TheVariants.{FuncType as a_type, Import as an_import, Global as a_global, Element as an_element, Body as a_body, Segment as a_segment}
 use Rattle.wasm_reader.specs.declared.front.NotSpelled.{NotSpelled}
 use Rattle.wasm_reader.specs.Places.{Place, behind}
 
@@ -99,37 +99,37 @@ seen_body b x = record { floats_at = body_floats x; opens_at = code_opens b.nest
 
 -- the entries of sections that are scanned one by one
 abbrev pub EntryOf : EntryKind → Type 0
-EntryOf AType = RawType
-EntryOf AnImport = RawImport
-EntryOf AGlobal = RawGlobal
-EntryOf AnElement = RawElem
-EntryOf ABody = RawBody
-EntryOf ASegment = RawSegment
+EntryOf a_type = RawType
+EntryOf an_import = RawImport
+EntryOf a_global = RawGlobal
+EntryOf an_element = RawElem
+EntryOf a_body = RawBody
+EntryOf a_segment = RawSegment
 
 abbrev pub EntryIs : (k : EntryKind) → EntryOf k → ℕ → List ℕ → Type 0
-EntryIs AType x = FunctionType x
-EntryIs AnImport x = ImportOf x
-EntryIs AGlobal x = GlobalOf x
-EntryIs AnElement x = ElementOf x
-EntryIs ABody x = BodyOf x
-EntryIs ASegment x = SegmentOf x
+EntryIs a_type x = FunctionType x
+EntryIs an_import x = ImportOf x
+EntryIs a_global x = GlobalOf x
+EntryIs an_element x = ElementOf x
+EntryIs a_body x = BodyOf x
+EntryIs a_segment x = SegmentOf x
 
 abbrev pub seen_entry : ModuleBounds → (k : EntryKind) → EntryOf k → Seen
-seen_entry b AType x = seen_type x
-seen_entry b AnImport x = seen_import x
-seen_entry b AGlobal x = seen_global b x
-seen_entry b AnElement x = seen_code b 0 x.offset
-seen_entry b ABody x = seen_body b x
-seen_entry b ASegment x = seen_code b 0 x.offset
+seen_entry b a_type x = seen_type x
+seen_entry b an_import x = seen_import x
+seen_entry b a_global x = seen_global b x
+seen_entry b an_element x = seen_code b 0 x.offset
+seen_entry b a_body x = seen_body b x
+seen_entry b a_segment x = seen_code b 0 x.offset
 
 abbrev pub seen_section : ModuleBounds → Section → Seen
-seen_section b (types ts) = seen_in (seen_entry b AType) ts
-seen_section b (imports is) = seen_in (seen_entry b AnImport) is
+seen_section b (types ts) = seen_in (seen_entry b a_type) ts
+seen_section b (imports is) = seen_in (seen_entry b an_import) is
 seen_section b (functions sorts) = functions_seen sorts
-seen_section b (globals gs) = seen_in (seen_entry b AGlobal) gs
-seen_section b (elements es) = seen_in (seen_entry b AnElement) es
-seen_section b (bodies bs) = seen_in (seen_entry b ABody) bs
-seen_section b (segments ss) = seen_in (seen_entry b ASegment) ss
+seen_section b (globals gs) = seen_in (seen_entry b a_global) gs
+seen_section b (elements es) = seen_in (seen_entry b an_element) es
+seen_section b (bodies bs) = seen_in (seen_entry b a_body) bs
+seen_section b (segments ss) = seen_in (seen_entry b a_segment) ss
 seen_section b _ = nothing_seen
 
 -- The part is behind the place, with nothing noted.

@@ -2,6 +2,8 @@
 mod code;
 mod entries;
 mod skips;
+#[cfg(test)]
+mod tests;
 
 ghost use Rattle.std.specs.Prelude.{◌≡◌, ℕ, ◌<◌, ◌^◌, List, length, IfOk};
 ghost use Rattle.wa_types.specs.Binary.{Section, section_id};
@@ -44,13 +46,13 @@ fn content(
     ensures onward { Onward cursor.old cursor.new }
 {
     match id {
-        1 => entries(cursor, marks, bounds, EntryKind::AType),
-        2 => entries(cursor, marks, bounds, EntryKind::AnImport),
+        1 => entries(cursor, marks, bounds, EntryKind::FuncType),
+        2 => entries(cursor, marks, bounds, EntryKind::Import),
         3 => functions(cursor, marks, size),
-        6 => entries(cursor, marks, bounds, EntryKind::AGlobal),
-        9 => entries(cursor, marks, bounds, EntryKind::AnElement),
-        10 => entries(cursor, marks, bounds, EntryKind::ABody),
-        11 => entries(cursor, marks, bounds, EntryKind::ASegment),
+        6 => entries(cursor, marks, bounds, EntryKind::Global),
+        9 => entries(cursor, marks, bounds, EntryKind::Element),
+        10 => entries(cursor, marks, bounds, EntryKind::Body),
+        11 => entries(cursor, marks, bounds, EntryKind::Segment),
         _ => skip_bytes(cursor, size),
     }
 }

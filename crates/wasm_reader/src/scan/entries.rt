@@ -15,12 +15,12 @@ use crate::marks::Marks;
 /// The entries that are scanned one by one.
 #[derive(Clone, Copy, Debug, PartialEq, Eq, Drop)]
 pub(crate) enum EntryKind {
-    AType,
-    AnImport,
-    AGlobal,
-    AnElement,
-    ABody,
-    ASegment,
+    FuncType,
+    Import,
+    Global,
+    Element,
+    Body,
+    Segment,
 }
 
 // So many value types (standard, section 5.3.1).
@@ -170,12 +170,12 @@ fn entry(
     ensures onward { Onward cursor.old cursor.new }
 {
     match kind {
-        EntryKind::AType => func_type(cursor, marks, bounds),
-        EntryKind::AnImport => import(cursor, marks, bounds),
-        EntryKind::AGlobal => global(cursor, marks, bounds),
-        EntryKind::AnElement => element(cursor, marks, bounds),
-        EntryKind::ABody => body(cursor, marks, bounds),
-        EntryKind::ASegment => segment(cursor, marks, bounds),
+        EntryKind::FuncType => func_type(cursor, marks, bounds),
+        EntryKind::Import => import(cursor, marks, bounds),
+        EntryKind::Global => global(cursor, marks, bounds),
+        EntryKind::Element => element(cursor, marks, bounds),
+        EntryKind::Body => body(cursor, marks, bounds),
+        EntryKind::Segment => segment(cursor, marks, bounds),
     }
 }
 

@@ -4,8 +4,8 @@ use Rattle.wa_types.specs.Marks.{place_if}
 use Rattle.wa_types.specs.Opcodes.{is_float_op}
 use Rattle.wa_types.specs.Spells.{Items, OperandsOf}
 use Rattle.wasm_reader.specs.Scanning.{Noted, Arm, floats_seen, opens_seen, seen_levels}
-use Rattle.wasm_reader.proofs.Scans.{skip_then}
-use Rattle.wasm_reader.proofs.Turning.{arm_end, arm_else, arm_level, arm_plain, no_code, by_first, no_level, turns_stop, result_then, result_never, operands_never}
+use Rattle.wasm_reader.proofs.Scans.{skip_then, skip_stop}
+use Rattle.wasm_reader.proofs.Turning.{arm_end, arm_else, arm_level, arm_plain, no_code, by_first, no_level, turns_stop, result_then, result_never}
 use Rattle.wasm_reader.proofs.scan.code.instruction.Goals as goal
 
 pub returns-in_err-op-clause-turns : goal.returns-in_err-op-clause-turns
@@ -62,4 +62,4 @@ returns-in_err-operands-in_default-clause-turns c =
     let noted = subst (λ z. Noted b (floats_seen (place_if (is_float_op c.in_ok-op.op) z)) c.args.marks.now c.note_op.new.self) c.at-at.ensures (c.note_op.ensures b) in
     turns_stop _ _ _ _ _ _ _ _ _ e.1 e.2 (λ x ds r p m k.
     arm_plain _ _ _ _ _ _ _ _ (record { left = c.in_ok-op.ensures.ok; at = c.in_ok-op.ensures.at }) x ds _ (λ h. omega arith) (λ h. omega arith) (λ g h. omega arith) noted
-    (λ o rest told. operands_never b (OperandsOf o) (Items Arm (rest ∷ ds)) _ _ _ _ _ _ _ _ (c.in_err-operands-in_default.ensures.skips o told)))
+    (λ o rest told. skip_stop b (OperandsOf o) (Items Arm (rest ∷ ds)) _ _ _ _ _ _ _ _ (c.in_err-operands-in_default.ensures.skips o told)))
