@@ -1,5 +1,6 @@
 pub mod Grown
 pub mod Printed
+pub mod SmallModules
 pub mod SmallRewritten
 pub mod Transforming
 pub mod Written

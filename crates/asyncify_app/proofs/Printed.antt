@@ -1,10 +1,10 @@
 -- What was printed, piece after piece.
-use Rattle.std.proofs.Common.{ℕ, ◌++◌, List, Option, Some, None, Result, Ok, Err, refl, sym, ap, ◌∙◌, take, length, inl}
+use Rattle.std.proofs.Common.{ℕ, ◌++◌, List, Option, Some, None, Result, Ok, Err, refl, sym, ap, ◌∙◌, take, length, inl, inr}
 use Rattle.std.specs.Prelude.{OnOk, OnErr}
 use Rattle.std.proofs.lemmas.List.{append-nil}
 use Rattle.vault_port.specs.Told.{Becomes}
 use Rattle.vault_port.specs.Taken.{Appends, AppendsLess}
-use Rattle.asyncify_app.specs.Lines.{memory_line, not_built_line}
+use Rattle.asyncify_app.specs.Lines.{memory_line, read_fault_line}
 use Rattle.asyncify_app.specs.Transforms.{EndsInMemory, PrintsMemory, RunsOutOfMemory}
 use Rattle.vault_port.specs.Files.{Files}
 
@@ -46,6 +46,6 @@ memory_behind line (Some x) None new g h = absurd g
 -- the line on memory alone, where any line might have been begun
 pub memory_any : (files : Option Files) (input output : List ℕ) (old new : Option (List ℕ)) → Becomes old new EndsInMemory → Becomes old new (RunsOutOfMemory files input output)
 memory_any files input output None None h = tt
-memory_any files input output (Some x) (Some y) h = (not_built_line, inl refl, memory_alone not_built_line (Some x) (Some y) h)
+memory_any files input output (Some x) (Some y) h = (read_fault_line input, inr (inl refl), memory_alone (read_fault_line input) (Some x) (Some y) h)
 memory_any files input output None (Some y) h = h
 memory_any files input output (Some x) None h = h

@@ -1,7 +1,10 @@
 -- A small module is rewritten by the runtime's parts: nothing in it may pause.
-use Rattle.std.proofs.Common.{◌≡◌, ℕ, zero, suc, ◌-◌, ◌<◌, List, [], ◌∷◌, Some, None, Bool, true, false, refl, sym, ap, ◌∙◌, subst, length, arith, All, Contains}
+use Rattle.std.proofs.Common.{◌≡◌, ℕ, zero, suc, ◌-◌, ◌+◌, ◌<◌, ◌||◌, not, cond, Option, List, [], ◌∷◌, Some, None, Bool, true, false, refl, sym, ap, ◌∙◌, subst, length, arith, All, Contains}
 use Rattle.std.specs.Prelude.{slice_get, slice_index_or, nat_lt, if◌then◌else◌}
-use Rattle.std.specs.List.{filter_map, list_any}
+use Rattle.std.specs.List.{filter_map, list_any, list_all}
+use Rattle.std.specs.List.{position, position_or_len}
+use Rattle.std.specs.Option.{is_none}
+use Rattle.std.proofs.lemmas.Bool.{lt-ltb, le-ltb, ltb-true, ltb-false}
 use Rattle.std.specs.Str.{bytes_eq}
 use Rattle.std.proofs.lemmas.Bool.{and_parts, or_parts}
 use Rattle.std.proofs.lemmas.List.Elements.{All-head, All-tail, All-nil, All-cons}
@@ -15,9 +18,9 @@ use Rattle.wa_types.specs.Pausing.{Settings, Listed, listed_import, Callee, dire
 use Rattle.wa_types.specs.Runtime.{runtime_names, with_runtime}
 use Rattle.wa_model.specs.Rewrites.{Rewrites}
 use Rattle.wa_model.proofs.QuietRewritten.{quiet_rewritten}
-use Rattle.asyncify_runtime.specs.Reserved.{is_runtime_name}
-use Rattle.wasm_reader.specs.Small.{is_small_plain, is_small_code, IsSmallFunc, IsSmallShaped}
-use Rattle.asyncify_app.specs.Small.{IsSmall}
+use Rattle.asyncify_runtime.specs.Reserved.{is_runtime_name, reserved_import, reserved_export, first_reserved}
+use Rattle.asyncify_app.specs.Small.{is_small_plain, is_small_code, IsSmall}
+use Rattle.asyncify_app.specs.Sources.{IsSource}
 
 -- ---- calls
 
@@ -60,24 +63,24 @@ direct_at (c ∷ cs) (suc i) sort h e = direct_at cs i sort h.1 e
 
 -- ---- functions
 
-all_got : {X : Type 0} (P : X → Type 0) (xs : List X) (i : ℕ) (x : X) → All P xs → slice_get xs i ≡ Some x → P x
-all_got P [] i x h e = cc
-all_got P (y ∷ ys) zero x h e = let z : y ≡ x = cc in subst P z (All-head P y ys h)
-all_got P (y ∷ ys) (suc i) x h e = all_got P ys i x (All-tail P y ys h) e
+all_got : {X : Type 0} (p : X → Bool) (xs : List X) (i : ℕ) (x : X) → list_all p xs ≡ true → slice_get xs i ≡ Some x → p x ≡ true
+all_got p [] i x h e = cc
+all_got p (y ∷ ys) zero x h e = let z : y ≡ x = cc in subst (λ w. p w ≡ true) z (and_parts (p y) (list_all p ys) h).0
+all_got p (y ∷ ys) (suc i) x h e = all_got p ys i x (and_parts (p y) (list_all p ys) h).1 e
 
-small_body : (m : Module) (x : ℕ) (f : Func) → IsSmallShaped m → defined_at m x ≡ Some f → is_small_code f.body ≡ true
+small_body : (m : Module) (x : ℕ) (f : Func) → IsSmall m → defined_at m x ≡ Some f → is_small_code f.body ≡ true
 small_body m x f s = by_import (nat_lt x (func_imports m))
   where
     by_import : (b : Bool) → (if b then None else slice_get m.funcs (x - func_imports m)) ≡ Some f → is_small_code f.body ≡ true
     by_import true e = cc
-    by_import false e = (all_got IsSmallFunc m.funcs (x - func_imports m) f s.funcs e).body
+    by_import false e = all_got (λ (f : Func). is_small_code f.body) m.funcs (x - func_imports m) f s.funcs e
 
 none_listed : (m : Module) (s : Settings) (i : ℕ) → m.imports ≡ [] → slice_get (Listed m s) i ≡ Some true → ⊥
 none_listed m s i e h =
     let z : slice_get (Listed m s) i ≡ None = ap (λ (is : List Import). slice_get (filter_map (λ (x : Import). listed_import s.choice x (imported_func x.kind)) is) i) e in
     let bad : None ≡ Some true = sym z ∙ h in cc
 
-pub never_pauses : (m : Module) (s : Settings) → IsSmallShaped m → (x : ℕ) → MayPause m s x → ⊥
+pub never_pauses : (m : Module) (s : Settings) → IsSmall m → (x : ℕ) → MayPause m s x → ⊥
 never_pauses m s h x (calls_listed y f place i d e l) = none_listed m s i h.imports l
 never_pauses m s h x (calls_indirectly y f place sort d e i) = direct_at (calls_in f) place sort (direct_calls f.body (small_body m y f h d)) e
 never_pauses m s h x (calls_pausing y f place z d e may) = never_pauses m s h z may
@@ -94,12 +97,37 @@ not_named name (own ∷ names) h c =
     at differs rest zero lt e = differs (sym e)
     at differs rest (suc k) lt e = rest (k, omega arith, e)
 
+first_step : (b : Bool) (i n : ℕ) (c : Bool) → nat_lt i n ≡ c → nat_lt (cond (not b) (1 + i) 0) (suc n) ≡ (b || c)
+first_step true i n c h = lt-ltb 0 (suc n) (omega arith)
+first_step false i n true h = let k = ltb-true i n h in lt-ltb (1 + i) (suc n) (omega arith)
+first_step false i n false h = let k = ltb-false i n h in le-ltb (1 + i) (suc n) (omega arith)
+
+found_first : {X : Type 0} (p : X → Bool) (xs : List X) → nat_lt (position_or_len p xs) (length xs) ≡ list_any p xs
+found_first p [] = refl
+found_first p (x ∷ xs) = first_step (p x) (position_or_len p xs) (length xs) (list_any p xs) (found_first p xs)
+
+none_named : (es : List Export) → position (λ (e : Export). is_runtime_name e.name) es ≡ None → list_any (λ (e : Export). is_runtime_name e.name) es ≡ false
+none_named es h = by_any (list_any (λ (e : Export). is_runtime_name e.name) es) refl
+  where
+    p : Export → Bool
+    p = λ (e : Export). is_runtime_name e.name
+    by_any : (b : Bool) → list_any p es ≡ b → list_any p es ≡ false
+    by_any false e = e
+    by_any true e = absurd (let z : is_none (position p es) ≡ false = rw (found_first p es, e) refl in let y : is_none (position p es) ≡ true = ap is_none h in cc)
+
+-- no export has one of the five names
+none_placed : (o p : Option ℕ) → first_reserved o p ≡ None → p ≡ None
+none_placed (Some i) p h = cc
+none_placed None (Some i) h = cc
+none_placed None None h = refl
+
 free_of_names : (es : List Export) → list_any (λ (e : Export). is_runtime_name e.name) es ≡ false → All (λ (e : Export). Contains runtime_names e.name → ⊥) es
 free_of_names [] h = All-nil (λ (e : Export). Contains runtime_names e.name → ⊥)
 free_of_names (e ∷ es) h =
     let b = or_parts (is_runtime_name e.name) (list_any (λ (x : Export). is_runtime_name x.name) es) h in
     All-cons (λ (x : Export). Contains runtime_names x.name → ⊥) e es (not_named e.name runtime_names b.0) (free_of_names es b.1)
 
--- A small module with the runtime's parts is that module, rewritten, under any settings.
-pub small_modules_are_rewritten : (m : Module) (s : Settings) → IsSmall m → Rewrites m s (with_runtime m)
-small_modules_are_rewritten m s h = quiet_rewritten m s h.valid (free_of_names m.exports h.names) (never_pauses m s h.shaped)
+-- A source with the runtime's parts is that module, rewritten, under any settings.
+pub sources_are_rewritten : (bytes : List ℕ) (m : Module) (s : Settings) → IsSource bytes m → Rewrites m s (with_runtime m)
+sources_are_rewritten bytes m s h =
+    quiet_rewritten m s h.accepted.valid (free_of_names m.exports (none_named m.exports (none_placed (reserved_import m.imports) (reserved_export m.exports) h.accepted.unreserved.free))) (never_pauses m s h.small)

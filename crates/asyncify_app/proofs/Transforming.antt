@@ -1,35 +1,68 @@
 -- The file that was read, and the one that is written.
 use Rattle.std.proofs.Common.{◌≡◌, inl, inr, ℕ, ◌≤◌, List, Option, Some, None, refl, sym, ap, ◌∙◌, subst, take, length, arith}
 use Rattle.std.proofs.lemmas.List.{take_all, length-take}
+use Rattle.std.proofs.Common.{length-take-le, ◌<◌}
 use Rattle.vault_port.specs.Files.{Files, bytes_of, ChangesOnly, HoldsFrontAtMost}
 use Rattle.vault_port.specs.Told.{WhereTold, Becomes}
 use Rattle.wa_types.specs.Syntax.{Module}
 use Rattle.wa_types.specs.Encoding.{Enc}
 use Rattle.wa_types.specs.Runtime.{with_runtime}
-use Rattle.asyncify_app.specs.Transforms.{plain_settings, IsWrittenAs, HoldsSmall, IsRewritten, IsTransformed, IsCutShort, IsCount}
-use Rattle.asyncify_app.proofs.SmallRewritten.{small_modules_are_rewritten}
+use Rattle.wa_types.specs.declared.bounds.LimitKind.TheVariants.{File, Functions, Parameters, Body, Locals, Output, Script, Programs}
+use Rattle.wa_types.specs.ModuleBounds.{source_bounds}
+use Rattle.wasm_reader.specs.declared.read_fault.ReadFault.{ReadFault}
+use Rattle.wasm_reader.specs.declared.read_fault.ReadFault.TheVariants.{Memory, Malformed, Float, Deep, Limit}
+use Rattle.wasm_reader.specs.Answers.{IsAccepted, IsRefused}
+use Rattle.asyncify_app.specs.Sources.{IsFree, IsValidSource, IsSource, Cause, malformed, float, deep, limit, reserved, invalid, not_small, IsRefusedFor}
+use Rattle.asyncify_app.specs.Transforms.{plain_settings, HoldsSource, IsRewritten, IsTransformed, IsCutShort, IsCount}
+use Rattle.asyncify_app.proofs.SmallRewritten.{sources_are_rewritten}
 
 -- a front one byte past the limit that is within it is whole
-whole_front : (bytes text : List ℕ) → length text ≤ 8388608 → take 8388609 bytes ≡ text → bytes ≡ text
-whole_front bytes text few e =
-    let n : length (take 8388609 bytes) ≤ 8388608 = subst (λ s. length s ≤ 8388608) (sym e) few in
-    let short : length bytes ≤ 8388609 = omega (arith, length-take 8388609 bytes) in
-    sym (take_all 8388609 bytes short) ∙ e
+whole_front : (bytes : List ℕ) → length (take 8388609 bytes) ≤ 8388608 → take 8388609 bytes ≡ bytes
+whole_front bytes few = take_all 8388609 bytes (omega (arith, length-take 8388609 bytes, few))
 
-front_of_whole : (bytes text : List ℕ) → length text ≤ 8388608 → bytes ≡ text → take 8388609 bytes ≡ text
-front_of_whole bytes text few e =
-    let n : length bytes ≤ 8388608 = subst (λ s. length s ≤ 8388608) (sym e) few in
-    take_all 8388609 bytes (omega arith) ∙ e
+-- what is accepted within the front is so of the whole
+accepted_whole : (bytes : List ℕ) (m : Module) → IsAccepted source_bounds (take 8388609 bytes) m → IsAccepted source_bounds bytes m
+accepted_whole bytes m a = subst (λ s. IsAccepted source_bounds s m) (whole_front bytes a.within.before.before.before.before.before.file.few) a
 
-written_whole : (bytes : List ℕ) (m : Module) → IsWrittenAs (take 8388609 bytes) m → IsWrittenAs bytes m
-written_whole bytes m w = (w.0, whole_front bytes (Enc m) (w.0).file w.1)
+free_whole : (bytes : List ℕ) (m : Module) → IsFree (take 8388609 bytes) m → IsFree bytes m
+free_whole bytes m f = record { read = accepted_whole bytes m f.read; free = f.free }
 
-written_front : (bytes : List ℕ) (m : Module) → IsWrittenAs bytes m → IsWrittenAs (take 8388609 bytes) m
-written_front bytes m w = (w.0, front_of_whole bytes (Enc m) (w.0).file w.1)
+valid_whole : (bytes : List ℕ) (m : Module) → IsValidSource (take 8388609 bytes) m → IsValidSource bytes m
+valid_whole bytes m v = record { unreserved = free_whole bytes m v.unreserved; valid = v.valid }
+
+source_whole : (bytes : List ℕ) (m : Module) → IsSource (take 8388609 bytes) m → IsSource bytes m
+source_whole bytes m s = record { accepted = valid_whole bytes m s.accepted; small = s.small }
+
+-- and so is what is refused
+within_whole : (bytes : List ℕ) (P : List ℕ → Type 0) → length (take 8388609 bytes) ≤ 8388608 → P (take 8388609 bytes) → P bytes
+within_whole bytes P few h = subst P (whole_front bytes few) h
+
+refused_whole : (bytes : List ℕ) (fault : ReadFault) → IsRefused source_bounds (take 8388609 bytes) fault → IsRefused source_bounds bytes fault
+refused_whole bytes Memory h = h
+refused_whole bytes (Malformed at) h = within_whole bytes (λ s. IsRefused source_bounds s (Malformed at)) h.0 h
+refused_whole bytes (Float at) h = within_whole bytes (λ s. IsRefused source_bounds s (Float at)) h.1.few h
+refused_whole bytes (Deep at) h = within_whole bytes (λ s. IsRefused source_bounds s (Deep at)) h.1.before.before.before.file.few h
+refused_whole bytes (Limit File n) h = (omega (arith, h.0, length-take-le 8388609 bytes), h.1)
+refused_whole bytes (Limit Functions n) h = within_whole bytes (λ s. IsRefused source_bounds s (Limit Functions n)) h.1.file.few h
+refused_whole bytes (Limit Parameters n) h = within_whole bytes (λ s. IsRefused source_bounds s (Limit Parameters n)) h.1.before.file.few h
+refused_whole bytes (Limit Body n) h = within_whole bytes (λ s. IsRefused source_bounds s (Limit Body n)) h.1.before.before.file.few h
+refused_whole bytes (Limit Locals n) h = within_whole bytes (λ s. IsRefused source_bounds s (Limit Locals n)) h.1.before.before.before.before.file.few h
+refused_whole bytes (Limit Output n) h = absurd h
+refused_whole bytes (Limit Script n) h = absurd h
+refused_whole bytes (Limit Programs n) h = absurd h
+
+cause_whole : (bytes : List ℕ) (cause : Cause) → IsRefusedFor (take 8388609 bytes) cause → IsRefusedFor bytes cause
+cause_whole bytes (malformed at) h = refused_whole bytes (Malformed at) h
+cause_whole bytes (float at) h = refused_whole bytes (Float at) h
+cause_whole bytes (deep at) h = refused_whole bytes (Deep at) h
+cause_whole bytes (limit what found) h = refused_whole bytes (Limit what found) h
+cause_whole bytes (reserved name) h = (h.0, h.1, accepted_whole bytes h.0 h.2, h.3, h.4)
+cause_whole bytes (invalid func rule at) h = (h.0, free_whole bytes h.0 h.1, h.2)
+cause_whole bytes not_small h = (h.0, valid_whole bytes h.0 h.1, h.2)
 
 -- the front that was read is of the file
-written_as : (bytes whole : List ℕ) (m : Module) → bytes ≡ take 8388609 whole → IsWrittenAs bytes m → IsWrittenAs whole m
-written_as bytes whole m e w = written_whole whole m (w.0, sym e ∙ w.1)
+source_of : (bytes whole : List ℕ) (m : Module) → bytes ≡ take 8388609 whole → IsSource bytes m → IsSource whole m
+source_of bytes whole m e s = source_whole whole m (subst (λ z. IsSource z m) e s)
 
 -- what one change of the files means of another, where they are told
 pub becomes_by : (P Q : Files → Files → Type 0) (old new : Option Files) → ((a b : Files) → old ≡ Some a → P a b → Q a b) → Becomes old new P → Becomes old new Q
@@ -44,9 +77,9 @@ told P old a e h = subst (λ (o : Option Files). WhereTold o P) e h
 transformed_at : (input output bytes text : List ℕ) (functions : ℕ) (a b : Files) → bytes ≡ take 8388609 (bytes_of a input) → IsRewritten bytes functions text → ChangesOnly output text a b → IsTransformed input output a b
 transformed_at input output bytes text functions a b e w c = record {
   «module» = w.0;
-  source = written_as bytes (bytes_of a input) w.0 e w.1;
+  source = source_of bytes (bytes_of a input) w.0 e w.1;
   written = subst (λ (s : List ℕ). ChangesOnly output s a b) w.3 c;
-  rewritten = small_modules_are_rewritten w.0 plain_settings (w.1).0;
+  rewritten = sources_are_rewritten bytes w.0 plain_settings w.1;
 }
 
 -- after the save
@@ -57,7 +90,7 @@ transformed input output bytes text functions old mid new same read w saved =
 left_at : (input output bytes text : List ℕ) (functions : ℕ) (a b : Files) → bytes ≡ take 8388609 (bytes_of a input) → IsRewritten bytes functions text → HoldsFrontAtMost output text a b → IsCutShort input output a b
 left_at input output bytes text functions a b e w h = record {
   left = elim h.changed [
-    | inl front ↦ inr (w.0, written_as bytes (bytes_of a input) w.0 e w.1, front.0, subst (λ (s : List ℕ). b output ≡ Some (take front.0 s)) w.3 front.1)
+    | inl front ↦ inr (w.0, source_of bytes (bytes_of a input) w.0 e w.1, front.0, subst (λ (s : List ℕ). b output ≡ Some (take front.0 s)) w.3 front.1)
     | inr same ↦ inl same
   ];
   others = h.others;
@@ -76,17 +109,17 @@ uncut input output (Some a) new e = subst (λ (o : Option Files). Becomes (Some 
 -- what is counted
 pub counted : (input bytes text : List ℕ) (functions len : ℕ) (old : Option Files) → len ≡ length text → WhereTold old (λ all. bytes ≡ take 8388609 (bytes_of all input)) → IsRewritten bytes functions text → WhereTold old (λ all. IsCount (bytes_of all input) functions len)
 counted input bytes text functions len None l read w = tt
-counted input bytes text functions len (Some a) l read w = (w.0, written_as bytes (bytes_of a input) w.0 read w.1, w.2, l ∙ ap length w.3)
+counted input bytes text functions len (Some a) l read w = (w.0, source_of bytes (bytes_of a input) w.0 read w.1, w.2, l ∙ ap length w.3)
 
--- no small module was read, and so there is none
-pub none_held : (input bytes : List ℕ) (old : Option Files) → WhereTold old (λ all. bytes ≡ take 8388609 (bytes_of all input)) → (HoldsSmall bytes → ⊥) → WhereTold old (λ all. HoldsSmall (bytes_of all input) → ⊥)
-none_held input bytes None read none = tt
-none_held input bytes (Some a) read none = λ h. none (h.0, let w = written_front (bytes_of a input) h.0 h.1 in (w.0, read ∙ w.1))
+-- what the front is refused for, the file is
+pub refused_for : (input bytes : List ℕ) (old : Option Files) (cause : Cause) → WhereTold old (λ all. bytes ≡ take 8388609 (bytes_of all input)) → IsRefusedFor bytes cause → WhereTold old (λ all. IsRefusedFor (bytes_of all input) cause)
+refused_for input bytes None cause read h = tt
+refused_for input bytes (Some a) cause read h = cause_whole (bytes_of a input) cause (subst (λ s. IsRefusedFor s cause) read h)
 
--- a small module is in the file
-pub held : (input bytes text : List ℕ) (functions : ℕ) (old : Option Files) → WhereTold old (λ all. bytes ≡ take 8388609 (bytes_of all input)) → IsRewritten bytes functions text → WhereTold old (λ all. HoldsSmall (bytes_of all input))
+-- an accepted source is in the file
+pub held : (input bytes text : List ℕ) (functions : ℕ) (old : Option Files) → WhereTold old (λ all. bytes ≡ take 8388609 (bytes_of all input)) → IsRewritten bytes functions text → WhereTold old (λ all. HoldsSource (bytes_of all input))
 held input bytes text functions None read w = tt
-held input bytes text functions (Some a) read w = (w.0, written_as bytes (bytes_of a input) w.0 read w.1)
+held input bytes text functions (Some a) read w = (w.0, source_of bytes (bytes_of a input) w.0 read w.1)
 
 cut_of_transformed : (input output : List ℕ) (a b : Files) → IsTransformed input output a b → IsCutShort input output a b
 cut_of_transformed input output a b t = record {

@@ -1,5 +1,5 @@
 -- What a refusal of the program says.
-use Rattle.std.specs.Prelude.{◌≡◌, List, ℕ}
+use Rattle.std.specs.Prelude.{◌≡◌, List, ℕ, Option}
 use Rattle.std.specs.String.{string_bytes}
 use Rattle.wasm_reader.specs.declared.read_fault.ReadFault.{ReadFault}
 use Rattle.wasm_reader.specs.declared.read_fault.ReadFault.TheVariants.{Memory as read_memory, Malformed as read_malformed, Float as read_float, Deep as read_deep, Limit as read_limit}
@@ -7,6 +7,10 @@ use Rattle.asyncify_app.specs.declared.refusals.Refusal.{Refusal}
 use Rattle.asyncify_app.specs.declared.refusals.Refusal.TheVariants.{Malformed, Float, Deep, Limit, Reserved, Invalid, NotBuilt}
 use Rattle.asyncify_app.specs.declared.source.SourceFault.{SourceFault}
 use Rattle.asyncify_app.specs.declared.source.SourceFault.TheVariants.{Memory, Refused}
+use Rattle.asyncify_app.specs.declared.transform.TransformFault.{TransformFault}
+use Rattle.asyncify_app.specs.declared.transform.TransformFault.TheVariants.{Refused as transform_refused}
+use Rattle.vault_port.specs.Files.{Files, bytes_of}
+use Rattle.vault_port.specs.Told.{WhereTold}
 use Rattle.asyncify_app.specs.Sources.{Cause, malformed, float, deep, limit, reserved, invalid, not_small, IsRefusedFor}
 
 -- the cause that a refusal names
@@ -31,3 +35,13 @@ IsOfRead (read_malformed at) fault = fault ≡ Refused (Malformed at)
 IsOfRead (read_float at) fault = fault ≡ Refused (Float at)
 IsOfRead (read_deep at) fault = fault ≡ Refused (Deep at)
 IsOfRead (read_limit what found) fault = fault ≡ Refused (Limit what found)
+
+-- a refusal, for which, where the files are told, IN is refused
+abbrev pub IsToldRefusal : Option Files → List ℕ → TransformFault → Type 0
+IsToldRefusal files input (transform_refused refusal) = WhereTold files (λ all. IsRefusedFor (bytes_of all input) (cause_of refusal))
+IsToldRefusal files input _ = Unit {0}
+
+-- the fault is a refusal of the source
+abbrev pub IsOfSource : TransformFault → Type 0
+IsOfSource (transform_refused refusal) = Unit {0}
+IsOfSource _ = ⊥

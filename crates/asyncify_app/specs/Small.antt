@@ -1,5 +1,5 @@
 -- The modules that are rewritten for now: those in which nothing may pause, whatever is listed.
-use Rattle.std.specs.Prelude.{◌≡◌, [], None, Bool, true, false, ◌&&◌, All}
+use Rattle.std.specs.Prelude.{◌≡◌, [], None, Bool, true, false, ◌&&◌}
 use Rattle.std.specs.List.{list_all}
 use Rattle.wa_types.specs.declared.values.ValType.{ValType}
 use Rattle.wa_types.specs.declared.values.ValType.TheVariants.{I32}
@@ -40,7 +40,7 @@ is_func_space _ = false
 pub record IsSmall (m : Module) : Type 0 where
   pub types : list_all is_small_type m.types ≡ true
   pub imports : m.imports ≡ []
-  pub funcs : All (λ (f : Func). is_small_code f.body ≡ true) m.funcs
+  pub funcs : list_all (λ (f : Func). is_small_code f.body) m.funcs ≡ true
   pub tables : m.tables ≡ []
   pub memories : m.memories ≡ []
   pub globals : m.globals ≡ []

@@ -5,10 +5,11 @@ ghost use Rattle.vault_port.specs.Counts.{HasRisen};
 ghost use Rattle.vault_port.specs.Files.{bytes_of, IsMissing};
 ghost use Rattle.vault_port.specs.Told.{WhereTold, Becomes};
 ghost use Rattle.asyncify_app.specs.Command.{command, OnTransform};
-ghost use Rattle.asyncify_app.specs.Lines.{not_built_line, read_fault_line, usage_line, write_fault_line};
-ghost use Rattle.asyncify_app.specs.Transforms.{HoldsSmall, IsCutShort, IsTransformed, Prints, PrintsDone, PrintsLess, PrintsMemory, RunsOutOfMemory};
+ghost use Rattle.asyncify_app.specs.Lines.{read_fault_line, usage_line, write_fault_line};
+ghost use Rattle.asyncify_app.specs.Sources.{IsRefusal};
+ghost use Rattle.asyncify_app.specs.Transforms.{HasCause, HoldsSource, IsCutShort, IsTransformed, Prints, PrintsRefusal, PrintsDone, PrintsLess, PrintsMemory, RunsOutOfMemory};
 
-use crate::printing::{out_of_memory, refuse, refuse_name, report};
+use crate::printing::{out_of_memory, refuse, refuse_name, refuse_source, report};
 use crate::transform::{TransformFault, transform};
 use crate::words::{Command, read_words};
 use std::alloc::Global;
@@ -23,13 +24,11 @@ const READ_FAULT: u8 = 10;
 /// The status of a file that could not be written.
 const WRITE_FAULT: u8 = 11;
 
-/// The status of a module that this program doesn't rewrite yet.
-const NOT_BUILT: u8 = 14;
-
 /// Runs the command that the words spell, without the program's own name, over a vault of files and a sink for what
-/// it prints, and answers its status: 0 done, 2 no command, 9 want of memory, 10 a file that could not be read, 11 one
-/// that could not be written, 12 a sink that failed, 14 a module that this program doesn't rewrite yet. Each refusal
-/// prints a line. Want of memory may come in the place of any other answer.
+/// it prints, and answers its status: 0 done, 2 no command, 3 bytes that spell no module, 4 a float, 5 a module that isn't
+/// valid, 6 a limit, 7 a reserved name, 9 want of memory, 10 a file that could not be read, 11 one that could not be
+/// written, 12 a sink that failed, 14 a module that this program doesn't rewrite yet. Each refusal prints a line. Want of
+/// memory may come in the place of any other answer.
 pub fn asyncify<V: Vault, S: Sink>(
     alloc: Global,
     words: &[String],
@@ -41,15 +40,15 @@ pub fn asyncify<V: Vault, S: Sink>(
     ensures usage_files { command (map string_bytes words.now) ≡ None → V.files vault.new ≡ V.files vault.old }
     ensures prints_usage { result ≡ 2 → Becomes (S.taken out.old) (S.taken out.new) (Prints usage_line (S.faults out.old) (S.faults out.new)) }
     ensures prints_usage_memory { command (map string_bytes words.now) ≡ None → result ≡ 9 → Becomes (S.taken out.old) (S.taken out.new) (PrintsMemory usage_line) }
-    ensures status { (result ≡ 0) ⊎ (result ≡ 2) ⊎ (result ≡ 9) ⊎ (result ≡ 10) ⊎ (result ≡ 11) ⊎ (result ≡ 12) ⊎ (result ≡ 14) }
+    ensures status { (result ≡ 0) ⊎ (result ≡ 2) ⊎ IsRefusal result ⊎ (result ≡ 9) ⊎ (result ≡ 10) ⊎ (result ≡ 11) ⊎ (result ≡ 12) }
 
     // The causes.
     ensures read_fault { OnTransform (command (map string_bytes words.now)) (λ input output.
         result ≡ 10 → HasRisen (V.fetch_faults vault.old) (V.fetch_faults vault.new) ⊎ IsMissing (V.files vault.old) input) }
-    ensures not_built { OnTransform (command (map string_bytes words.now)) (λ input output.
-        result ≡ 14 → WhereTold (V.files vault.old) (λ all. HoldsSmall (bytes_of all input) → ⊥)) }
+    ensures refused { OnTransform (command (map string_bytes words.now)) (λ input output.
+        IsRefusal result → HasCause (V.files vault.old) input result) }
     ensures built { OnTransform (command (map string_bytes words.now)) (λ input output.
-        result ≡ 11 → WhereTold (V.files vault.old) (λ all. HoldsSmall (bytes_of all input))) }
+        result ≡ 11 → WhereTold (V.files vault.old) (λ all. HoldsSource (bytes_of all input))) }
     ensures there { OnTransform (command (map string_bytes words.now)) (λ input output.
         (result ≡ 9) ⊎ (result ≡ 10) ⊎ WhereTold (V.files vault.old) (λ all. IsSome (all input))) }
     ensures write_fault { result ≡ 11 → HasRisen (V.save_faults vault.old) (V.save_faults vault.new) }
@@ -58,7 +57,7 @@ pub fn asyncify<V: Vault, S: Sink>(
     // The files.
     ensures done { OnTransform (command (map string_bytes words.now)) (λ input output.
         (result ≡ 0) ⊎ (result ≡ 12) → Becomes (V.files vault.old) (V.files vault.new) (IsTransformed input output)) }
-    ensures kept { (result ≡ 10) ⊎ (result ≡ 14) → V.files vault.new ≡ V.files vault.old }
+    ensures kept { (result ≡ 10) ⊎ IsRefusal result → V.files vault.new ≡ V.files vault.old }
     ensures cut { OnTransform (command (map string_bytes words.now)) (λ input output.
         (result ≡ 9) ⊎ (result ≡ 11) → Becomes (V.files vault.old) (V.files vault.new) (IsCutShort input output)) }
 
@@ -73,7 +72,8 @@ pub fn asyncify<V: Vault, S: Sink>(
         result ≡ 10 → Becomes (S.taken out.old) (S.taken out.new) (Prints (read_fault_line input) (S.faults out.old) (S.faults out.new))) }
     ensures prints_write { OnTransform (command (map string_bytes words.now)) (λ input output.
         result ≡ 11 → Becomes (S.taken out.old) (S.taken out.new) (Prints (write_fault_line output) (S.faults out.old) (S.faults out.new))) }
-    ensures prints_not_built { result ≡ 14 → Becomes (S.taken out.old) (S.taken out.new) (Prints not_built_line (S.faults out.old) (S.faults out.new)) }
+    ensures prints_refusal { OnTransform (command (map string_bytes words.now)) (λ input output.
+        IsRefusal result → Becomes (S.taken out.old) (S.taken out.new) (PrintsRefusal (V.files vault.old) input result (S.faults out.old) (S.faults out.new))) }
 
     // No count falls.
     ensures fetch_faults { V.fetch_faults vault.old ≤ V.fetch_faults vault.new }
@@ -97,20 +97,20 @@ fn run_transform<V: Vault, S: Sink>(
     input: &str,
     output: &str,
 ) -> u8
-    ensures status { (result ≡ 0) ⊎ (result ≡ 9) ⊎ (result ≡ 10) ⊎ (result ≡ 11) ⊎ (result ≡ 12) ⊎ (result ≡ 14) }
+    ensures status { (result ≡ 0) ⊎ IsRefusal result ⊎ (result ≡ 9) ⊎ (result ≡ 10) ⊎ (result ≡ 11) ⊎ (result ≡ 12) }
 
     // The causes.
     ensures read_fault { result ≡ 10 → HasRisen (V.fetch_faults vault.old) (V.fetch_faults vault.new)
         ⊎ IsMissing (V.files vault.old) input.now }
-    ensures not_built { result ≡ 14 → WhereTold (V.files vault.old) (λ all. HoldsSmall (bytes_of all input.now) → ⊥) }
-    ensures built { result ≡ 11 → WhereTold (V.files vault.old) (λ all. HoldsSmall (bytes_of all input.now)) }
+    ensures refused { IsRefusal result → HasCause (V.files vault.old) input.now result }
+    ensures built { result ≡ 11 → WhereTold (V.files vault.old) (λ all. HoldsSource (bytes_of all input.now)) }
     ensures there { (result ≡ 9) ⊎ (result ≡ 10) ⊎ WhereTold (V.files vault.old) (λ all. IsSome (all input.now)) }
     ensures write_fault { result ≡ 11 → HasRisen (V.save_faults vault.old) (V.save_faults vault.new) }
     ensures sink_fault { result ≡ 12 → HasRisen (S.faults out.old) (S.faults out.new) }
 
     // The files.
     ensures done { (result ≡ 0) ⊎ (result ≡ 12) → Becomes (V.files vault.old) (V.files vault.new) (IsTransformed input.now output.now) }
-    ensures kept { (result ≡ 10) ⊎ (result ≡ 14) → V.files vault.new ≡ V.files vault.old }
+    ensures kept { (result ≡ 10) ⊎ IsRefusal result → V.files vault.new ≡ V.files vault.old }
     ensures cut { (result ≡ 9) ⊎ (result ≡ 11) → Becomes (V.files vault.old) (V.files vault.new) (IsCutShort input.now output.now) }
 
     // What is printed.
@@ -119,7 +119,7 @@ fn run_transform<V: Vault, S: Sink>(
     ensures prints_memory { result ≡ 9 → Becomes (S.taken out.old) (S.taken out.new) (RunsOutOfMemory (V.files vault.old) input.now output.now) }
     ensures prints_read { result ≡ 10 → Becomes (S.taken out.old) (S.taken out.new) (Prints (read_fault_line input.now) (S.faults out.old) (S.faults out.new)) }
     ensures prints_write { result ≡ 11 → Becomes (S.taken out.old) (S.taken out.new) (Prints (write_fault_line output.now) (S.faults out.old) (S.faults out.new)) }
-    ensures prints_not_built { result ≡ 14 → Becomes (S.taken out.old) (S.taken out.new) (Prints not_built_line (S.faults out.old) (S.faults out.new)) }
+    ensures prints_refusal { IsRefusal result → Becomes (S.taken out.old) (S.taken out.new) (PrintsRefusal (V.files vault.old) input.now result (S.faults out.old) (S.faults out.new)) }
 
     // No count falls.
     ensures fetch_faults { V.fetch_faults vault.old ≤ V.fetch_faults vault.new }
@@ -130,7 +130,7 @@ fn run_transform<V: Vault, S: Sink>(
         Ok(done) => report(alloc, out, done.functions, done.bytes),
         Err(TransformFault::Memory) => out_of_memory(out),
         Err(TransformFault::Read) => refuse_name(alloc, out, READ_FAULT, "read fault ", input),
-        Err(TransformFault::NotBuilt) => refuse(out, NOT_BUILT, b"not yet built\n"),
+        Err(TransformFault::Refused(refusal)) => refuse_source(alloc, out, &refusal),
         Err(TransformFault::Write) => refuse_name(alloc, out, WRITE_FAULT, "write fault ", output),
     }
 }

@@ -9,10 +9,10 @@
 //! file changed; each refusal has its cause, its line and what it leaves (`specs/Transforms.antt`).
 #![tactic(auto)]
 
-mod bounds;
 mod command;
 mod lines;
 mod printing;
+mod refusals;
 mod small;
 mod source;
 mod transform;

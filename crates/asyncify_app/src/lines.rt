@@ -1,9 +1,12 @@
 // The lines that the program prints.
 ghost use Rattle.std.specs.Prelude.{◌≡◌, ◌++◌, IfOk, OnOk, ◌<◌};
 ghost use Rattle.std.specs.String.{string_bytes};
-ghost use Rattle.asyncify_app.specs.Lines.{done_line, hex_digit, is_plain_byte, line_end, name_byte, printed_name};
+ghost use Rattle.std.specs.Fmt.{decimal};
+ghost use Rattle.asyncify_app.specs.Lines.{done_line, hex_digit, is_plain_byte, limit_word, line_end, line_of, name_byte, printed_name};
+ghost use Rattle.asyncify_app.specs.Sources.{invalid, limit};
 
 use std::alloc::{AllocError, Global};
+use wa_types::LimitKind;
 
 /// What `transform` prints: how many functions the module defines, how many of them are instrumented, and how
 /// many bytes were written.
@@ -58,5 +61,50 @@ fn hex_digit(digit: u8) -> u8
         b'0' + digit
     } else {
         b'a' + (digit - 10)
+    }
+}
+
+/// What is printed of a place: these words, and a number.
+pub fn placed_line(alloc: Global, words: &str, at: u64) -> Result<String, AllocError>
+    ensures { IfOk result (λ line. string_bytes line ≡ words.now ++ decimal at ++ line_end) }
+{
+    format!(in alloc; "{words}{at}\n")
+}
+
+/// What is printed of a fault of validity.
+pub fn invalid_line(
+    alloc: Global,
+    func: Option<u32>,
+    rule: u8,
+    at: u64,
+) -> Result<String, AllocError>
+    ensures { IfOk result (λ line. string_bytes line ≡ line_of (invalid func rule at)) }
+{
+    match func {
+        Some(func) => format!(in alloc; "invalid rule {rule} function {func} at {at}\n"),
+        None => format!(in alloc; "invalid rule {rule} module\n"),
+    }
+}
+
+/// What is printed of a limit.
+pub fn limit_line(alloc: Global, what: LimitKind, found: u64) -> Result<String, AllocError>
+    ensures { IfOk result (λ line. string_bytes line ≡ line_of (limit what found)) }
+{
+    let word = limit_word(what);
+    format!(in alloc; "limit {word} {found}\n")
+}
+
+fn limit_word(what: LimitKind) -> &'static str
+    ensures { result.now ≡ limit_word what }
+{
+    match what {
+        LimitKind::File => "file",
+        LimitKind::Functions => "functions",
+        LimitKind::Parameters => "parameters",
+        LimitKind::Body => "body",
+        LimitKind::Locals => "locals",
+        LimitKind::Output => "output",
+        LimitKind::Script => "script",
+        LimitKind::Programs => "programs",
     }
 }

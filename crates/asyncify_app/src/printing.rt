@@ -1,17 +1,39 @@
 // What is printed of a command's end, over a sink that may fail.
-ghost use Rattle.std.specs.Prelude.{◌≡◌, ◌≢◌, ◌⊎◌, ◌≤◌, ◌++◌, length};
+ghost use Rattle.std.specs.Prelude.{◌≡◌, ◌≢◌, ◌⊎◌, ◌≤◌, ◌++◌, List, ℕ, length, IfOk};
+ghost use Rattle.std.specs.String.{string_bytes};
 ghost use Rattle.vault_port.specs.Counts.{HasRisen};
 ghost use Rattle.vault_port.specs.Told.{Becomes};
 ghost use Rattle.vault_port.specs.Taken.{Appends, AppendsLess};
-ghost use Rattle.asyncify_app.specs.Lines.{done_line, line_end, printed_name};
+ghost use Rattle.asyncify_app.specs.Lines.{done_line, line_end, line_of, printed_name};
+ghost use Rattle.asyncify_app.specs.Refusals.{cause_of};
+ghost use Rattle.asyncify_app.specs.Sources.{status_of};
 ghost use Rattle.asyncify_app.specs.Transforms.{EndsInMemory, Prints, PrintsMemory};
 
-use crate::lines::{done_line, line_with_name};
-use std::alloc::Global;
+use crate::lines::{done_line, invalid_line, limit_line, line_with_name, placed_line};
+use crate::refusals::Refusal;
+use std::alloc::{AllocError, Global};
 use vault_port::{PutFault, Sink, put_whole};
 
 /// The status of want of memory.
 pub const MEMORY: u8 = 9;
+
+/// The status of bytes that spell no module.
+const MALFORMED: u8 = 3;
+
+/// The status of a module with a float.
+const FLOAT: u8 = 4;
+
+/// The status of a module that isn't valid.
+const INVALID: u8 = 5;
+
+/// The status of a module that passes a limit.
+const LIMIT: u8 = 6;
+
+/// The status of a module under a reserved name.
+const RESERVED: u8 = 7;
+
+/// The status of a module that this program doesn't rewrite yet.
+const NOT_BUILT: u8 = 14;
 
 /// The status of a sink that failed while accepted output was printed.
 pub const SINK_FAULT: u8 = 12;
@@ -54,6 +76,44 @@ pub fn refuse_name<S: Sink>(alloc: Global, out: &mut S, status: u8, words: &str,
     match line_with_name(alloc, words, name) {
         Ok(line) => refuse(out, status, &line),
         Err(_) => out_of_memory(out),
+    }
+}
+
+/// Prints a refusal's line, if there was memory to write it, as `refuse` does.
+pub fn refuse_text<S: Sink>(out: &mut S, status: u8, line: Result<String, AllocError>) -> u8
+    requires { status ≢ 9 }
+    ensures status { (result ≡ status) ⊎ (result ≡ 9) }
+    ensures printed { (text : List ℕ) → IfOk line (λ l. string_bytes l ≡ text) → result ≡ status → Becomes (S.taken out.old) (S.taken out.new)
+        (Prints text (S.faults out.old) (S.faults out.new)) }
+    ensures memory { (text : List ℕ) → IfOk line (λ l. string_bytes l ≡ text) → result ≡ 9 → Becomes (S.taken out.old) (S.taken out.new)
+        (PrintsMemory text) }
+    ensures faults { S.faults out.old ≤ S.faults out.new }
+{
+    match line {
+        Ok(line) => refuse(out, status, line.as_bytes()),
+        Err(_) => out_of_memory(out),
+    }
+}
+
+/// Prints why a source is refused, as `refuse` does.
+pub fn refuse_source<S: Sink>(alloc: Global, out: &mut S, refusal: &Refusal) -> u8
+    ensures status { (result ≡ status_of (cause_of refusal.now)) ⊎ (result ≡ 9) }
+    ensures printed { result ≡ status_of (cause_of refusal.now) → Becomes (S.taken out.old) (S.taken out.new)
+        (Prints (line_of (cause_of refusal.now)) (S.faults out.old) (S.faults out.new)) }
+    ensures memory { result ≡ 9 → Becomes (S.taken out.old) (S.taken out.new)
+        (PrintsMemory (line_of (cause_of refusal.now))) }
+    ensures faults { S.faults out.old ≤ S.faults out.new }
+{
+    match refusal {
+        Refusal::Malformed { at } => refuse_text(out, MALFORMED, placed_line(alloc, "malformed at ", *at)),
+        Refusal::Float { at } => refuse_text(out, FLOAT, placed_line(alloc, "float at ", *at)),
+        Refusal::Deep { at } => refuse_text(out, LIMIT, placed_line(alloc, "limit nesting at ", *at)),
+        Refusal::Limit { what, found } => refuse_text(out, LIMIT, limit_line(alloc, *what, *found)),
+        Refusal::Reserved { name } => refuse_name(alloc, out, RESERVED, "reserved ", name.as_str()),
+        Refusal::Invalid { func, rule, at } => {
+            refuse_text(out, INVALID, invalid_line(alloc, *func, *rule, *at))
+        }
+        Refusal::NotBuilt => refuse(out, NOT_BUILT, b"not yet built\n"),
     }
 }
 

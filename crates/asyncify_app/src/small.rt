@@ -1,16 +1,14 @@
-ghost use Rattle.std.specs.Prelude.{◌≡◌, ◌↔◌, IsTrue, All, [], None, true};
+ghost use Rattle.std.specs.Prelude.{◌≡◌, ◌↔◌, IsTrue};
 ghost use Rattle.std.specs.List.{list_all};
-ghost use Rattle.wa_types.specs.declared.syntax.Func.{Func as FuncValue};
-ghost use Rattle.wa_types.specs.Syntax.{done};
+ghost use Rattle.wa_types.specs.Syntax.{basic, const, done, num};
 ghost use Rattle.wa_types.specs.View.{code, func_type_of, in_front, module_of};
-ghost use Rattle.asyncify_app.specs.Small.{IsSmall, is_func_space, is_i32, is_small_code, is_small_type};
+ghost use Rattle.asyncify_app.specs.Small.{IsSmall, is_func_space, is_i32, is_small_code, is_small_plain, is_small_type};
 ghost use Rattle.asyncify_app.proofs.SmallModules.{HasFunctionsAlone};
 
 use wa_types::{Export, Func, FuncType, Instr, Module, NumOp, Space, ValType, Value};
 
 /// Whether the module is small: function types of i32, bodies of constants, local reads, additions and calls, exports
 /// of functions, and nothing else. Nothing in it may pause. Takes time linear in the module, and no memory.
-#[tactic(auto, using(crate::proofs::SmallModules::judging))]
 pub fn is_small(module: &Module) -> bool
     ensures { IsTrue result ↔ IsSmall (module_of «module».now) }
 {
@@ -78,14 +76,9 @@ fn is_func_space(space: Space) -> bool
 }
 
 fn are_funcs_small(funcs: &[Func]) -> bool
-    ensures { IsTrue result ↔ All (λ (f : FuncValue). is_small_code (code f.body.items) ≡ true) funcs.now }
+    ensures { result ≡ list_all (λ f. is_small_code (code f.body.items)) funcs.now }
 {
-    for func in funcs {
-        if !is_small_body(&func.body) {
-            return false;
-        }
-    }
-    true
+    funcs.iter().all(|func| is_small_body(&func.body))
 }
 
 #[tactic(auto, using(crate::proofs::SmallModules::walking))]
@@ -101,15 +94,29 @@ fn is_small_body(body: &[Instr]) -> bool
 }
 
 // Whether small code may begin with this instruction.
-#[tactic(auto, using(crate::proofs::SmallModules::instructions))]
 fn is_small_instr(instr: &Instr) -> bool
     ensures { result ≡ is_small_code (in_front instr.now done) }
 {
     match instr {
-        Instr::Const(Value::I32(_)) => true,
-        Instr::Num(NumOp::I32Add) => true,
+        Instr::Const(value) => is_small_value(*value),
+        Instr::Num(op) => is_small_operator(*op),
         Instr::LocalGet(_) => true,
         Instr::Call(_) => true,
         _ => false,
     }
+}
+
+fn is_small_value(value: Value) -> bool
+    ensures { result ≡ is_small_plain (basic (const value)) }
+{
+    match value {
+        Value::I32(_) => true,
+        Value::I64(_) => false,
+    }
+}
+
+fn is_small_operator(op: NumOp) -> bool
+    ensures { result ≡ is_small_plain (basic (num op)) }
+{
+    matches!(op, NumOp::I32Add)
 }

@@ -3,22 +3,25 @@ ghost use Rattle.std.specs.Prelude.{◌≡◌, ◌⊎◌, ◌≤◌, IfOk, IsErr
 ghost use Rattle.vault_port.specs.Counts.{HasRisen};
 ghost use Rattle.vault_port.specs.Files.{bytes_of, IsMissing};
 ghost use Rattle.vault_port.specs.Told.{WhereTold, Becomes};
-ghost use Rattle.asyncify_app.specs.Transforms.{HoldsSmall, IsCount, IsCutShort, IsTransformed};
+ghost use Rattle.asyncify_app.specs.Refusals.{IsOfSource, IsToldRefusal};
+ghost use Rattle.asyncify_app.specs.Transforms.{HoldsSource, IsCount, IsCutShort, IsTransformed};
+ghost use Rattle.std.specs.Result.{IfErr};
 
+use crate::refusals::Refusal;
 use crate::source::{SourceFault, rewrite};
 use std::alloc::Global;
 use thiserror::Error;
 use vault_port::{FetchFault, SaveFault, Vault, fetch_whole, save_whole};
 
 /// Why a module was not rewritten into a file.
-#[derive(Clone, Copy, Debug, PartialEq, Eq, Error)]
+#[derive(Debug, Drop, Error)]
 pub enum TransformFault {
     #[error("out of memory")]
     Memory,
     #[error("the module could not be read")]
     Read,
-    #[error("not yet built")]
-    NotBuilt,
+    #[error("the module is refused")]
+    Refused(Refusal),
     #[error("the module could not be written")]
     Write,
 }
@@ -33,7 +36,7 @@ pub struct Done {
 /// A source file is read until one byte past its limit.
 const FETCH_LIMIT: u64 = 8_388_609;
 
-/// Reads the module in `input`, and writes it with the runtime's parts into `output`. After `Read` and `NotBuilt`
+/// Reads the module in `input`, and writes it with the runtime's parts into `output`. After `Read` and `Refused`
 /// no file is changed; after `Memory` and `Write` the output may hold a first part of what it would hold.
 pub fn transform<V: Vault>(
     alloc: Global,
@@ -49,16 +52,15 @@ pub fn transform<V: Vault>(
     ensures read { IsErrOf result TransformFault.Read
         → HasRisen (V.fetch_faults vault.old) (V.fetch_faults vault.new)
         ⊎ IsMissing (V.files vault.old) input.now }
-    ensures refused { IsErrOf result TransformFault.NotBuilt → WhereTold (V.files vault.old) (λ all.
-        HoldsSmall (bytes_of all input.now) → ⊥) }
+    ensures refused { IfErr result (λ fault. IsToldRefusal (V.files vault.old) input.now fault) }
     ensures there { IsErrOf result TransformFault.Read ⊎ IsErrOf result TransformFault.Memory
         ⊎ WhereTold (V.files vault.old) (λ all. IsSome (all input.now)) }
     ensures source { IsErrOf result TransformFault.Write → WhereTold (V.files vault.old) (λ all.
-        HoldsSmall (bytes_of all input.now)) }
+        HoldsSource (bytes_of all input.now)) }
     ensures write { IsErrOf result TransformFault.Write
         → HasRisen (V.save_faults vault.old) (V.save_faults vault.new) }
-    ensures kept { IsErrOf result TransformFault.Read ⊎ IsErrOf result TransformFault.NotBuilt
-        → V.files vault.new ≡ V.files vault.old }
+    ensures kept { IsErrOf result TransformFault.Read → V.files vault.new ≡ V.files vault.old }
+    ensures refused_kept { IfErr result (λ fault. IsOfSource fault → V.files vault.new ≡ V.files vault.old) }
     ensures cut { OnErr result (Becomes (V.files vault.old) (V.files vault.new)
         (IsCutShort input.now output.now)) }
 
@@ -72,7 +74,7 @@ pub fn transform<V: Vault>(
     };
     let written = match rewrite(alloc, &bytes) {
         Ok(written) => written,
-        Err(SourceFault::NotBuilt) => return Err(TransformFault::NotBuilt),
+        Err(SourceFault::Refused(refusal)) => return Err(TransformFault::Refused(refusal)),
         Err(SourceFault::Memory) => return Err(TransformFault::Memory),
     };
     match save_whole(vault, output, &written.text) {

@@ -54,6 +54,15 @@ impl Valid {
         &self.module
     }
 
+    /// The module, given back.
+    pub fn into_module(self) -> Module
+        ensures same { result ≡ self }
+        ensures valid { IsValid (module_of result) }
+        ensures sizes { SizeRule (module_of result) }
+    {
+        self.module
+    }
+
     /// The index of a defined function among the defined ones.
     pub(crate) fn defined(&self, func: u32) -> usize
         requires { (f : PlainFunc) × (defined_at (module_of self.now) func ≡ Some f) }
