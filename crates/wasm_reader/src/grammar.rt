@@ -3,6 +3,6 @@
 mod ends;
 mod goals;
 mod items;
-mod machine;
+pub(crate) mod machine;
 mod next;
 mod stack;
