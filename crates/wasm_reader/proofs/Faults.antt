@@ -10,7 +10,7 @@ use Rattle.wa_types.proofs.Runs.{leads_on, leads_only, leads_more, inside_less, 
 use Rattle.wasm_reader.proofs.ItemFronts.{byte_whole}
 use Rattle.wasm_reader.specs.Items.{IsTold, IsWholeItem, IsWrong}
 use Rattle.wasm_reader.specs.Ends.{NoStep, IsReached}
-use Rattle.wasm_reader.specs.Machine.{Stands, FirstFault}
+use Rattle.wasm_reader.specs.Machine.{Stands, StopsAt}
 
 -- the bytes between two places
 abbrev pub between : List ℕ → ℕ → ℕ → List ℕ
@@ -47,7 +47,7 @@ not_begun bytes at k hs h fits l never b =
     never (subst (λ n. BegunFrom n hs (between bytes at k)) (place_at bytes at (omega arith)) (leads_only 0 start (take at bytes) hs l (between bytes at k) (take k bytes) b (cut_at bytes at k h)))
 
 -- a first fault, from what stands before it
-fault : (bytes : List ℕ) (at k : ℕ) (g : Goal) (gs : List Goal) → at < k → k ≤ length bytes → Leads 0 start (take at bytes) (g ∷ gs) → IsPart (wants g) (between bytes at (k - 1)) → Inside (k - 1) (g ∷ gs) → (BegunFrom at (g ∷ gs) (between bytes at k) → ⊥) → FirstFault bytes k
+fault : (bytes : List ℕ) (at k : ℕ) (g : Goal) (gs : List Goal) → at < k → k ≤ length bytes → Leads 0 start (take at bytes) (g ∷ gs) → IsPart (wants g) (between bytes at (k - 1)) → Inside (k - 1) (g ∷ gs) → (BegunFrom at (g ∷ gs) (between bytes at k) → ⊥) → StopsAt bytes k
 fault bytes at k g gs h fits l short inside never =
     let place : k - 1 ≡ 0 + length (take at bytes) + length (between bytes at (k - 1)) =
     omega (arith, place_at bytes at (omega arith), length_between bytes at (k - 1) (omega arith) (omega arith)) in
@@ -160,7 +160,7 @@ module _ (bytes : List ℕ) (at stop : ℕ) (g : Goal) (gs : List Goal) (y : Rea
   front_is used h = front_between bytes at stop used (used_fits used h) y.fits
 
   -- the item is cut off by an end
-  pub fault_end : at < stop → IsPart (wants g) (between bytes at stop) → (Inside stop (g ∷ gs) → ⊥) → FirstFault bytes stop
+  pub fault_end : at < stop → IsPart (wants g) (between bytes at stop) → (Inside stop (g ∷ gs) → ⊥) → StopsAt bytes stop
   fault_end room short ended =
       let long = length_between bytes at stop (omega (arith, room)) y.fits in
       fault bytes at stop g gs room y.fits y.leads
@@ -169,7 +169,7 @@ module _ (bytes : List ℕ) (at stop : ℕ) (g : Goal) (gs : List Goal) (y : Rea
       (part_ends at g gs (between bytes at stop) short (λ i. ended (subst (λ n. Inside n (g ∷ gs)) (omega (arith, long, room)) i)))
 
   -- the item is wrong
-  pub fault_wrong : (used : ℕ) → IsWrong (wants g) (between bytes at stop) used → FirstFault bytes (at + used)
+  pub fault_wrong : (used : ℕ) → IsWrong (wants g) (between bytes at stop) used → StopsAt bytes (at + used)
   fault_wrong used w =
       let fits = used_fits used w.within in
       let some = w.some in
@@ -190,7 +190,7 @@ module _ (bytes : List ℕ) (at stop : ℕ) (g : Goal) (gs : List Goal) (y : Rea
   some_is told used w = omega (arith, item_some (wants g) (between bytes at (at + used)) w.value (whole_is told used w), long_is told used w)
 
   -- the item leads nowhere
-  pub fault_step : (told used : ℕ) → IsWholeItem (wants g) (between bytes at stop) told used → NoStep g gs told (at + used) → FirstFault bytes (at + used)
+  pub fault_step : (told used : ℕ) → IsWholeItem (wants g) (between bytes at stop) told used → NoStep g gs told (at + used) → StopsAt bytes (at + used)
   fault_step told used w never =
       let fits = used_fits used w.within in
       let some = some_is told used w in

@@ -1,12 +1,14 @@
 -- The stack of goals, whose top is the last of a list, and the least ends beside it.
-use Rattle.std.proofs.Common.{◌≡◌, ℕ, ◌+◌, ◌-◌, ◌<◌, ◌≤◌, List, [], ◌∷◌, ◌++◌, Option, Some, None, refl, ap, sym, ◌∙◌, subst, arith, length, take, drop, reverse, map, get_or, min, true, false}
+use Rattle.std.proofs.Common.{◌≡◌, ℕ, ◌+◌, ◌-◌, ◌<◌, ◌≤◌, List, [], ◌∷◌, ◌++◌, Option, Some, None, refl, ap, sym, ◌∙◌, subst, arith, length, take, drop, reverse, map, get_or, min, Bool, true, false, nat_lt, MatchBool}
 use Rattle.std.proofs.lemmas.List.{reverse-append, take_more, take_all}
+use Rattle.std.proofs.lemmas.Bool.{ltb-true, ltb-false}
 use Rattle.std.specs.Option.{is_some}
-use Rattle.wa_types.specs.Begun.{Goal, end_of, Inside, IsBefore, settled, closing, passed}
+use Rattle.wa_types.specs.Begun.{Goal, end_of, Inside, IsBefore, settled, closing, passed, next, Steps}
+use Rattle.wa_types.proofs.Runs.{some_same}
 use Rattle.wasm_reader.specs.declared.grammar.goals.Goal.{Goal as Wanted}
 use Rattle.wasm_reader.specs.Goals.{goal_of, stack_of}
 use Rattle.wasm_reader.specs.declared.grammar.ends.Closing.{Closing}
-use Rattle.wasm_reader.specs.Ends.{lowered, least_ends, by_closing}
+use Rattle.wasm_reader.specs.Ends.{lowered, least_ends, by_closing, NoStep}
 
 pub stack_push : (xs : List Wanted) (x : Wanted) → stack_of (xs ++ x ∷ []) ≡ goal_of x ∷ stack_of xs
 stack_push xs x = ap (map goal_of) (reverse-append xs (x ∷ []))
@@ -131,3 +133,16 @@ settled_none at gs e = ap (settled at) e ∙ ap Some (sym e)
 pub no_goals : (items : List Wanted) (ends : List ℕ) → items ≡ [] → ends ≡ [] → least_ends (stack_of items) ≡ reverse ends
 unfolding least_ends
 no_goals items ends e f = ap (λ z. least_ends (stack_of z)) e ∙ ap reverse (sym f)
+
+-- what is put in place and settled is a step where the place stands before the least end, and else there is none
+pub step_by_end : (g : Goal) (gs new put left : List Goal) (v at end : ℕ) → Some new ≡ next g v at → put ≡ new ++ gs → settled at put ≡ Some left → (at < end → Inside at left) × (end ≤ at → Inside at left → ⊥) → MatchBool (nat_lt at end) (Steps g gs v at left) (NoStep g gs v at)
+step_by_end g gs new put left v at end pushed e settles least = by_test (nat_lt at end) refl where
+  settled_so : settled at (new ++ gs) ≡ Some left
+  settled_so = ap (settled at) (sym e) ∙ settles
+
+  left_so : (hs : List Goal) → Steps g gs v at hs → hs ≡ left
+  left_so hs s = some_same hs left (settled at (new ++ gs)) (ap (λ z. settled at (z ++ gs)) (some_same new s.new (next g v at) (sym pushed) s.pushed) ∙ s.settles) settled_so
+
+  by_test : (t : Bool) → nat_lt at end ≡ t → MatchBool t (Steps g gs v at left) (NoStep g gs v at)
+  by_test true h = record { new = new; pushed = sym pushed; settles = settled_so; inside = least.0 (ltb-true at end h) }
+  by_test false h = λ hs s. least.1 (ltb-false at end h) (subst (Inside at) (left_so hs s) s.inside)

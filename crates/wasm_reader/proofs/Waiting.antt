@@ -6,7 +6,7 @@ use Rattle.wa_types.specs.Begun.{Goal, sections, wants, IsPart, Leads, arrived, 
 use Rattle.wa_types.proofs.Items.{item_some, item_whole}
 use Rattle.wa_types.proofs.Runs.{leads_on, leads_only, leads_through, begun_front}
 use Rattle.wasm_reader.specs.Ends.{owes_none, is_end}
-use Rattle.wasm_reader.specs.Machine.{Stands, IsPartOf, Waits, FirstFault}
+use Rattle.wasm_reader.specs.Machine.{Stands, IsPartOf, Waits, StopsAt}
 
 place_at : (bytes : List ℕ) (at : ℕ) → at ≤ length bytes → 0 + length (take at bytes) ≡ at
 place_at bytes at h = omega (arith, length-take-le at bytes h)
@@ -77,7 +77,7 @@ whole_there bytes at gs w h end =
     (e.0, subst (Leads 0 start bytes) e.1 (subst (λ b. Leads 0 start b gs) (take_all at bytes h) w.stands.leads))
 
 -- a first fault is where the bytes fail
-pub fault_first : (bytes : List ℕ) (k : ℕ) → FirstFault bytes k → FaultAt bytes k
+pub fault_first : (bytes : List ℕ) (k : ℕ) → StopsAt bytes k → FaultAt bytes k
 fault_first bytes k f = record { within = f.within; before = f.before; stops = inl f.stops }
 
 -- nothing follows where nothing is wanted
@@ -85,7 +85,7 @@ none_ends : (at : ℕ) (a : List ℕ) → 0 < length a → BegunFrom at [] a →
 none_ends at [] h b = omega (arith, h)
 none_ends at (x ∷ a) h b = elim b [ ]
 
-pub fault_none : (bytes : List ℕ) (at : ℕ) (gs : List Goal) → Stands bytes at gs → gs ≡ [] → at < length bytes → FirstFault bytes (at + 1)
+pub fault_none : (bytes : List ℕ) (at : ℕ) (gs : List Goal) → Stands bytes at gs → gs ≡ [] → at < length bytes → StopsAt bytes (at + 1)
 fault_none bytes at gs s e h =
     let l : Leads 0 start (take at bytes) [] = subst (Leads 0 start (take at bytes)) e s.leads in
     let near : Begun (take at bytes ++ []) = leads_on 0 start (take at bytes) [] l [] ends in

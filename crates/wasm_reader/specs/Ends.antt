@@ -21,7 +21,7 @@ unfoldable pub least_ends : List Goal → List ℕ
 least_ends [] = []
 least_ends (g ∷ gs) = lowered (end_of g) (least_ends gs)
 
--- Before this place, and there alone, no content has ended; without one none ever ends.
+-- No content ends before this place, and one ends there; or none ever ends.
 abbrev pub IsLeastEnd : List Goal → Option ℕ → Type 0
 IsLeastEnd gs None = (j : ℕ) → Inside j gs
 IsLeastEnd gs (Some e) = (j : ℕ) → (j < e → Inside j gs) × (e ≤ j → Inside j gs → ⊥)

@@ -21,8 +21,8 @@ pub record Waits (bytes : List ℕ) (at : ℕ) (gs : List Goal) : Type 0 where
   pub inside : Inside (length bytes) gs
   pub left : IsPartOf gs (drop at bytes)
 
--- The least k such that the first k bytes aren't begun.
-pub record FirstFault (bytes : List ℕ) (k : ℕ) : Type 0 where
+-- The bytes stop being begun: k is the least such that the first k aren't.
+pub record StopsAt (bytes : List ℕ) (k : ℕ) : Type 0 where
   pub within : k ≤ length bytes
   pub before : (j : ℕ) → j < k → Begun (take j bytes)
   pub stops : Begun (take k bytes) → ⊥
@@ -30,7 +30,7 @@ pub record FirstFault (bytes : List ℕ) (k : ℕ) : Type 0 where
 -- nothing that more bytes could mend
 abbrev pub IsFault : List ℕ → CheckFault → Type 0
 IsFault bytes Memory = Unit {0}
-IsFault bytes (Malformed k) = FirstFault bytes k
+IsFault bytes (Malformed k) = StopsAt bytes k
 
 -- why the bytes are no file
 abbrev pub IsCause : List ℕ → CheckFault → Type 0

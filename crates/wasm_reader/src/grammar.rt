@@ -3,7 +3,7 @@
 mod ends;
 mod goals;
 mod items;
-mod machine;
+pub(crate) mod machine;
 mod next;
 mod stack;
 

@@ -63,7 +63,7 @@ pub(crate) enum Goal {
     Name,
     ValueType,
     BlockType,
-    /// Whether a global is mutable (standard, section 5.3.6).
+    /// Whether a global is mutable (standard, section 5.3.7).
     Mutable,
     /// What is imported (standard, section 5.5.5).
     ImportKind,

@@ -48,7 +48,7 @@ impl Machine {
         Ok(Machine { goals, at: 0 })
     }
 
-    /// Takes all items that are whole so far; the bytes are all that have come.
+    /// Takes all items that are whole so far; the bytes are all that have come. After an error nothing may follow.
     pub(crate) fn feed(&mut self, alloc: Global, bytes: &[u8]) -> Result<(), CheckFault>
         requires { Stands bytes.now self.old.at self.old.goals }
         ensures ok { OnOk result (Waits bytes.now self.new.at self.new.goals) }

@@ -55,7 +55,7 @@ pub(crate) fn next(goal: Goal, value: u32, at: u64) -> Option<Few>
         Goal::Mutable => when(value <= 0x01),
         Goal::ImportKind => behind_kind(value),
         Goal::Space => when(value <= 0x03),
-        Goal::Limits => behind_flag(value),
+        Goal::Limits => behind_flag(value, None),
         Goal::Code { first_arm } => behind_opcode(first_arm, value),
         Goal::Number
         | Goal::Signed32
@@ -145,23 +145,13 @@ fn content(id: u8, last: u8, owed: u32, end: u64, value: u32) -> Option<Few>
     let until = Some(Goal::Until(end));
     let more = Some(Goal::Sections { last: id, owed });
     match id {
-        0 => Some((
-            name_of(value),
-            Some(Goal::Rest(end)),
-            Some(Goal::Sections { last, owed }),
-            None,
-        )),
+        0 => {
+            let more = Some(Goal::Sections { last, owed });
+            Some((name_of(value), Some(Goal::Rest(end)), more, None))
+        }
         1 => Some((some_of(Kind::Types, value), until, more, None)),
         2 => Some((some_of(Kind::Imports, value), until, more, None)),
-        3 => Some((
-            some_of(Kind::Functions, value),
-            until,
-            Some(Goal::Sections {
-                last: id,
-                owed: value,
-            }),
-            None,
-        )),
+        3 => functions(end, value),
         4 => Some((some_of(Kind::Tables, value), until, more, None)),
         5 => Some((some_of(Kind::Memories, value), until, more, None)),
         6 => Some((some_of(Kind::Globals, value), until, more, None)),
@@ -172,6 +162,22 @@ fn content(id: u8, last: u8, owed: u32, end: u64, value: u32) -> Option<Few>
         11 => Some((some_of(Kind::Segments, value), until, more, None)),
         _ => None,
     }
+}
+
+// Behind the number of functions, each of which owes a body.
+fn functions(end: u64, value: u32) -> Option<Few>
+    ensures { (last owed : ℕ) → new_of result ≡ content 3 end last owed value }
+{
+    let more = Some(Goal::Sections {
+        last: 3,
+        owed: value,
+    });
+    Some((
+        some_of(Kind::Functions, value),
+        Some(Goal::Until(end)),
+        more,
+        None,
+    ))
 }
 
 // Behind the number of bodies, which is that of the functions (standard, section 5.5.15).
@@ -195,45 +201,29 @@ fn entry(kind: Kind, n: u32, value: u32, at: u64) -> Option<Few>
     ensures { new_of result ≡ and_then (entry (kind_of kind) value at) (others (kind_of kind) n) }
 {
     let more = others(kind, n);
+    let code = Some(Goal::Code { first_arm: false });
     match kind {
         Kind::Types => {
             let types = Some(Goal::Count(Kind::ValueTypes));
             if_so(value == 0x60, (types, types, None, more))
         }
-        Kind::Imports => Some((
-            name_of(value),
-            Some(Goal::Name),
-            Some(Goal::ImportKind),
-            more,
-        )),
+        Kind::Imports => {
+            let imported = Some(Goal::ImportKind);
+            Some((name_of(value), Some(Goal::Name), imported, more))
+        }
         Kind::Tables => if_so(value == 0x70, (Some(Goal::Limits), None, None, more)),
-        Kind::Memories => memory(value, more),
+        Kind::Memories => behind_flag(value, more),
         Kind::Globals => {
-            let init = Some(Goal::Code { first_arm: false });
-            if_so(
-                is_value_type(value),
-                (Some(Goal::Mutable), init, None, more),
-            )
+            let is_type = is_value_type(value);
+            if_so(is_type, (Some(Goal::Mutable), code, None, more))
         }
         Kind::Exports => Some((name_of(value), Some(Goal::Space), Some(Goal::Number), more)),
-        Kind::Elements => Some((
-            Some(Goal::Code { first_arm: false }),
-            Some(Goal::Count(Kind::Indices)),
-            None,
-            more,
-        )),
-        Kind::Bodies => Some((
-            Some(Goal::Count(Kind::Runs)),
-            Some(Goal::Code { first_arm: false }),
-            Some(Goal::Until(at + value as u64)),
-            more,
-        )),
-        Kind::Segments => Some((
-            Some(Goal::Code { first_arm: false }),
-            Some(Goal::Count(Kind::Bytes)),
-            None,
-            more,
-        )),
+        Kind::Elements => Some((code, Some(Goal::Count(Kind::Indices)), None, more)),
+        Kind::Bodies => {
+            let until = Some(Goal::Until(at + value as u64));
+            Some((Some(Goal::Count(Kind::Runs)), code, until, more))
+        }
+        Kind::Segments => Some((code, Some(Goal::Count(Kind::Bytes)), None, more)),
         Kind::ValueTypes => if_so(is_value_type(value), (None, None, None, more)),
         Kind::Runs => Some((Some(Goal::ValueType), None, None, more)),
         Kind::Functions | Kind::Indices | Kind::Bytes => Some((None, None, None, more)),
@@ -247,24 +237,13 @@ fn if_so(holds: bool, goals: Few) -> Option<Few>
     if holds { Some(goals) } else { None }
 }
 
-// A memory's type, and more (standard, section 5.3.4).
-fn memory(value: u32, more: Option<Goal>) -> Option<Few>
+// Behind the byte that says whether limits have a maximum (standard, section 5.3.4), and then more.
+fn behind_flag(value: u32, more: Option<Goal>) -> Option<Few>
     ensures { new_of result ≡ and_then (behind_flag value) (list_of more) }
 {
     match value {
         0x00 => Some((Some(Goal::Number), None, None, more)),
         0x01 => Some((Some(Goal::Number), Some(Goal::Number), None, more)),
-        _ => None,
-    }
-}
-
-// Behind the byte that says whether limits have a maximum (standard, section 5.3.4).
-fn behind_flag(value: u32) -> Option<Few>
-    ensures { new_of result ≡ behind_flag value }
-{
-    match value {
-        0x00 => Some((Some(Goal::Number), None, None, None)),
-        0x01 => Some((Some(Goal::Number), Some(Goal::Number), None, None)),
         _ => None,
     }
 }

@@ -1,7 +1,7 @@
 use Rattle.std.proofs.Common.{◌<◌, ◌∷◌, ℕ, drop, subst, length, arith}
 use Rattle.wa_types.specs.Begun.{Inside}
 use Rattle.wasm_reader.specs.Goals.{goal_of}
-use Rattle.wasm_reader.specs.Machine.{FirstFault}
+use Rattle.wasm_reader.specs.Machine.{StopsAt}
 use Rattle.wasm_reader.proofs.Faults.{ready, on_from, end_room, ended_there, stop_there, fault_end, fault_wrong, fault_step, goes_on, on_true, on_false}
 use Rattle.wasm_reader.proofs.Waiting.{fault_none}
 use Rattle.wasm_reader.proofs.grammar.machine.Machine.advance.Goals as goal
@@ -28,7 +28,7 @@ returns-in-Some-end-clause-err c =
     let there = stop_there c.end_within-end.result c.unwrap_or-stop.result (length c.args.bytes.now) c.in-Some-end.at c.in-Some-end.is c.unwrap_or-stop.ensures in
     let room : c.skip-self.result < c.unwrap_or-stop.result =
     omega (arith, there, end_room c.args.bytes.now c.skip-self.result (length c.args.bytes.now) c.in-Some-end.at c.args.self.now.goals c.end_within-end.result s c.in-Some-end.is c.end_within-end.ensures) in
-    subst (FirstFault c.args.bytes.now) there
+    subst (StopsAt c.args.bytes.now) there
     (fault_end c.args.bytes.now c.skip-self.result c.unwrap_or-stop.result (goal_of c.in-Some.goal) (drop 1 c.args.self.now.goals) y room c.in-Part.ensures
     (λ i. ended_there c.args.self.now.goals _ (length c.args.bytes.now) c.in-Some-end.at c.end_within-end.result c.in-Some.ensures.some c.in-Some-end.is c.end_within-end.ensures
     (let P : ℕ → Type 0 = λ n. Inside n (goal_of c.in-Some.goal ∷ drop 1 c.args.self.now.goals) in subst P there i)))
