@@ -1,3 +1,5 @@
+ghost use Rattle.std.specs.Prelude.{◌≡◌};
+
 /// Upper bounds on what is read.
 #[derive(Clone, Copy, Debug, PartialEq, Eq, Drop)]
 pub struct Bounds {
@@ -17,7 +19,9 @@ pub struct Bounds {
 
 impl Bounds {
     /// The bounds of a module that is to be rewritten.
-    pub fn source() -> Bounds {
+    pub fn source() -> Bounds
+        ensures { result ≡ record { file = 8388608; functions = 100000; parameters = 1000; body = 1048576; nesting = 1000; locals = 50000 } }
+    {
         Bounds {
             file: 8_388_608,
             functions: 100_000,
@@ -29,7 +33,9 @@ impl Bounds {
     }
 
     /// The bounds of a module that was rewritten.
-    pub fn prepared() -> Bounds {
+    pub fn prepared() -> Bounds
+        ensures { result ≡ record { file = 67108864; functions = 100005; parameters = 1000; body = 67108864; nesting = 3008; locals = 50000 } }
+    {
         Bounds {
             file: 67_108_864,
             functions: 100_005,
