@@ -5,6 +5,8 @@ use Rattle.wa_types.specs.declared.syntax.Export.{Export}
 use Rattle.wa_types.specs.Syntax.{Basic, global_get, global_set, Plain, basic, call, call_indirect, Code, done, plain, nest, branch, FuncType, Func, GlobalDef, Module}
 use Rattle.wa_types.specs.Modules.{func_sorts, all_globals, defined_at}
 use Rattle.wa_types.specs.Validity.{Valid}
+use Rattle.wa_types.specs.Base.{Base}
+use Rattle.wa_types.specs.Runtime.{with_runtime}
 use Rattle.wa_model.specs.Store.{Store}
 use Rattle.wa_model.specs.Configuration.{Label, block_label, loop_label, Activation, Configuration}
 use Rattle.wa_model.specs.Step.{Next, steps, asks, returns, traps, stuck, entered, step}
@@ -113,6 +115,16 @@ StepsStay =
     (m : Module) (types : List FuncType) (funcs : List Func) (globals : List GlobalDef) (exports : List Export) (more : List Value) (c : Configuration)
     → Valid m → ConfigNamed (spaces_of m) c
     → (step (grown_module m types funcs globals exports) (grown_config more c) ≡ grown_next more (step m c)) × NextNamed (spaces_of m) (step m c)
+
+-- So it is with the runtime's parts, where the module has the memory that it is compared with.
+abbrev pub RuntimeStepsStay : Type 0
+RuntimeStepsStay =
+    (m : Module) (more : List Value) (c : Configuration) → Valid m → ConfigNamed (spaces_of m) c
+    → (step (with_runtime m) (grown_config more c) ≡ grown_next more (step (Base m) c)) × NextNamed (spaces_of m) (step (Base m) c)
+
+-- A valid module is valid with that memory.
+abbrev pub BaseIsValid : Type 0
+BaseIsValid = (m : Module) → Valid m → Valid (Base m)
 
 -- A call of a function of a valid module leads to such a configuration.
 abbrev pub CallsAreNamed : Type 0
