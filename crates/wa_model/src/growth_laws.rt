@@ -1,4 +1,4 @@
-ghost use Rattle.wa_model.specs.Growth.{BaseIsValid, CallsAreNamed, EndsStay, RuntimeStepsStay, StepsStay, StretchesStay};
+ghost use Rattle.wa_model.specs.Growth.{BaseIsValid, CallsAreNamed, EndsStay, InstancesStay, RuntimeStepsStay, StepsStay, StretchesStay};
 
 /// A valid module with more parts behind its own makes each of its own reductions as before, at the same cost.
 pub fn reductions_stay()
@@ -16,4 +16,9 @@ pub fn calls_are_named()
 /// A valid module is valid with the memory that it is compared with.
 pub fn base_is_valid()
     ensures { BaseIsValid }
+{}
+
+/// A valid module with more parts behind its own opens as before, with more globals.
+pub fn instances_stay()
+    ensures { InstancesStay }
 {}

@@ -26,7 +26,7 @@ mod quiet_laws;
 pub use answers::{Answer, AnswerLine, Area, Detach, Poke};
 pub use events::{Call, End, Event, Line};
 pub use flat::{FlatFunc, FlatModule, Operand, Stmt};
-pub use growth_laws::{base_is_valid, calls_are_named, reductions_stay};
+pub use growth_laws::{base_is_valid, calls_are_named, instances_stay, reductions_stay};
 pub use laws::{
     moves_add_up, one_next_configuration, pruned_runs_are_the_same, reductions_end_one_way,
     runs_are_determined, runs_are_moves, runs_grow,
