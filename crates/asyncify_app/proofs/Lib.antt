@@ -1,4 +1,5 @@
 pub mod Bounded
+pub mod FreeNames
 pub mod Grown
 pub mod Printed
 pub mod SmallBodies

@@ -1,23 +1,20 @@
 -- A small module is rewritten by the runtime's parts: nothing in it may pause.
-use Rattle.std.proofs.Common.{◌≡◌, ℕ, zero, suc, ◌-◌, ◌<◌, List, [], ◌∷◌, Some, None, Bool, true, false, refl, sym, ap, ◌∙◌, subst, length, arith, All, Contains}
-use Rattle.std.specs.Prelude.{slice_get, slice_index_or, nat_lt, if◌then◌else◌}
-use Rattle.std.specs.List.{filter_map, list_any}
-use Rattle.std.specs.Str.{bytes_eq}
-use Rattle.std.proofs.lemmas.Bool.{and_parts, or_parts}
-use Rattle.std.proofs.lemmas.List.Elements.{All-head, All-tail, All-nil, All-cons}
-use Rattle.std.proofs.lemmas.Slice.Eq.{bytes_eq-Decides}
+use Rattle.std.proofs.Common.{◌≡◌, ℕ, zero, suc, ◌-◌, List, [], ◌∷◌, Some, None, Bool, true, false, refl, sym, ap, ◌∙◌, subst, All}
+use Rattle.std.specs.Prelude.{slice_get, nat_lt, if◌then◌else◌}
+use Rattle.std.specs.List.{filter_map}
+use Rattle.std.proofs.lemmas.Bool.{and_parts}
+use Rattle.std.proofs.lemmas.List.Elements.{All-head, All-tail}
 use Rattle.wa_types.specs.declared.syntax.Import.{Import}
-use Rattle.wa_types.specs.declared.syntax.Export.{Export}
 use Rattle.wa_types.specs.Syntax.{Plain, basic, local_get, call, call_indirect, Code, done, plain, nest, branch, Func, Module}
 use Rattle.wa_types.specs.Pruned.{is_last, pruned}
 use Rattle.wa_types.specs.Modules.{imported_func, func_imports, defined_at}
 use Rattle.wa_types.specs.Pausing.{Settings, Listed, listed_import, Callee, direct, indirect, callee, callee_onto, calls_of, calls_in, MayPause, calls_listed, calls_indirectly, calls_pausing}
-use Rattle.wa_types.specs.Runtime.{runtime_names, with_runtime}
+use Rattle.wa_types.specs.Runtime.{with_runtime}
 use Rattle.wa_model.specs.Rewrites.{Rewrites}
 use Rattle.wa_model.proofs.QuietRewritten.{quiet_rewritten}
-use Rattle.asyncify_runtime.specs.Reserved.{is_runtime_name}
 use Rattle.wasm_reader.specs.Small.{is_small_plain, is_small_code, IsSmallFunc, IsSmallShaped}
 use Rattle.asyncify_app.specs.Small.{IsSmall}
+use Rattle.asyncify_app.proofs.FreeNames.{free_of_names}
 
 -- ---- calls
 
@@ -82,24 +79,6 @@ never_pauses m s h x (calls_listed y f place i d e l) = none_listed m s i h.impo
 never_pauses m s h x (calls_indirectly y f place sort d e i) = direct_at (calls_in f) place sort (direct_calls f.body (small_body m y f h d)) e
 never_pauses m s h x (calls_pausing y f place z d e may) = never_pauses m s h z may
 
--- ---- names
-
-not_named : (name : List ℕ) (names : List (List ℕ)) → list_any (λ own. bytes_eq name own) names ≡ false → Contains names name → ⊥
-not_named name [] h c = let lt = c.1 in absurd (omega arith)
-not_named name (own ∷ names) h c =
-    let b = or_parts (bytes_eq name own) (list_any (λ x. bytes_eq name x) names) h in
-    at (λ e. let t = sym b.0 ∙ (bytes_eq-Decides name own).1 e in cc) (not_named name names b.1) c.0 c.1 c.2
-  where
-    at : (name ≡ own → ⊥) → (Contains names name → ⊥) → (k : ℕ) → k < length (own ∷ names) → slice_index_or (own ∷ names) k name ≡ name → ⊥
-    at differs rest zero lt e = differs (sym e)
-    at differs rest (suc k) lt e = rest (k, omega arith, e)
-
-free_of_names : (es : List Export) → list_any (λ (e : Export). is_runtime_name e.name) es ≡ false → All (λ (e : Export). Contains runtime_names e.name → ⊥) es
-free_of_names [] h = All-nil (λ (e : Export). Contains runtime_names e.name → ⊥)
-free_of_names (e ∷ es) h =
-    let b = or_parts (is_runtime_name e.name) (list_any (λ (x : Export). is_runtime_name x.name) es) h in
-    All-cons (λ (x : Export). Contains runtime_names x.name → ⊥) e es (not_named e.name runtime_names b.0) (free_of_names es b.1)
-
 -- A small module with the runtime's parts is that module, rewritten, under any settings.
 pub small_modules_are_rewritten : (m : Module) (s : Settings) → IsSmall m → Rewrites m s (with_runtime m)
-small_modules_are_rewritten m s h = quiet_rewritten m s h.valid (free_of_names m.exports h.names) (never_pauses m s h.shaped)
+small_modules_are_rewritten m s h = quiet_rewritten m s h.valid (free_of_names m h.names) (never_pauses m s h.shaped)

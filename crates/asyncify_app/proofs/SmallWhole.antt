@@ -38,7 +38,7 @@ first_step true i n c h = lt-ltb 0 (suc n) (omega arith)
 first_step false i n true h = let k = ltb-true i n h in lt-ltb (1 + i) (suc n) (omega arith)
 first_step false i n false h = let k = ltb-false i n h in le-ltb (1 + i) (suc n) (omega arith)
 
-found_first : {X : Type 0} (p : X → Bool) (xs : List X) → nat_lt (position_or_len p xs) (length xs) ≡ list_any p xs
+pub found_first : {X : Type 0} (p : X → Bool) (xs : List X) → nat_lt (position_or_len p xs) (length xs) ≡ list_any p xs
 found_first p [] = refl
 found_first p (x ∷ xs) = first_step (p x) (position_or_len p xs) (length xs) (list_any p xs) (found_first p xs)
 
