@@ -1,3 +1,4 @@
+pub mod FreeNames
 pub mod Grown
 pub mod Printed
 pub mod SmallModules

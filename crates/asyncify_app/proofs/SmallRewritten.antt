@@ -18,7 +18,7 @@ use Rattle.wa_types.specs.Pausing.{Settings, Listed, listed_import, Callee, dire
 use Rattle.wa_types.specs.Runtime.{runtime_names, with_runtime}
 use Rattle.wa_model.specs.Rewrites.{Rewrites}
 use Rattle.wa_model.proofs.QuietRewritten.{quiet_rewritten}
-use Rattle.asyncify_runtime.specs.Reserved.{is_runtime_name, reserved_import, reserved_export, first_reserved}
+use Rattle.asyncify_app.proofs.FreeNames.{unreserved_is_free}
 use Rattle.asyncify_app.specs.Small.{is_small_plain, is_small_code, IsSmall}
 use Rattle.asyncify_app.specs.Sources.{IsSource}
 
@@ -85,49 +85,7 @@ never_pauses m s h x (calls_listed y f place i d e l) = none_listed m s i h.impo
 never_pauses m s h x (calls_indirectly y f place sort d e i) = direct_at (calls_in f) place sort (direct_calls f.body (small_body m y f h d)) e
 never_pauses m s h x (calls_pausing y f place z d e may) = never_pauses m s h z may
 
--- ---- names
-
-not_named : (name : List ℕ) (names : List (List ℕ)) → list_any (λ own. bytes_eq name own) names ≡ false → Contains names name → ⊥
-not_named name [] h c = let lt = c.1 in absurd (omega arith)
-not_named name (own ∷ names) h c =
-    let b = or_parts (bytes_eq name own) (list_any (λ x. bytes_eq name x) names) h in
-    at (λ e. let t = sym b.0 ∙ (bytes_eq-Decides name own).1 e in cc) (not_named name names b.1) c.0 c.1 c.2
-  where
-    at : (name ≡ own → ⊥) → (Contains names name → ⊥) → (k : ℕ) → k < length (own ∷ names) → slice_index_or (own ∷ names) k name ≡ name → ⊥
-    at differs rest zero lt e = differs (sym e)
-    at differs rest (suc k) lt e = rest (k, omega arith, e)
-
-first_step : (b : Bool) (i n : ℕ) (c : Bool) → nat_lt i n ≡ c → nat_lt (cond (not b) (1 + i) 0) (suc n) ≡ (b || c)
-first_step true i n c h = lt-ltb 0 (suc n) (omega arith)
-first_step false i n true h = let k = ltb-true i n h in lt-ltb (1 + i) (suc n) (omega arith)
-first_step false i n false h = let k = ltb-false i n h in le-ltb (1 + i) (suc n) (omega arith)
-
-found_first : {X : Type 0} (p : X → Bool) (xs : List X) → nat_lt (position_or_len p xs) (length xs) ≡ list_any p xs
-found_first p [] = refl
-found_first p (x ∷ xs) = first_step (p x) (position_or_len p xs) (length xs) (list_any p xs) (found_first p xs)
-
-none_named : (es : List Export) → position (λ (e : Export). is_runtime_name e.name) es ≡ None → list_any (λ (e : Export). is_runtime_name e.name) es ≡ false
-none_named es h = by_any (list_any (λ (e : Export). is_runtime_name e.name) es) refl
-  where
-    p : Export → Bool
-    p = λ (e : Export). is_runtime_name e.name
-    by_any : (b : Bool) → list_any p es ≡ b → list_any p es ≡ false
-    by_any false e = e
-    by_any true e = absurd (let z : is_none (position p es) ≡ false = rw (found_first p es, e) refl in let y : is_none (position p es) ≡ true = ap is_none h in cc)
-
--- no export has one of the five names
-none_placed : (o p : Option ℕ) → first_reserved o p ≡ None → p ≡ None
-none_placed (Some i) p h = cc
-none_placed None (Some i) h = cc
-none_placed None None h = refl
-
-free_of_names : (es : List Export) → list_any (λ (e : Export). is_runtime_name e.name) es ≡ false → All (λ (e : Export). Contains runtime_names e.name → ⊥) es
-free_of_names [] h = All-nil (λ (e : Export). Contains runtime_names e.name → ⊥)
-free_of_names (e ∷ es) h =
-    let b = or_parts (is_runtime_name e.name) (list_any (λ (x : Export). is_runtime_name x.name) es) h in
-    All-cons (λ (x : Export). Contains runtime_names x.name → ⊥) e es (not_named e.name runtime_names b.0) (free_of_names es b.1)
-
 -- A source with the runtime's parts is that module, rewritten, under any settings.
 pub sources_are_rewritten : (bytes : List ℕ) (m : Module) (s : Settings) → IsSource bytes m → Rewrites m s (with_runtime m)
 sources_are_rewritten bytes m s h =
-    quiet_rewritten m s h.accepted.valid (free_of_names m.exports (none_named m.exports (none_placed (reserved_import m.imports) (reserved_export m.exports) h.accepted.unreserved.free))) (never_pauses m s h.small)
+    quiet_rewritten m s h.accepted.valid (unreserved_is_free m h.accepted.unreserved.free) (never_pauses m s h.small)

@@ -21,7 +21,7 @@ IsRewritten bytes functions text =
 abbrev pub plain_settings : Settings
 plain_settings = record { choice = every; ignore_indirect = false; policy = save_all }
 
--- OUT holds the module of IN with the runtime's parts, which is that module rewritten: unwound and rewound it behaves
+-- OUT holds the module of IN with the runtime's parts, which is that module rewritten: under the host's protocol it behaves
 -- like the original. The other files are as before.
 pub record IsTransformed (input output : List ℕ) (old new : Files) : Type 0 where
   pub «module» : Module

@@ -16,7 +16,7 @@ use Rattle.wa_types.specs.Validity.{got_global}
 use Rattle.wa_ops.specs.Operate.{number_of, are_of}
 use Rattle.wa_model.specs.Instantiation.{constant_value, all_values, least_of, place_at, Piece, elem_piece, byte_piece, first_out, put_piece, put_pieces, Opening, fails_as, opens, bytes_checked, elems_checked, filled, opened_by, opening}
 use Rattle.wa_model.specs.Behaves.{is_pause_end}
-use Rattle.wa_model.specs.Growth.{grown_module, Spaces, spaces_of, Each, EntryNamed, StoreNamed, grown_store}
+use Rattle.wa_model.specs.Growth.{grown_module, Spaces, spaces_of, Each, EntryNamed, StoreNamed, grown_store, OpensGrown}
 use Rattle.wa_model.proofs.NamedModules.{InstanceNamed}
 
 -- ---- lists
@@ -164,3 +164,7 @@ module _ (m : Module) (ts : List FuncType) (fs : List Func) (gs : List GlobalDef
       by_limits true b = (refl, refl)
       by_limits false true = (refl, refl)
       by_limits false false = whole
+
+pub opens_grown : (more : List Value) (n : Spaces) (o o' : Opening) → OpeningStays more n o o' → OpensGrown more n o o'
+opens_grown more n (fails_as e) o' h = h.0
+opens_grown more n (opens s) o' h = h

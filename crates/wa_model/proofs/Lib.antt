@@ -1,4 +1,5 @@
 pub mod Alone
+pub mod BaseValid
 pub mod Cases
 pub mod Compose
 pub mod Ends
@@ -12,6 +13,7 @@ pub mod Moments
 pub mod NamedModules
 pub mod PrunedRuns
 pub mod QuietBehave
+pub mod QuietCases
 pub mod QuietRewritten
 pub mod QuietRuns
 pub mod Runs

@@ -1,10 +1,12 @@
 -- A module of which nothing may pause is rewritten by the runtime's parts alone.
-use Rattle.std.proofs.Common.{◌≡◌, ℕ, ◌+◌, Some, refl, sym, ◌∙◌, subst, length}
+use Rattle.std.proofs.Common.{◌≡◌, ℕ, ◌+◌, Some, refl, sym, ◌∙◌, subst, length, zero, suc, List, [], ◌∷◌, Bool, true, false}
+use Rattle.std.specs.List.{list_any}
+use Rattle.std.proofs.lemmas.Bool.{or_parts}
 use Rattle.std.specs.Prelude.{slice_get}
 use Rattle.std.proofs.lemmas.Option.{slice_get_within}
 use Rattle.wa_types.specs.Syntax.{Func, Module}
 use Rattle.wa_types.specs.Validity.{Valid}
-use Rattle.wa_types.specs.Pausing.{Settings}
+use Rattle.wa_types.specs.Pausing.{Settings, TellsMayPause}
 use Rattle.wa_types.specs.Runtime.{global_space, runtime_funcs, with_runtime}
 use Rattle.wa_model.specs.Rewrites.{SameFunc, Rewrites}
 use Rattle.wa_model.specs.Quiet.{NeverPauses, FreeOfNames}
@@ -40,3 +42,14 @@ quiet_rewritten m s valid free never = record {
   rewritten = λ i f g which e h tells may. absurd (never _ may);
   behaves = quiet_behaves m s valid never;
 }
+
+none_true : (which : List Bool) (x : ℕ) → list_any (λ told. told) which ≡ false → slice_get which x ≡ Some true → ⊥
+none_true [] x h e = cc
+none_true (told ∷ which) zero h e =
+    let b = or_parts told (list_any (λ b. b) which) h in
+    let z : told ≡ true = cc in
+    let bad : false ≡ true = sym b.0 ∙ z in cc
+none_true (told ∷ which) (suc x) h e = none_true which x (or_parts told (list_any (λ b. b) which) h).1 e
+
+pub none_told : (m : Module) (s : Settings) (which : List Bool) → TellsMayPause m s which → list_any (λ told. told) which ≡ false → NeverPauses m s
+none_told m s which tells h = λ x may. none_true which x h ((tells.each x).1 may)

@@ -1,9 +1,9 @@
 -- A valid module is valid with the runtime's parts behind its own.
-use Rattle.std.proofs.Common.{◌≡◌, ℕ, zero, suc, ◌+◌, ◌-◌, ◌<◌, ◌≤◌, ◌++◌, List, [], ◌∷◌, map, Option, Some, None, Bool, true, false, not, ◌&&◌, refl, sym, ap, ◌∙◌, subst, ⊎_elim, length, arith, append_assoc, length-append, eqb-true, All, Contains}
-use Rattle.std.specs.Prelude.{slice_get, nat_lt, nat_le, ◌==◌, ◌^◌, if◌then◌else◌}
+use Rattle.std.proofs.Common.{◌≡◌, ℕ, zero, suc, ◌+◌, ◌-◌, ◌<◌, ◌++◌, List, [], ◌∷◌, map, Option, Some, None, Bool, true, false, not, ◌&&◌, refl, sym, ap, ◌∙◌, subst, ⊎_elim, length, arith, append_assoc, length-append, eqb-true, All, Contains}
+use Rattle.std.specs.Prelude.{slice_get, nat_lt, nat_le, ◌==◌, if◌then◌else◌}
 use Rattle.std.specs.List.{filter_map, flat_map, list_all, list_any}
 use Rattle.std.specs.Option.{option_map}
-use Rattle.std.proofs.lemmas.Bool.{false_from_ne_true, ltb-true, lt-ltb, and_parts, and_from, or_from, not_from_false, not-true, cases_lt}
+use Rattle.std.proofs.lemmas.Bool.{false_from_ne_true, lt-ltb, and_parts, and_from, or_from, not_from_false, not-true, cases_lt}
 use Rattle.std.proofs.lemmas.List.{append-nil, map-append, length-map}
 use Rattle.std.proofs.lemmas.List.Concat.{flat_map-append}
 use Rattle.std.proofs.lemmas.List.Elements.{All-head, All-tail, filter_map-append}
@@ -11,20 +11,20 @@ use Rattle.std.proofs.lemmas.List.Folds.{list_all-append, list_any-append}
 use Rattle.std.proofs.lemmas.Option.{slice_get-map, slice_get_within}
 use Rattle.wa_types.specs.declared.values.ValType.{ValType}
 use Rattle.wa_types.specs.declared.values.ValType.TheVariants.{I32}
-use Rattle.wa_types.specs.declared.syntax.Limits.{Limits}
 use Rattle.wa_types.specs.declared.syntax.Space.{Space}
 use Rattle.wa_types.specs.declared.syntax.Space.TheVariants.{Func as a_func, Table as a_table, Memory as a_memory, Global as a_global}
 use Rattle.wa_types.specs.declared.syntax.Export.{Export}
 use Rattle.wa_types.specs.Syntax.{const, global_get, basic, Code, done, plain, FuncType, Func, GlobalDef, Elem, Segment, Module}
 use Rattle.wa_types.specs.Typing.{GlobalType, listed, Types, Typed}
-use Rattle.wa_types.specs.Base.{one_page, added_memories}
-use Rattle.wa_types.specs.Modules.{imported, imported_func, imported_memory, imported_global, global_type, func_sorts, func_types, func_imports, type_at, or_empty, all_tables, all_memories, all_globals, declared_locals, around}
-use Rattle.wa_types.specs.Validity.{all_below, same_space, exported, start_indices, got_global, types_there, funcs_there, tables_there, memories_there, expressions, globals_there, limits_fit, all_limits_fit, one_each, constant_of, is_constant, all_constant, same_name, all_differ, names_differ, is_empty_type, start_fits, start_lawful, Valid}
+use Rattle.wa_types.specs.Base.{Base}
+use Rattle.wa_types.specs.Modules.{imported, imported_func, imported_global, global_type, func_sorts, func_types, func_imports, type_at, or_empty, all_tables, all_memories, all_globals, declared_locals, around}
+use Rattle.wa_types.specs.Validity.{all_below, same_space, exported, start_indices, got_global, types_there, funcs_there, tables_there, memories_there, expressions, globals_there, constant_of, is_constant, all_constant, same_name, all_differ, names_differ, is_empty_type, start_fits, start_lawful, Valid}
 use Rattle.wa_types.specs.Runtime.{func_space, global_space, runtime_types, runtime_globals, start_code, stop_code, state_code, runtime_func, runtime_funcs, runtime_exports, runtime_names, with_runtime}
 use Rattle.wa_model.specs.Growth.{grown_module, Spaces, spaces_of, Each}
 use Rattle.wa_model.specs.Quiet.{FreeOfNames}
 use Rattle.wa_model.proofs.GrownSteps.{ModuleNamed, front, sorts_are, sort_stays, type_stays}
 use Rattle.wa_model.proofs.NamedModules.{valid_named, valid_instance}
+use Rattle.wa_model.proofs.BaseValid.{below_more, base_valid, base_has_memory}
 use Rattle.wa_model.proofs.WiderTyping.{Wider, types_wider, state_type, start_typed, stop_typed, state_typed}
 
 -- ---- lists and tests
@@ -33,12 +33,6 @@ pub behind : {X : Type 0} (xs ys : List X) (i j : ℕ) → i ≡ length xs + j �
 behind [] ys i j e = ap (slice_get ys) (let z : i ≡ j = omega arith in z)
 behind (x ∷ xs) ys zero j e = absurd (omega arith)
 behind (x ∷ xs) ys (suc i) j e = behind xs ys i j (omega arith)
-
-below_more : (n k : ℕ) (xs : List ℕ) → n ≤ k → all_below n xs ≡ true → all_below k xs ≡ true
-below_more n k [] le h = refl
-below_more n k (x ∷ xs) le h =
-    let b = and_parts (nat_lt x n) (all_below n xs) h in
-    let lt = ltb-true x n b.0 in and_from (nat_lt x k) (all_below k xs) (lt-ltb x k (omega arith)) (below_more n k xs le b.1)
 
 below_each : (n : ℕ) (xs : List ℕ) → Each (λ x. x < n) xs → all_below n xs ≡ true
 below_each n [] h = refl
@@ -92,11 +86,8 @@ constant_more gs more t (plain (basic (global_get x)) done) h = found (slice_get
     found (Some g) e k = ap (λ o. constant_of o t) (front gs more x (slice_get_within gs x g e) ∙ e) ∙ k
 constant_more gs more t _ h = cc
 
-module _ (m : Module) (v : Valid m) where
-  -- the module with the memory that the runtime needs
-  abbrev b : Module
-  b = record m { memories = m.memories ++ added_memories (all_memories m) }
-
+-- a module with a memory
+module _ (m : Module) (v : Valid m) (has_memory : nat_lt 0 (length (all_memories m)) ≡ true) where
   abbrev first : ℕ
   first = length m.types
 
@@ -110,7 +101,7 @@ module _ (m : Module) (v : Valid m) where
   es = runtime_exports (func_space m)
 
   abbrev p : Module
-  p = grown_module b runtime_types fs runtime_globals es
+  p = grown_module m runtime_types fs runtime_globals es
 
   abbrev n : Spaces
   n = spaces_of m
@@ -124,7 +115,7 @@ module _ (m : Module) (v : Valid m) where
   types_length = length-append m.types runtime_types
 
   sorts_parts : func_sorts p ≡ func_sorts m ++ map (λ (f : Func). f.sort) fs
-  sorts_parts = sorts_are b runtime_types fs runtime_globals es
+  sorts_parts = sorts_are m runtime_types fs runtime_globals es
 
   sorts_length : length (func_sorts p) ≡ n.funcs + 5
   sorts_length = ap length sorts_parts ∙ length-append (func_sorts m) (map (λ (f : Func). f.sort) fs)
@@ -139,36 +130,13 @@ module _ (m : Module) (v : Valid m) where
   found_stays : (x : ℕ) → x < n.funcs → slice_get (func_types p) x ≡ slice_get (func_types m) x
   found_stays x h =
       slice_get-map (type_at p) (func_sorts p) x
-      ∙ ap (option_map (type_at p)) (sort_stays b runtime_types fs runtime_globals es x h)
+      ∙ ap (option_map (type_at p)) (sort_stays m runtime_types fs runtime_globals es x h)
       ∙ by_sort (slice_get (func_sorts m) x) refl
       ∙ sym (slice_get-map (type_at m) (func_sorts m) x)
     where
       by_sort : (o : Option ℕ) → slice_get (func_sorts m) x ≡ o → option_map (type_at p) o ≡ option_map (type_at m) o
       by_sort None e = refl
-      by_sort (Some sort) e = ap Some (type_stays b runtime_types fs runtime_globals es sort (named.sorts x sort e))
-
-  -- ---- the memory
-
-  memories_are : all_memories p ≡ all_memories m ++ added_memories (all_memories m)
-  memories_are = sym (append_assoc (imported imported_memory m) m.memories (added_memories (all_memories m)))
-
-  -- it has the memories of the module, or the added one where the module has none
-  by_memories : (P : List Limits → Type 0) → P (all_memories m) → P (one_page ∷ []) → P (all_memories p)
-  by_memories P h one = subst P (sym memories_are) (by_list (all_memories m) h)
-    where
-      by_list : (ms : List Limits) → P ms → P (ms ++ added_memories ms)
-      by_list [] g = one
-      by_list (x ∷ xs) g = subst P (sym (append-nil (x ∷ xs))) g
-
-  has_memory : nat_lt 0 (length (all_memories p)) ≡ true
-  has_memory = ap (λ ms. nat_lt 0 (length ms)) memories_are ∙ by_list (all_memories m)
-    where
-      by_list : (ms : List Limits) → nat_lt 0 (length (ms ++ added_memories ms)) ≡ true
-      by_list [] = refl
-      by_list (x ∷ xs) = lt-ltb 0 (length (x ∷ (xs ++ []))) (omega arith)
-
-  memories_count : length (all_memories m) ≤ length (all_memories p)
-  memories_count = let e = ap length memories_are in let l = length-append (all_memories m) (added_memories (all_memories m)) in omega arith
+      by_sort (Some sort) e = ap Some (type_stays m runtime_types fs runtime_globals es sort (named.sorts x sort e))
 
   -- ---- the globals
 
@@ -190,7 +158,7 @@ module _ (m : Module) (v : Valid m) where
 
   wider : (f : Func) → f.sort < first → Wider (around m f) (around p f)
   wider f h =
-      let same : type_at p f.sort ≡ type_at m f.sort = type_stays b runtime_types fs runtime_globals es f.sort h in
+      let same : type_at p f.sort ≡ type_at m f.sort = type_stays m runtime_types fs runtime_globals es f.sort h in
       record {
         types = λ x t e. front m.types runtime_types x (slice_get_within m.types x t e) ∙ e;
         funcs = λ x t e. let l = slice_get_within (func_types m) x t e in let c = length-map (func_sorts m) (type_at m) in found_stays x (omega arith) ∙ e;
@@ -243,7 +211,7 @@ module _ (m : Module) (v : Valid m) where
       ⊎_elim
       (λ lt.
       let here : slice_get m.funcs i ≡ Some f = sym (front m.funcs fs i lt) ∙ e in
-      let same : type_at p f.sort ≡ type_at m f.sort = type_stays b runtime_types fs runtime_globals es f.sort (sort_known i f here) in
+      let same : type_at p f.sort ≡ type_at m f.sort = type_stays m runtime_types fs runtime_globals es f.sort (sort_known i f here) in
       typed_by f (around m f).result (ap (λ (t : FuncType). slice_get t.results 0) same)
       (types_wider (around m f) (around p f) (wider f (sort_known i f here)) ((around m f).result ∷ []) f.body (listed (around m f).result) [] (v.bodies i f here)))
       (λ le.
@@ -252,16 +220,6 @@ module _ (m : Module) (v : Valid m) where
       (cases_lt i (length m.funcs))
 
   -- ---- outside the bodies
-
-  limits_hold : all_limits_fit p ≡ true
-  limits_hold =
-      let parts = and_parts (list_all (limits_fit (2 ^ 32)) (all_tables m)) (list_all (limits_fit 65536) (all_memories m)) v.limits in
-      and_from (list_all (limits_fit (2 ^ 32)) (all_tables p)) (list_all (limits_fit 65536) (all_memories p)) parts.0 (by_memories (λ ms. list_all (limits_fit 65536) ms ≡ true) parts.1 refl)
-
-  single_holds : one_each p ≡ true
-  single_holds =
-      let parts = and_parts (nat_le (length (all_tables m)) 1) (nat_le (length (all_memories m)) 1) v.single in
-      and_from (nat_le (length (all_tables p)) 1) (nat_le (length (all_memories p)) 1) parts.0 (by_memories (λ ms. nat_le (length ms) 1 ≡ true) parts.1 refl)
 
   still_constant : (code : Code) → is_constant (all_globals m) I32 code ≡ true → is_constant (all_globals p) I32 code ≡ true
   still_constant code h = ap (λ gs. is_constant gs I32 code) globals_are ∙ constant_more (all_globals m) (map global_type runtime_globals) I32 code h
@@ -313,9 +271,7 @@ module _ (m : Module) (v : Valid m) where
   tables_hold = ap (λ xs. all_below (length (all_tables m)) (xs ++ map (λ (e : Elem). e.table) m.elems)) (no_more a_table refl) ∙ v.tables
 
   memories_hold : memories_there p ≡ true
-  memories_hold =
-      ap (λ xs. all_below (length (all_memories p)) (xs ++ map (λ (s : Segment). s.memory) m.segments)) (no_more a_memory refl)
-      ∙ below_more (length (all_memories m)) (length (all_memories p)) (exported a_memory m ++ map (λ (s : Segment). s.memory) m.segments) memories_count v.memories
+  memories_hold = ap (λ xs. all_below (length (all_memories m)) (xs ++ map (λ (s : Segment). s.memory) m.segments)) (no_more a_memory refl) ∙ v.memories
 
   funcs_hold : funcs_there p ≡ true
   funcs_hold =
@@ -349,8 +305,8 @@ module _ (m : Module) (v : Valid m) where
     types = all_joined (λ (t : FuncType). nat_le (length t.results) 1) m.types runtime_types v.types refl;
     sorts = sorts_hold;
     bodies = bodies_hold;
-    limits = limits_hold;
-    single = single_holds;
+    limits = v.limits;
+    single = v.single;
     constants = constants_hold;
     globals = globals_hold;
     tables = tables_hold;
@@ -361,5 +317,5 @@ module _ (m : Module) (v : Valid m) where
   }
 
 pub runtime_valid : (m : Module) → Valid m → FreeOfNames m → Valid (with_runtime m)
-unfolding with_runtime
-runtime_valid m v free = grown_valid m v free
+unfolding Base with_runtime
+runtime_valid m v free = grown_valid (Base m) (base_valid m v) (base_has_memory m) free

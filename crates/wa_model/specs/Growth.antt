@@ -1,13 +1,18 @@
 -- A module with more parts behind its own: its own functions stand where they stood, and do what they did.
-use Rattle.std.specs.Prelude.{◌≡◌, ℕ, ◌<◌, ◌++◌, List, [], ◌∷◌, length, Option, Some, None}
+use Rattle.std.specs.Prelude.{◌≡◌, ℕ, ◌<◌, ◌++◌, List, [], ◌∷◌, map, length, Option, Some, None, true}
 use Rattle.wa_types.specs.declared.values.Value.{Value}
 use Rattle.wa_types.specs.declared.syntax.Export.{Export}
 use Rattle.wa_types.specs.Syntax.{Basic, global_get, global_set, Plain, basic, call, call_indirect, Code, done, plain, nest, branch, FuncType, Func, GlobalDef, Module}
-use Rattle.wa_types.specs.Modules.{func_sorts, all_globals, defined_at}
+use Rattle.wa_types.specs.Modules.{imported, imported_global, func_sorts, all_globals, defined_at}
+use Rattle.wa_types.specs.Typing.{GlobalType}
+use Rattle.wa_ops.specs.Operate.{are_of}
 use Rattle.wa_types.specs.Validity.{Valid}
+use Rattle.wa_types.specs.Base.{Base}
+use Rattle.wa_types.specs.Runtime.{with_runtime}
 use Rattle.wa_model.specs.Store.{Store}
 use Rattle.wa_model.specs.Configuration.{Label, block_label, loop_label, Activation, Configuration}
 use Rattle.wa_model.specs.Step.{Next, steps, asks, returns, traps, stuck, entered, step}
+use Rattle.wa_model.specs.Instantiation.{constant_value, Opening, fails_as, opens, opening}
 use Rattle.wa_model.specs.Alone.{Goes, Finish, it_returned, it_trapped, it_asks, it_spent, EndsAs}
 
 -- the module with these types, functions, globals and exports behind its own
@@ -104,7 +109,19 @@ grown_finish more (it_trapped trap s) = it_trapped trap (grown_store more s)
 grown_finish more (it_asks import args d) = it_asks import args (grown_config more d)
 grown_finish more (it_spent d) = it_spent (grown_config more d)
 
+-- Two modules fail to open by the same end, or open with stores of which the second has more globals.
+abbrev pub OpensGrown : List Value → Spaces → (o o' : Opening) → Type 0
+OpensGrown more n (fails_as how) o' = o' ≡ fails_as how
+OpensGrown more n (opens s) o' = (o' ≡ opens (grown_store more s)) × StoreNamed n s
+
 -- ---- laws
+
+-- With values for its imported globals of their types, a valid module with more parts behind its own opens as it did.
+abbrev pub InstancesStay : Type 0
+InstancesStay =
+    (m : Module) (types : List FuncType) (funcs : List Func) (globals : List GlobalDef) (exports : List Export) (imports : List Value)
+    → Valid m → are_of (map (λ (g : GlobalType). g.ty) (imported imported_global m)) imports ≡ true
+    → OpensGrown (map (λ (g : GlobalDef). constant_value imports g.init) globals) (spaces_of m) (opening m imports) (opening (grown_module m types funcs globals exports) imports)
 
 -- A configuration of a valid module has, in the module with more parts behind its own and with more globals, the same
 -- reduction at the same cost, and comes to the same end; it leads to such a configuration again.
@@ -113,6 +130,16 @@ StepsStay =
     (m : Module) (types : List FuncType) (funcs : List Func) (globals : List GlobalDef) (exports : List Export) (more : List Value) (c : Configuration)
     → Valid m → ConfigNamed (spaces_of m) c
     → (step (grown_module m types funcs globals exports) (grown_config more c) ≡ grown_next more (step m c)) × NextNamed (spaces_of m) (step m c)
+
+-- So it is with the runtime's parts, where the module has the memory that it is compared with.
+abbrev pub RuntimeStepsStay : Type 0
+RuntimeStepsStay =
+    (m : Module) (more : List Value) (c : Configuration) → Valid m → ConfigNamed (spaces_of m) c
+    → (step (with_runtime m) (grown_config more c) ≡ grown_next more (step (Base m) c)) × NextNamed (spaces_of m) (step (Base m) c)
+
+-- A valid module is valid with that memory.
+abbrev pub BaseIsValid : Type 0
+BaseIsValid = (m : Module) → Valid m → Valid (Base m)
 
 -- A call of a function of a valid module leads to such a configuration.
 abbrev pub CallsAreNamed : Type 0

@@ -1,9 +1,10 @@
 -- Modules of which nothing may pause: the module with the runtime's parts behind its own is theirs, rewritten.
-use Rattle.std.specs.Prelude.{ℕ, All, Contains}
+use Rattle.std.specs.Prelude.{◌≡◌, ℕ, List, Bool, false, All, Contains}
+use Rattle.std.specs.List.{list_any}
 use Rattle.wa_types.specs.declared.syntax.Export.{Export}
 use Rattle.wa_types.specs.Syntax.{Module}
 use Rattle.wa_types.specs.Validity.{Valid}
-use Rattle.wa_types.specs.Pausing.{Settings, MayPause}
+use Rattle.wa_types.specs.Pausing.{Settings, MayPause, TellsMayPause}
 use Rattle.wa_types.specs.Runtime.{runtime_names, with_runtime}
 use Rattle.wa_model.specs.Behaves.{Behaves}
 use Rattle.wa_model.specs.Rewrites.{Rewrites}
@@ -17,6 +18,10 @@ abbrev pub FreeOfNames : Module → Type 0
 FreeOfNames m = All (λ (e : Export). Contains runtime_names e.name → ⊥) m.exports
 
 -- ---- laws
+
+-- Where no function is told as one that may pause, none may.
+abbrev pub NoneTold : Type 0
+NoneTold = (m : Module) (s : Settings) (which : List Bool) → TellsMayPause m s which → list_any (λ told. told) which ≡ false → NeverPauses m s
 
 -- The module with the runtime's parts is valid.
 abbrev pub RuntimeIsValid : Type 0

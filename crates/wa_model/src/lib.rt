@@ -9,7 +9,9 @@
 //! `specs/Rewrites.antt`): the headline is a sentence over these.
 //!
 //! The laws of `laws` hold of every module: a configuration has one next one, runs are determined and grow with
-//! the cost that they may take, and code that can't be reached changes no run. Read in the order `Machine`,
+//! the cost that they may take, and code that can't be reached changes no run. Those of `growth_laws` hold of valid
+//! modules: parts behind a module's own leave its reductions as they were. Those of `quiet_laws` say the headline for
+//! modules of which nothing may pause. Read in the order `Machine`,
 //! `Store`, `Configuration`, `Step`, `Plan`, `Instantiation`, `Blocking`, `Untouched`, `Protocol`, `Expected`,
 //! `Behaves`, `Rewrites`. `proofs/Cases.antt` has small runs that these definitions compute.
 #![tactic(auto)]
@@ -24,9 +26,9 @@ mod quiet_laws;
 pub use answers::{Answer, AnswerLine, Area, Detach, Poke};
 pub use events::{Call, End, Event, Line};
 pub use flat::{FlatFunc, FlatModule, Operand, Stmt};
-pub use growth_laws::{calls_are_named, reductions_stay};
+pub use growth_laws::{base_is_valid, calls_are_named, instances_stay, reductions_stay};
 pub use laws::{
     moves_add_up, one_next_configuration, pruned_runs_are_the_same, reductions_end_one_way,
     runs_are_determined, runs_are_moves, runs_grow,
 };
-pub use quiet_laws::{quiet_modules_are_rewritten, runtime_is_valid};
+pub use quiet_laws::{none_told_is_quiet, quiet_modules_are_rewritten, runtime_is_valid};

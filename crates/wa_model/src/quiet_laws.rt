@@ -1,4 +1,4 @@
-ghost use Rattle.wa_model.specs.Quiet.{QuietAreRewritten, QuietBehave, RuntimeIsValid};
+ghost use Rattle.wa_model.specs.Quiet.{NoneTold, QuietAreRewritten, QuietBehave, RuntimeIsValid};
 
 /// A valid module without a reserved name is valid with the runtime's parts behind its own.
 pub fn runtime_is_valid()
@@ -10,4 +10,9 @@ pub fn runtime_is_valid()
 pub fn quiet_modules_are_rewritten()
     ensures behave { QuietBehave }
     ensures rewritten { QuietAreRewritten }
+{}
+
+/// Nothing of a module may pause where no function is told as one that may.
+pub fn none_told_is_quiet()
+    ensures { NoneTold }
 {}
