@@ -4,12 +4,17 @@ pub mod Codes
 pub mod Cursors
 pub mod EntryParts
 pub mod Fronts
+pub mod FuncParts
 pub mod Functions
 pub mod Merged
+pub mod ModuleSums
 pub mod Modules
 pub mod Numbers
 pub mod PlainNames
 pub mod PlainParts
+pub mod Reading
+pub mod SectionArms
+pub mod SectionParts
 pub mod Sections
 pub mod Steps
 pub mod Vectors
