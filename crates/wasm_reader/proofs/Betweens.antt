@@ -8,7 +8,7 @@ use Rattle.wasm_reader.specs.declared.front.NotSpelled.{NotSpelled}
 use Rattle.wasm_reader.specs.declared.build.BuildFault.{BuildFault}
 use Rattle.wasm_reader.specs.declared.build.BuildFault.TheVariants.{Memory}
 use Rattle.wasm_reader.specs.Places.{Place, behind, ReadsNumber}
-use Rattle.wasm_reader.specs.Builds.{Between, SpelledAs, Gives, Builds}
+use Rattle.wasm_reader.specs.Builds.{Between, SpelledAs, SpelledBehind, Gives, Builds}
 
 -- two parts, and the place between them
 pub record Parts (P Q : ℕ → List ℕ → Type 0) (from to : Place) : Type 0 where
@@ -109,7 +109,7 @@ map_length : {A X : Type 0} (view : A → X) (s : List A) → length (map view s
 map_length view [] = refl
 map_length view (x ∷ s) = ap suc (map_length view s)
 
-map_append : {A X : Type 0} (view : A → X) (s t : List A) → map view (s ++ t) ≡ map view s ++ map view t
+pub map_append : {A X : Type 0} (view : A → X) (s t : List A) → map view (s ++ t) ≡ map view s ++ map view t
 map_append view [] t = refl
 map_append view (x ∷ s) t = ap (λ z. view x ∷ z) (map_append view s t)
 
@@ -203,3 +203,51 @@ nothing_between old end b =
     let left : old.left ≡ end.left = b.left ∙ ap (λ z. z ++ end.left) b.spelled in
     let place : old.at ≡ end.at = let p = b.place in let q = ap length b.spelled in omega (arith, p, q) in
     λ i. record { at = place i; left = left i }
+
+-- These are read of the list, behind those that were there.
+pub record Gotten {A X : Type 0} (view : A → X) (Spelled : X → ℕ → List ℕ → Type 0) (count : ℕ) (old : Place) (before items : List A) (index : ℕ) (here : Place) : Type 0 where
+  pub got : List A
+  pub items_are : items ≡ before ++ got
+  pub counted : length got ≡ index
+  pub keeps : Keeps view Spelled count old got here
+
+pub gotten_none : {A X : Type 0} {view : A → X} {Spelled : X → ℕ → List ℕ → Type 0} {count : ℕ} {old new : Place} (before : List A) → ReadsNumber (IsUnsigned 32) (Ok count) old new → Gotten view Spelled count old before before 0 new
+gotten_none before r = record { got = []; items_are = sym (append-nil before); counted = refl; keeps = keeps_none _ _ _ _ _ _ r refl }
+
+pub gotten_more : {A X : Type 0} {view : A → X} {Spelled : X → ℕ → List ℕ → Type 0} {count : ℕ} {old here new : Place} {before items more : List A} {index : ℕ} {a : A} → Gotten view Spelled count old before items index here → index < count → Builds view Spelled (Ok a) here new → more ≡ items ++ a ∷ [] → Gotten view Spelled count old before more (index + 1) new
+gotten_more {before = before} {items = items} {a = a} g some r e = record {
+  got = g.got ++ a ∷ [];
+  items_are = e ∙ ap (λ s. s ++ a ∷ []) g.items_are ∙ append_assoc before g.got (a ∷ []);
+  counted = let c = g.counted in omega (arith, length-append g.got (a ∷ []), c);
+  keeps = keeps_more _ _ _ _ _ _ _ _ _ g.keeps (let c = g.counted in omega (arith, c, some)) r refl;
+}
+
+pub gotten_stop : {A X : Type 0} {view : A → X} {Spelled : X → ℕ → List ℕ → Type 0} {count : ℕ} {old here new : Place} {before items : List A} {index : ℕ} {d y : BuildFault} {q : Result (Unit {0}) BuildFault} (after : List A) → Gotten view Spelled count old before items index here → index < count → q ≡ Err y → y ≡ d → Builds view Spelled (Err d) here new → Builds (λ (u : Unit {0}). map view after) (SpelledBehind Spelled (map view before)) q old new
+gotten_stop {view = view} after g some e f r = record {
+  built = λ ys end b.
+      let h = b.spelled in
+      fails (λ (u : Unit {0}). map view after) _ ys _ end _ _ e f
+      (keeps_stop _ _ _ _ _ _ _ _ g.keeps (let c = g.counted in omega (arith, c, some)) r h.0 end (record { front = b.front; spelled = h.2; left = b.left; place = b.place }));
+}
+
+pub gotten_all : {A X : Type 0} {view : A → X} {Spelled : X → ℕ → List ℕ → Type 0} {count : ℕ} {old here : Place} {before items : List A} {index : ℕ} → Gotten view Spelled count old before items index here → index ≡ count → Builds (λ (u : Unit {0}). map view items) (SpelledBehind Spelled (map view before)) (Ok tt) old here
+gotten_all {view = view} {before = before} {items = items} g all = record {
+  built = λ ys end b.
+      let h = b.spelled in
+      let k = keeps_all _ _ _ _ _ _ g.keeps (g.counted ∙ all) h.0 end (record { front = b.front; spelled = h.2; left = b.left; place = b.place }) in
+      (ap (map view) g.items_are ∙ map_append view before g.got ∙ ap (λ s. map view before ++ s) k.0 ∙ sym h.1, k.1);
+}
+
+-- a vector alone is one behind nothing
+pub from_nothing : {A X B : Type 0} {Spelled : X → ℕ → List ℕ → Type 0} {old new : Place} {u : Unit {0}} (view : A → X) (v : List A) (none : List A) (whole : B → List X) (c : B) → none ≡ [] → whole c ≡ map view v → Builds (λ (u : Unit {0}). map view v) (SpelledBehind Spelled (map view none)) (Ok u) old new → Builds whole (λ xs. Vector Spelled xs) (Ok c) old new
+from_nothing view v none whole c e f r = record {
+  built = λ xs end b.
+      let g = r.built xs end (record { front = b.front; spelled = (xs, sym (ap (λ z. map view z ++ xs) e), b.spelled); left = b.left; place = b.place }) in
+      (f ∙ g.0, g.1);
+}
+
+pub from_nothing_stop : {A X B : Type 0} {Spelled : X → ℕ → List ℕ → Type 0} {old new : Place} {d y : BuildFault} {q : Result B BuildFault} (view : A → X) (v : List A) (none : List A) (whole : B → List X) → none ≡ [] → q ≡ Err y → y ≡ d → Builds (λ (u : Unit {0}). map view v) (SpelledBehind Spelled (map view none)) (Err d) old new → Builds whole (λ xs. Vector Spelled xs) q old new
+from_nothing_stop view v none whole e f g r = record {
+  built = λ xs end b. fails whole _ xs _ end _ _ f g
+      (r.built xs end (record { front = b.front; spelled = (xs, sym (ap (λ z. map view z ++ xs) e), b.spelled); left = b.left; place = b.place }));
+}

@@ -1,5 +1,5 @@
 -- The parts of entries.
-use Rattle.std.proofs.Common.{◌≡◌, ℕ, ◌+◌, List, [], ◌∷◌, ap, sym, subst, arith, length, Option, Some, None, Bool, false}
+use Rattle.std.proofs.Common.{◌≡◌, ℕ, ◌+◌, List, [], ◌∷◌, ap, sym, subst, arith, append-nil, length, Option, Some, None, Bool, false, ◌∙◌, refl}
 use Rattle.wa_types.specs.declared.syntax.Run.{Run}
 use Rattle.wa_types.specs.declared.syntax.Limits.{Limits}
 use Rattle.wa_types.specs.declared.syntax.Import.{Import}
@@ -7,12 +7,14 @@ use Rattle.wa_types.specs.declared.syntax.ImportKind.{ImportKind}
 use Rattle.wa_types.specs.declared.syntax.ImportKind.TheVariants.{Func as a_func_import, Table as a_table_import, Memory as a_memory_import, Global as a_global_import}
 use Rattle.wa_types.specs.declared.values.ValType.TheVariants.{I32}
 use Rattle.wa_types.specs.declared.values.ValType.{ValType}
-use Rattle.wa_types.specs.Syntax.{FuncType}
+use Rattle.wa_types.specs.Syntax.{FuncType, GlobalDef, Elem, Segment}
 use Rattle.wa_types.specs.Encoding.{mutable_byte}
 use Rattle.wa_types.specs.Binary.{RawKind, raw_func, raw_table, raw_memory, raw_global}
-use Rattle.wa_types.specs.Spells.{◌▸◌, Exactly, Number, Text, Vector, ValueType, FunctionType, LimitsOf, TableType, ImportKindOf, ImportOf, RunOf}
-use Rattle.wa_types.specs.Reading.{IsValueType, IsFuncType, IsKind, IsImport, IsRun}
+use Rattle.wa_types.specs.Spells.{◌▸◌, Exactly, Number, Text, Vector, ValueType, FunctionType, LimitsOf, TableType, ImportKindOf, ImportOf, RunOf, GlobalOf, ElementOf, SegmentOf, GlobalType}
+use Rattle.wa_types.specs.Reading.{IsGlobal, IsElem, IsSegment, IsValueType, IsFuncType, IsKind, IsImport, IsRun}
 use Rattle.wasm_reader.specs.Builds.{SpelledAs, SpelledGlobalType}
+use Rattle.wasm_reader.specs.BuildsCode.{SpelledExpression}
+use Rattle.wasm_reader.specs.BuildsSections.{PlainBody, SpelledBody}
 use Rattle.wasm_reader.proofs.Betweens.{as_vector}
 
 abbrev pub SpelledTypes : List ValType → ℕ → List ℕ → Type 0
@@ -154,3 +156,55 @@ global_is v (a_func_import sort) e f = absurd (omega (arith, e))
 global_is v (a_table_import l) e f = absurd (omega (arith, e))
 global_is v (a_memory_import l) e f = absurd (omega (arith, e))
 global_is v (a_global_import t mutable) e f = ap (λ z. a_global_import z.0 z.1) f
+
+-- a defined global
+abbrev pub GlobalParts : GlobalDef → ℕ → List ℕ → Type 0
+GlobalParts g = SpelledGlobalType (g.ty, g.mutable) ▸ SpelledExpression g.init
+
+pub global_def_parts : (g : GlobalDef) (at : ℕ) (bytes : List ℕ) → SpelledAs GlobalOf IsGlobal g at bytes → GlobalParts g at bytes
+global_def_parts g at bytes (raw, is, h) = (
+  h.0,
+  h.1,
+  h.2,
+  (raw.ty, is.ty, subst (λ m. GlobalType raw.ty m at h.0) (sym is.mutable) h.3),
+  (raw.init, is.init, h.4),
+)
+
+-- an element segment
+abbrev pub ElementParts : Elem → ℕ → List ℕ → Type 0
+ElementParts e = Number e.table ▸ (SpelledExpression e.offset ▸ Vector Number e.funcs)
+
+pub element_parts : (e : Elem) (at : ℕ) (bytes : List ℕ) → SpelledAs ElementOf IsElem e at bytes → ElementParts e at bytes
+element_parts e at bytes (raw, is, h) =
+    let k = h.4 in
+    (h.0, h.1, h.2, subst (λ n. Number n at h.0) (sym is.table) h.3, (k.0, k.1, k.2, (raw.offset, is.offset, k.3), subst (λ xs. Vector Number xs (at + length h.0 + length k.0) k.1) (sym is.funcs) k.4))
+
+-- a data segment
+abbrev pub SegmentParts : Segment → ℕ → List ℕ → Type 0
+SegmentParts s = Number s.memory ▸ (SpelledExpression s.offset ▸ (Number (length s.bytes) ▸ (Exactly s.bytes ▸ Exactly [])))
+
+pub segment_parts : (s : Segment) (at : ℕ) (bytes : List ℕ) → SpelledAs SegmentOf IsSegment s at bytes → SegmentParts s at bytes
+segment_parts s at bytes (raw, is, h) =
+    let k = h.4 in
+    let l = k.4 in (
+      h.0,
+      h.1,
+      h.2,
+      subst (λ n. Number n at h.0) (sym is.memory) h.3,
+      (
+        k.0,
+        k.1,
+        k.2,
+        (raw.offset, is.offset, k.3),
+        (l.0, l.1, l.2, subst (λ xs. Number (length xs) (at + length h.0 + length k.0) l.0) (sym is.bytes) l.3, (l.1, [], sym (append-nil l.1), l.4 ∙ sym is.bytes, refl)),
+      ),
+    )
+
+-- an entry of the code section, behind its size
+abbrev pub BodyParts : PlainBody → ℕ → List ℕ → Type 0
+BodyParts b = Vector (SpelledAs RunOf IsRun) b.locals ▸ SpelledExpression b.code
+
+pub body_sized : (b : PlainBody) (at : ℕ) (bytes : List ℕ) → SpelledBody b at bytes → (size : ℕ) × (Number size ▸ BodyParts b) at bytes
+body_sized b at bytes (raw, is, h) =
+    let k = h.4.1 in
+    (raw.size, (h.0, h.1, h.2, h.3, (k.0, k.1, k.2, as_vector RunOf IsRun raw.locals b.locals _ _ is.locals k.3, (raw.code, is.code, k.4))))

@@ -1,6 +1,7 @@
 -- Reading part by part: what is spelled from where the code is, for whatever is spelled from where it began.
-use Rattle.std.proofs.Common.{◌≡◌, ℕ, ◌+◌, List, [], ◌∷◌, ◌++◌, Result, Ok, Err, length}
-use Rattle.wa_types.specs.Spells.{◌▸◌, Exactly}
+use Rattle.std.proofs.Common.{◌≡◌, ℕ, ◌+◌, ◌<◌, List, [], ◌∷◌, ◌++◌, Result, Ok, Err, length, ap, arith, length-append}
+use Rattle.wa_types.specs.Leb.{IsUnsigned}
+use Rattle.wa_types.specs.Spells.{◌▸◌, Exactly, Number}
 use Rattle.wasm_reader.specs.declared.front.NotSpelled.{NotSpelled}
 use Rattle.wasm_reader.specs.declared.build.BuildFault.{BuildFault}
 use Rattle.wasm_reader.specs.Places.{Place, ReadsNumber}
@@ -86,7 +87,7 @@ step_passed {First = First} Rest r s = record {
   known = s.known;
 }
 
-not_ok : (e : NotSpelled) (a : Unit {0}) → Err e ≡ Ok a → ⊥
+pub not_ok : (e : NotSpelled) (a : Unit {0}) → Err e ≡ Ok a → ⊥
 not_ok e a f = cc
 
 pub stop_passed : {X B : Type 0} {Spelled : X → ℕ → List ℕ → Type 0} {Known : X → Type 0} {First : ℕ → List ℕ → Type 0} {whole : B → X} {old here new last : Place} {d : NotSpelled} {q : Result B BuildFault} (Rest : X → ℕ → List ℕ → Type 0) → Passes First (Err d) here new → At Spelled old (λ x. First ▸ Rest x) Known here → Builds whole Spelled q old last
@@ -125,3 +126,21 @@ step_taken part Rest e f g h s = record {
 -- the end is reached
 pub finish : {X B : Type 0} {Spelled : X → ℕ → List ℕ → Type 0} {Known : X → Type 0} {old here : Place} (whole : B → X) (c : B) → ((x : X) → Known x → whole c ≡ x) → At Spelled old (λ x. Exactly []) Known here → Builds whole Spelled (Ok c) old here
 finish whole c f s = record { built = λ x end b. (f x (s.known x end b), nothing_between _ end (s.ahead x end b)) }
+
+-- a number is passed over, whatever it is
+pub step_size : {X : Type 0} {Spelled : X → ℕ → List ℕ → Type 0} {old new : Place} {n : ℕ} (Rest : X → ℕ → List ℕ → Type 0) → ReadsNumber (IsUnsigned 32) (Ok n) old new → ((x : X) (at : ℕ) (bytes : List ℕ) → Spelled x at bytes → (size : ℕ) × (Number size ▸ Rest x) at bytes) → At Spelled old Rest (λ x. Unit {0}) new
+step_size Rest r f = record {
+  ahead = λ x end b.
+      let h = f x _ b.front b.spelled in
+      let k = parts (Number h.0) (Rest x) _ end (record { front = b.front; spelled = h.1; left = b.left; place = b.place }) in
+      behind_first _ _ _ end _ k (number_is (IsUnsigned 32) _ _ _ k.middle h.0 r k.first).1;
+  known = λ x end b. tt;
+}
+
+pub stop_taken : {X B : Type 0} {Spelled : X → ℕ → List ℕ → Type 0} {Known : X → Type 0} {whole : B → X} {old here last : Place} {count : ℕ} {q : Result B BuildFault} (part : X → List ℕ) (Rest : X → ℕ → List ℕ → Type 0) → length here.left < count → ((x : X) → Known x → count ≡ length (part x)) → At Spelled old (λ x. Exactly (part x) ▸ Rest x) Known here → Builds whole Spelled q old last
+stop_taken part Rest few h s = never (λ x end b.
+    let k = split (λ x. Exactly (part x)) Rest s x end b in
+    let n = h x (s.known x end b) in
+    let l = ap length k.first.left in
+    let m = ap length k.first.spelled in
+    omega (arith, few, n, l, m, length-append k.first.front k.middle.left))

@@ -3,7 +3,7 @@ use Rattle.std.specs.Prelude.{◌≡◌, ℕ, ◌+◌, List, ◌++◌, length, R
 use Rattle.wa_types.specs.declared.values.ValType.{ValType}
 use Rattle.wa_types.specs.Binary.{Placed}
 use Rattle.wa_types.specs.Encoding.{block_type_byte}
-use Rattle.wa_types.specs.Spells.{GlobalType}
+use Rattle.wa_types.specs.Spells.{Vector, GlobalType}
 use Rattle.wa_types.specs.Reading.{IsValueType}
 use Rattle.wasm_reader.specs.Places.{Place}
 use Rattle.wasm_reader.specs.declared.front.NotSpelled.{NotSpelled}
@@ -40,3 +40,7 @@ IsResult raw r = raw.byte ≡ block_type_byte r
 -- a type and whether it is mutable
 abbrev pub SpelledGlobalType : ValType × Bool → ℕ → List ℕ → Type 0
 SpelledGlobalType g = SpelledAs (λ raw. GlobalType raw g.1) IsValueType g.0
+
+-- a vector of what stands behind these
+abbrev pub SpelledBehind : {X : Type 0} → (X → ℕ → List ℕ → Type 0) → (before : List X) → List X → ℕ → List ℕ → Type 0
+SpelledBehind item before all at bytes = (xs : List _) × (all ≡ before ++ xs) × Vector item xs at bytes

@@ -1,6 +1,8 @@
 pub mod Answers
 pub mod Builds
 pub mod BuildsCode
+pub mod BuildsModule
+pub mod BuildsSections
 pub mod Ends
 pub mod Found
 pub mod Goals

@@ -1,13 +1,25 @@
 //! Builds a module from bytes that are known to spell one.
 
 mod code;
+mod entries;
 mod entry;
 mod plain;
+mod sections;
 mod types;
 
-use crate::front::NotSpelled;
-use std::alloc::{AllocError, AllocFailed};
+ghost use Rattle.std.specs.Prelude.{◌≡◌, ◌≤◌, length};
+ghost use Rattle.wa_types.specs.Encoding.{preamble};
+ghost use Rattle.wa_types.specs.Syntax.{Module as PlainModule};
+ghost use Rattle.wa_types.specs.Spells.{Exactly};
+ghost use Rattle.wa_types.specs.Reading.{SpellsModule};
+ghost use Rattle.wasm_reader.specs.Builds.{Passes};
+ghost use Rattle.wasm_reader.specs.BuildsModule.{GivesModule};
+
+use crate::front::{Cursor, NotSpelled};
+use sections::Sections;
+use std::alloc::{AllocError, AllocFailed, Global};
 use thiserror::Error;
+use wa_types::Module;
 
 /// Why nothing was built.
 #[derive(Clone, Copy, Debug, PartialEq, Eq, Error)]
@@ -50,16 +62,29 @@ impl From<NotSpelled> for BuildFault {
     }
 }
 
-// stand-in
-ghost use Rattle.std.specs.Prelude.{◌≡◌, ◌<◌, ◌^◌, length, MatchResult};
-ghost use Rattle.wa_types.specs.Reading.{SpellsModule};
-ghost use Rattle.wa_types.specs.Syntax.{Module as PlainModule};
-ghost use Rattle.wa_types.specs.View.{module_of};
-ghost use Rattle.wasm_reader.specs.declared.build.BuildFault.TheVariants.{Memory};
+/// The magic number and the version (standard, section 5.5.15).
+const PREAMBLE: [u8; 8] = *b"\0asm\x01\0\0\0";
 
-pub(crate) fn build(alloc: std::alloc::Global, bytes: &[u8]) -> Result<wa_types::Module, BuildFault>
-    requires { length bytes.now < 2 ^ 32 }
-    ensures { (m : PlainModule) → SpellsModule bytes.now m → MatchResult result (λ r. module_of r ≡ m) (λ fault. fault ≡ Memory) }
+// The preamble.
+fn magic(input: &mut Cursor<'_>) -> Result<(), NotSpelled>
+    ensures { Passes (Exactly preamble) result input.old input.new }
 {
-    Err(BuildFault::Memory)
+    if input.take(8)? != PREAMBLE.as_slice() {
+        return Err(NotSpelled);
+    }
+    Ok(())
+}
+
+/// The module that these bytes spell (standard, section 5.5.15). For bytes that spell none the answer has no meaning.
+/// Takes time linear in the bytes, and stack for each level of nesting.
+pub(crate) fn build(alloc: Global, bytes: &[u8]) -> Result<Module, BuildFault>
+    ensures { (m : PlainModule) → SpellsModule bytes.now m → GivesModule result m }
+{
+    let mut input = Cursor::new(bytes);
+    magic(&mut input)?;
+    let mut sections = Sections::new(alloc);
+    while !input.is_at_end() {
+        sections.read(alloc, &mut input)?;
+    }
+    Ok(sections.into_module())
 }

@@ -57,6 +57,13 @@ impl<'a> Cursor<'a> {
         self.at == self.bytes.len()
     }
 
+    /// The bytes that are left.
+    pub(crate) fn rest(&self) -> &'a [u8]
+        ensures { result.now ≡ self.now.left }
+    {
+        &self.bytes[self.at..]
+    }
+
     /// The next byte.
     pub(crate) fn byte(&mut self) -> Result<u8, NotSpelled>
         ensures ok { IfOk result (λ b. self.old.left ≡ b ∷ self.new.left) }

@@ -16,8 +16,8 @@ mod grammar;
 mod locals;
 mod marks;
 mod opcodes;
-mod reading;
+mod reader;
 mod scan;
 
 pub use read_fault::ReadFault;
-pub use reading::read;
+pub use reader::read;

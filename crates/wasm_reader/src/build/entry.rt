@@ -1,6 +1,6 @@
 ghost use Rattle.std.specs.Prelude.{ℕ, ◌≤◌, List, length, map};
 ghost use Rattle.wa_types.specs.Spells.{Vector};
-ghost use Rattle.wasm_reader.specs.Builds.{Builds};
+ghost use Rattle.wasm_reader.specs.Builds.{Builds, SpelledBehind};
 
 use crate::build::BuildFault;
 use crate::front::Cursor;
@@ -24,6 +24,23 @@ pub(crate) trait Entry {
         ensures left { length input.new.left ≤ length input.old.left };
 }
 
+/// Appends the entries of a vector (standard, section 5.1.3) to these. After an `Err` only some of them may be there.
+pub(crate) fn fill<E: Entry>(
+    alloc: Global,
+    input: &mut Cursor<'_>,
+    items: &mut Vec<E::Item>,
+) -> Result<(), BuildFault>
+    ensures built { Builds (λ (_ : Unit {0}). map E.view items.new.items) (SpelledBehind E.spelled (map E.view items.old.items)) result input.old input.new }
+    ensures left { length input.new.left ≤ length input.old.left }
+{
+    let count = input.number()?;
+    for _index in 0..count {
+        let item = E::read(alloc, input)?;
+        items.push(item)?;
+    }
+    Ok(())
+}
+
 /// A vector (standard, section 5.1.3).
 pub(crate) fn vector<E: Entry>(
     alloc: Global,
@@ -32,11 +49,7 @@ pub(crate) fn vector<E: Entry>(
     ensures built { Builds (λ v. map E.view v.items) (λ xs. Vector E.spelled xs) result input.old input.new }
     ensures left { length input.new.left ≤ length input.old.left }
 {
-    let count = input.number()?;
     let mut items = Vec::new(alloc);
-    for _index in 0..count {
-        let item = E::read(alloc, input)?;
-        items.push(item)?;
-    }
+    fill::<E>(alloc, input, &mut items)?;
     Ok(items)
 }

@@ -2,7 +2,7 @@ use Rattle.std.proofs.lemmas.Result.{IfOk-weaker}
 use Rattle.wa_types.specs.View.{module_of}
 use Rattle.wasm_reader.proofs.Accepting.{accepted_spelled, accepted_sizes, accepted_strictly}
 use Rattle.wasm_reader.proofs.ShortFile.{written_short}
-use Rattle.wasm_reader.proofs.reading.read.Goals as goal
+use Rattle.wasm_reader.proofs.reader.read.Goals as goal
 
 pub returns-in-Ok-clause-sizes : goal.returns-in-Ok-clause-sizes
 returns-in-Ok-clause-sizes c =

@@ -1,7 +1,7 @@
 use Rattle.std.proofs.Common.{◌≡◌, ◌≤◌, ap, sym, ◌∙◌, arith, length, inl, inr}
 use Rattle.wa_types.specs.View.{module_of}
 use Rattle.wasm_reader.proofs.Accepting.{file_of, module_in, spelled_in, Stands, stands, few_runs, few_bytes, accepted, too_many, accepted_sizes, accepted_strictly}
-use Rattle.wasm_reader.proofs.reading.read_whole.Goals as goal
+use Rattle.wasm_reader.proofs.reader.read_whole.Goals as goal
 
 pub unreachable-requires : goal.unreachable-requires
 unreachable-requires c =
