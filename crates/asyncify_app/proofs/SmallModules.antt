@@ -16,18 +16,7 @@ use Rattle.wa_types.specs.declared.syntax.Module.{Module as ModuleValue}
 use Rattle.wa_types.specs.Syntax.{basic, const, num, Code, done, Func, Module}
 use Rattle.wa_types.specs.View.{code, in_front, func_type_of, func_of, global_of, elem_of, segment_of, custom_of, module_of}
 use Rattle.wa_types.proofs.ViewLemmas.{code_step, code_empty}
-use Rattle.asyncify_app.specs.Small.{IsSmall, is_func_space, is_small_type, is_small_plain, is_small_code}
-
--- A module of types, functions and exports alone.
-pub record HasFunctionsAlone (m : ModuleValue) : Type 0 where
-  pub imports : m.imports.items ≡ []
-  pub tables : m.tables.items ≡ []
-  pub memories : m.memories.items ≡ []
-  pub globals : m.globals.items ≡ []
-  pub start : m.start ≡ None
-  pub elems : m.elems.items ≡ []
-  pub segments : m.segments.items ≡ []
-  pub customs : m.customs.items ≡ []
+use Rattle.asyncify_app.specs.Small.{IsSmall, HasFunctionsAlone, is_func_space, is_small_type, is_small_plain, is_small_code}
 
 map_none : {A B : Type 0} (f : A → B) (xs : List A) → map f xs ≡ [] → xs ≡ []
 map_none f [] e = refl

@@ -8,6 +8,7 @@ use Rattle.wa_types.specs.declared.operators.NumOp.TheVariants.{I32Add}
 use Rattle.wa_types.specs.declared.syntax.Space.{Space}
 use Rattle.wa_types.specs.declared.syntax.Space.TheVariants.{Func as a_func}
 use Rattle.wa_types.specs.declared.syntax.Export.{Export}
+use Rattle.wa_types.specs.declared.syntax.Module.{Module as ModuleValue}
 use Rattle.wa_types.specs.Syntax.{Plain, basic, const, num, local_get, call, Code, done, plain, FuncType, Func, Module}
 
 abbrev pub is_i32 : ValType → Bool
@@ -49,3 +50,14 @@ pub record IsSmall (m : Module) : Type 0 where
   pub elems : m.elems ≡ []
   pub segments : m.segments ≡ []
   pub customs : m.customs ≡ []
+
+-- A module of types, functions and exports alone.
+pub record HasFunctionsAlone (m : ModuleValue) : Type 0 where
+  pub imports : m.imports.items ≡ []
+  pub tables : m.tables.items ≡ []
+  pub memories : m.memories.items ≡ []
+  pub globals : m.globals.items ≡ []
+  pub start : m.start ≡ None
+  pub elems : m.elems.items ≡ []
+  pub segments : m.segments.items ≡ []
+  pub customs : m.customs.items ≡ []

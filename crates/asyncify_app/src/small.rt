@@ -2,8 +2,7 @@ ghost use Rattle.std.specs.Prelude.{◌≡◌, ◌↔◌, IsTrue};
 ghost use Rattle.std.specs.List.{list_all};
 ghost use Rattle.wa_types.specs.Syntax.{basic, const, done, num};
 ghost use Rattle.wa_types.specs.View.{code, func_type_of, in_front, module_of};
-ghost use Rattle.asyncify_app.specs.Small.{IsSmall, is_func_space, is_i32, is_small_code, is_small_plain, is_small_type};
-ghost use Rattle.asyncify_app.proofs.SmallModules.{HasFunctionsAlone};
+ghost use Rattle.asyncify_app.specs.Small.{HasFunctionsAlone, IsSmall, is_func_space, is_i32, is_small_code, is_small_plain, is_small_type};
 
 use wa_types::{Export, Func, FuncType, Instr, Module, NumOp, Space, ValType, Value};
 

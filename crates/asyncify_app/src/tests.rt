@@ -4,8 +4,8 @@ use super::*;
 use std::alloc::{AllocError, Global};
 use std::test::Fail;
 use vault_port::{MemSink, MemVault, NamedFile, SureSink, SureVault};
-use wa_types::{Name, copy_module};
-use wasm_reader::read_small;
+use wa_types::{Bounds, Name, copy_module};
+use wasm_reader::read;
 
 /// The preamble alone.
 const EMPTY: &[u8] = b"\0asm\x01\0\0\0";
@@ -84,7 +84,7 @@ fn refusals_print_their_line(rt: HostRuntime) -> Result<(), Fail> {
     let alloc = rt.alloc();
     let rows = [
         (&["transform", "in"][..], 2, "usage\n"),
-        (&["transform", "in", "out"][..], 14, "not yet built\n"),
+        (&["transform", "in", "out"][..], 3, "malformed at 0\n"),
         (
             &["transform", "absent", "out"][..],
             10,
@@ -104,6 +104,135 @@ fn refusals_print_their_line(rt: HostRuntime) -> Result<(), Fail> {
         assert_eq!(rt; out.bytes(), line.as_bytes());
         assert_eq!(rt; vault.file("out"), None);
     }
+    Ok(())
+}
+
+/// The status and the line of `transform in out` over this file.
+fn transformed(alloc: Global, bytes: &[u8]) -> Result<(u8, SureSink), AllocError> {
+    let words = words(alloc, &["transform", "in", "out"])?;
+    let mut vault = SureVault::new(alloc, input(alloc, bytes)?);
+    let mut out = SureSink::new(alloc);
+    let status = asyncify(alloc, &words, &mut vault, &mut out);
+    Ok((status, out))
+}
+
+#[test]
+fn sources_are_refused_for_their_cause(rt: HostRuntime) -> Result<(), Fail> {
+    let alloc = rt.alloc();
+    let rows = [
+        (&b"\0asm\x01\0\0"[..], 3, "malformed at 7\n"),
+        // a section's size of five bytes whose last has a bit too many
+        (
+            b"\0asm\x01\0\0\0\x01\x84\x80\x80\x80\x10\x01\x60\0\0",
+            3,
+            "malformed at 14\n",
+        ),
+        // `f32.const` in code that can't be reached
+        (
+            b"\0asm\x01\0\0\0\x01\x04\x01\x60\0\0\x03\x02\x01\0\x0a\x0c\x01\x0a\0\0\x43\0\0\0\0\x10\x07\x0b",
+            4,
+            "float at 24\n",
+        ),
+        // `i32.add` of nothing
+        (
+            b"\0asm\x01\0\0\0\x01\x04\x01\x60\0\0\x03\x02\x01\0\x0a\x05\x01\x03\0\x6a\x0b",
+            5,
+            "invalid rule 8 function 0 at 0\n",
+        ),
+        // a type of two results
+        (
+            b"\0asm\x01\0\0\0\x01\x06\x01\x60\0\x02\x7f\x7f",
+            5,
+            "invalid rule 16 module\n",
+        ),
+        // runs of 2^32 - 1 locals and of one
+        (
+            b"\0asm\x01\0\0\0\x01\x04\x01\x60\0\0\x03\x02\x01\0\x0a\x0c\x01\x0a\x02\xff\xff\xff\xff\x0f\x7f\x01\x7f\x0b",
+            6,
+            "limit locals 4294967296\n",
+        ),
+        // an import from the module `asyncify`
+        (
+            b"\0asm\x01\0\0\0\x01\x04\x01\x60\0\0\x02\x0e\x01\x08asyncify\x01x\0\0",
+            7,
+            "reserved asyncify.x\n",
+        ),
+        // an export under a name of the runtime
+        (
+            b"\0asm\x01\0\0\0\x05\x03\x01\0\x01\x07\x16\x01\x12asyncify_get_state\x02\0",
+            7,
+            "reserved asyncify_get_state\n",
+        ),
+        // a memory
+        (
+            b"\0asm\x01\0\0\0\x05\x03\x01\0\x01",
+            14,
+            "not yet built\n",
+        ),
+    ];
+    for (bytes, status, line) in rows {
+        let (told, out) = transformed(alloc, bytes)?;
+        assert_eq!(rt; told, status);
+        assert_eq!(rt; out.bytes(), line.as_bytes());
+    }
+    Ok(())
+}
+
+#[test]
+fn padded_numbers_are_read(rt: HostRuntime) -> Result<(), Fail> {
+    let alloc = rt.alloc();
+    let (status, out) = transformed(
+        alloc,
+        b"\0asm\x01\0\0\0\x01\x84\x80\x80\x80\0\x01\x60\0\0",
+    )?;
+    assert_eq!(rt; status, 0);
+    assert_eq!(rt; out.bytes(), b"ok functions 0 instrumented 0 bytes 274\n".as_slice());
+    Ok(())
+}
+
+/// A function of so many blocks inside one another; `head` is what stands before them.
+fn nested(alloc: Global, head: &[u8], blocks: u32) -> Result<Vec<u8>, AllocError> {
+    let mut bytes = Vec::from_slice(alloc, head)?;
+    for _index in 0..blocks {
+        bytes.extend_from_slice(b"\x02\x40")?;
+    }
+    for _index in 0..blocks {
+        bytes.push(0x0b)?;
+    }
+    bytes.push(0x0b)?;
+    Ok(bytes)
+}
+
+#[test]
+fn blocks_nest_up_to_the_bound(rt: HostRuntime) -> Result<(), Fail> {
+    let alloc = rt.alloc();
+    let most = nested(
+        alloc,
+        b"\0asm\x01\0\0\0\x01\x04\x01\x60\0\0\x03\x02\x01\0\x0a\xbd\x17\x01\xba\x17\0",
+        1_000,
+    )?;
+    let (status, out) = transformed(alloc, &most)?;
+    assert_eq!(rt; status, 14);
+    assert_eq!(rt; out.bytes(), b"not yet built\n".as_slice());
+
+    let deeper = nested(
+        alloc,
+        b"\0asm\x01\0\0\0\x01\x04\x01\x60\0\0\x03\x02\x01\0\x0a\xc0\x17\x01\xbd\x17\0",
+        1_001,
+    )?;
+    let (status, out) = transformed(alloc, &deeper)?;
+    assert_eq!(rt; status, 6);
+    assert_eq!(rt; out.bytes(), b"limit nesting at 2025\n".as_slice());
+    Ok(())
+}
+
+#[test]
+fn a_file_past_its_limit_is_refused(rt: HostRuntime) -> Result<(), Fail> {
+    let alloc = rt.alloc();
+    let bytes = vec![in alloc; 0u8; 8_388_609]?;
+    let (status, out) = transformed(alloc, &bytes)?;
+    assert_eq!(rt; status, 6);
+    assert_eq!(rt; out.bytes(), b"limit file 8388609\n".as_slice());
     Ok(())
 }
 
@@ -153,7 +282,7 @@ fn a_refusal_keeps_its_status_over_a_failing_sink(rt: HostRuntime) -> Result<(),
 #[test]
 fn a_copy_has_the_parts_of_its_module(rt: HostRuntime) -> Result<(), Fail> {
     let alloc = rt.alloc();
-    let module = read_small(alloc, ADDS)?;
+    let module = read(alloc, ADDS, &Bounds::source())?;
     let copy = copy_module(alloc, &module)?;
     assert_eq!(rt; copy.types.len(), module.types.len());
     assert_eq!(rt; copy.exports.len(), module.exports.len());
