@@ -2,6 +2,9 @@ pub mod Builds
 pub mod BuildsCode
 pub mod BuildsModule
 pub mod BuildsSections
+pub mod Found
 pub mod Places
 pub mod Reading
+pub mod Scanning
+pub mod Shapes
 pub mod Small

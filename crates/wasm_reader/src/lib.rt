@@ -7,10 +7,14 @@
 #![tactic(auto)]
 
 mod bodies;
+mod bounds;
 mod build;
 mod entries;
 mod front;
 mod input;
+mod marks;
+mod opcodes;
+mod scan;
 
 ghost use Rattle.std.specs.Prelude.{◌≡◌, ◌<◌, ◌^◌, ◌++◌, List, ℕ, length, IfOk, MatchResult};
 ghost use Rattle.wa_types.specs.Encoding.{Enc, preamble};
