@@ -1,5 +1,5 @@
 -- What follows an opcode is read.
-use Rattle.std.proofs.Common.{◌≡◌, ℕ, List, [], ◌∷◌, map, Option, Some, None, Result, Ok, refl, ap, sym, ◌∙◌, subst, arith, append-nil, option_map}
+use Rattle.std.proofs.Common.{◌≡◌, ℕ, List, [], ◌∷◌, map, Option, Some, None, Result, Ok, refl, ap, sym, ◌∙◌, subst, arith, append-nil}
 use Rattle.std.specs.declared.vec.Vec.{Vec}
 use Rattle.std.specs.declared.alloc.Global.{Global}
 use Rattle.wa_types.specs.declared.instrs.Instr.{Instr}
@@ -13,15 +13,19 @@ use Rattle.wa_types.specs.Syntax.{nop, drop, select, const, num, global_get, glo
 use Rattle.wa_types.specs.View.{in_front}
 use Rattle.wa_types.specs.Reading.{plain_operands}
 use Rattle.wasm_reader.specs.declared.build.BuildFault.{BuildFault}
-use Rattle.wasm_reader.specs.declared.build.plain.Operand.{Operand}
+use Rattle.wasm_reader.specs.declared.opcodes.Shape.{Shape}
+use Rattle.wasm_reader.specs.Shapes.{shape_of, follows_of}
 use Rattle.wasm_reader.specs.Places.{Place, ReadsNumber}
 use Rattle.wasm_reader.specs.Builds.{Between, Builds, Passes}
-use Rattle.wasm_reader.specs.BuildsCode.{IsOfOpcode, SpelledPlain, alone, IsNamed, NamesPlain, FoundIn, follows_of}
+use Rattle.wasm_reader.specs.BuildsCode.{IsOfOpcode, SpelledPlain, alone, IsNamed, NamesPlain, FoundIn}
 use Rattle.wasm_reader.proofs.Betweens.{map_same, nothing_between, number_is}
 use Rattle.wasm_reader.proofs.Steps.{At, turn, step, step_number, step_passed, last, never}
 
-pub table_says : (op : ℕ) (r : Option Operand) (k j : Operand) → option_map follows_of r ≡ follows op → r ≡ Some j → j ≡ k → follows op ≡ Some (follows_of k)
-table_says op r k j e f g = sym e ∙ ap (option_map follows_of) (f ∙ ap (λ z. Some z) g)
+pub table_says : (op : ℕ) (r : Option Shape) (k j : Shape) → follows_of r ≡ follows op → r ≡ Some j → j ≡ k → follows op ≡ Some (shape_of k)
+table_says op r k j e f g = sym e ∙ ap follows_of (f ∙ ap (λ z. Some z) g)
+
+pub table_is_silent : (op : ℕ) (r : Option Shape) → follows_of r ≡ follows op → r ≡ None → follows op ≡ None
+table_is_silent op r e f = sym e ∙ ap follows_of f
 
 -- what follows the opcode of an instruction that stands first
 abbrev pub operands_in : Code → Operands

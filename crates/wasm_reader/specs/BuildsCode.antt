@@ -7,7 +7,7 @@ use Rattle.wa_types.specs.declared.instrs.Instr.{Instr}
 use Rattle.wa_types.specs.Syntax.{Plain, Code, done, plain}
 use Rattle.wa_types.specs.View.{in_front, code}
 use Rattle.wa_types.specs.Binary.{Operands}
-use Rattle.wa_types.specs.Opcodes.{Follows, follows, shape, no_operand, a_zero, an_index, an_index_and_zero, an_access, some_labels, a_constant, a_float}
+use Rattle.wa_types.specs.Opcodes.{follows, shape}
 use Rattle.wa_types.specs.Spells.{◌▸◌, BlockType, OperandsOf, CodeOf}
 use Rattle.wa_types.specs.Reading.{plain_opcode, plain_operands, HasKind, IsCode}
 use Rattle.wasm_reader.specs.declared.build.BuildFault.{BuildFault}
@@ -16,8 +16,6 @@ use Rattle.wasm_reader.specs.declared.build.code.Next.{Next}
 use Rattle.wasm_reader.specs.declared.build.code.Next.TheVariants.{Instr as an_instr, End as an_end, Else as an_else}
 use Rattle.wasm_reader.specs.declared.build.code.Mark.{Mark}
 use Rattle.wasm_reader.specs.declared.build.code.Mark.TheVariants.{End, Else}
-use Rattle.wasm_reader.specs.declared.build.plain.Operand.{Operand}
-use Rattle.wasm_reader.specs.declared.build.plain.Operand.TheVariants.{Nothing, Zero, Index, IndexAndZero, Access, Labels, Const32, Const64, Float}
 use Rattle.wasm_reader.specs.Places.{Place}
 use Rattle.wasm_reader.specs.Builds.{Between, SpelledAs, IsResult}
 
@@ -81,18 +79,6 @@ SpelledPlain op c at bytes = (p : Plain) × (c ≡ plain p done) × IsOfOpcode o
 -- the instruction alone
 abbrev pub alone : Instr → Code
 alone i = in_front i done
-
--- what the table of opcodes calls this
-abbrev pub follows_of : Operand → Follows
-follows_of Nothing = no_operand
-follows_of Zero = a_zero
-follows_of Index = an_index
-follows_of IndexAndZero = an_index_and_zero
-follows_of Access = an_access
-follows_of Labels = some_labels
-follows_of Const32 = a_constant 32
-follows_of Const64 = a_constant 64
-follows_of (Float n) = a_float n
 
 abbrev pub IsNamed : Option Instr → Plain → Type 0
 IsNamed (Some i) p = alone i ≡ plain p done

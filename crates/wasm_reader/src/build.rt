@@ -88,3 +88,6 @@ pub(crate) fn build(alloc: Global, bytes: &[u8]) -> Result<Module, BuildFault>
     }
     Ok(sections.into_module())
 }
+
+#[cfg(test)]
+mod tests;

@@ -1,55 +1,17 @@
-ghost use Rattle.std.specs.Prelude.{◌≡◌, ◌≤◌, length, option_map, Some};
+ghost use Rattle.std.specs.Prelude.{◌≡◌, ◌≤◌, length, Some};
 ghost use Rattle.wa_types.specs.Binary.{nothing, zero_byte, index, access};
 ghost use Rattle.wa_types.specs.Operators.{opcode_of};
-ghost use Rattle.wa_types.specs.Opcodes.{follows};
 ghost use Rattle.wa_types.specs.declared.operators.NumOp.{NumOp};
 ghost use Rattle.wasm_reader.specs.Builds.{Builds};
-ghost use Rattle.wasm_reader.specs.BuildsCode.{SpelledPlain, alone, NamesPlain, FoundIn, follows_of};
+ghost use Rattle.wasm_reader.specs.BuildsCode.{SpelledPlain, alone, NamesPlain, FoundIn};
 
 use crate::build::BuildFault;
 use crate::build::entry::{Entry, vector};
 use crate::build::types::{IndexEntry, tag};
 use crate::front::Cursor;
+use crate::opcodes::{Shape, operand_shape};
 use std::alloc::Global;
 use wa_types::{Instr, NumOp, Value};
-
-/// What follows an opcode that is no construct's and no end (standard, sections 5.4.1 to 5.4.5).
-#[derive(Clone, Copy, Debug, PartialEq, Eq)]
-pub(crate) enum Operand {
-    Nothing,
-    Zero,
-    Index,
-    IndexAndZero,
-    Access,
-    Labels,
-    Const32,
-    Const64,
-    Float(u8),
-}
-
-// The table of opcodes.
-fn operand_of(op: u8) -> Option<Operand>
-    ensures { option_map follows_of result ≡ follows op }
-{
-    match op {
-        0x00..=0x01 => Some(Operand::Nothing),
-        0x0C..=0x0D => Some(Operand::Index),
-        0x0E => Some(Operand::Labels),
-        0x0F => Some(Operand::Nothing),
-        0x10 => Some(Operand::Index),
-        0x11 => Some(Operand::IndexAndZero),
-        0x1A..=0x1B => Some(Operand::Nothing),
-        0x20..=0x24 => Some(Operand::Index),
-        0x28..=0x3E => Some(Operand::Access),
-        0x3F..=0x40 => Some(Operand::Zero),
-        0x41 => Some(Operand::Const32),
-        0x42 => Some(Operand::Const64),
-        0x43 => Some(Operand::Float(4)),
-        0x44 => Some(Operand::Float(8)),
-        0x45..=0xBF => Some(Operand::Nothing),
-        _ => None,
-    }
-}
 
 // The operators of the opcodes from 45 on, and of those from 67 on (standard, section 5.4.5).
 const COMPARISONS: [NumOp; 22] = [
@@ -190,34 +152,35 @@ pub(crate) fn plain(alloc: Global, input: &mut Cursor<'_>, op: u8) -> Result<Ins
     ensures built { Builds alone (SpelledPlain op) result input.old input.new }
     ensures left { length input.new.left ≤ length input.old.left }
 {
-    match operand_of(op) {
-        Some(Operand::Nothing) => found(simple(op)),
-        Some(Operand::Zero) => {
+    match operand_shape(op) {
+        Some(Shape::Nothing) => found(simple(op)),
+        Some(Shape::ZeroByte) => {
             tag(input, 0x00)?;
             Ok(of_memory(op))
         }
-        Some(Operand::Index) => {
+        Some(Shape::Index) => {
             let x = input.number()?;
             found(indexed(op, x))
         }
-        Some(Operand::IndexAndZero) => {
+        Some(Shape::IndexAndZero) => {
             let x = input.number()?;
             tag(input, 0x00)?;
             Ok(Instr::CallIndirect(x))
         }
-        Some(Operand::Access) => {
+        Some(Shape::Access) => {
             let align = input.number()?;
             let offset = input.number()?;
             found(accessed(op, align, offset))
         }
-        Some(Operand::Labels) => {
+        Some(Shape::Labels) => {
             let labels = vector::<IndexEntry>(alloc, input)?;
             let last = input.number()?;
             Ok(Instr::BrTable { labels, last })
         }
-        Some(Operand::Const32) => Ok(Instr::Const(Value::I32(input.signed_32()?))),
-        Some(Operand::Const64) => Ok(Instr::Const(Value::I64(input.signed_64()?))),
-        Some(Operand::Float(_)) => Err(BuildFault::NotSpelled),
+        Some(Shape::Constant32) => Ok(Instr::Const(Value::I32(input.signed_32()?))),
+        Some(Shape::Constant64) => Ok(Instr::Const(Value::I64(input.signed_64()?))),
+        Some(Shape::Float4) => Err(BuildFault::NotSpelled),
+        Some(Shape::Float8) => Err(BuildFault::NotSpelled),
         None => Err(BuildFault::NotSpelled),
     }
 }
