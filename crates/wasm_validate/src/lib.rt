@@ -15,3 +15,6 @@ mod walk;
 
 pub use valid::{Valid, ValidateFault, validate};
 pub use walk::Typing;
+
+#[cfg(test)]
+mod tests;
