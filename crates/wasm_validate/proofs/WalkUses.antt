@@ -13,7 +13,18 @@ use Rattle.wa_types.specs.Pruned.{is_last, is_last_instr}
 use Rattle.wa_types.specs.Typing.{GlobalType, Around, Sig, moves, leaves, drops, selects, lacks, late, listed, sig, basic_sig, may_jump, calls, calls_at, gets, sets, tees, gets_global, sets_global, accesses, loads, stores, with_memory, Takes, label, Types}
 use Rattle.wa_types.proofs.ViewLemmas.{in_block, in_loop, in_if, code_step}
 use Rattle.wasm_validate.specs.Table.{plain_of}
-use Rattle.wasm_validate.specs.Walk.{Walk, Stays, TypedAt}
+use Rattle.wa_types.specs.Syntax.{Func, Module}
+use Rattle.std.proofs.Common.{arith, nat_lt, ◌-◌}
+use Rattle.std.specs.List.{filter_map}
+use Rattle.wa_types.specs.declared.syntax.Import.{Import}
+use Rattle.wa_types.specs.declared.syntax.Func.{Func as FuncValue}
+use Rattle.wa_types.specs.declared.syntax.Module.{Module as ModuleValue}
+use Rattle.wa_types.specs.View.{module_of, func_of}
+use Rattle.wa_types.specs.Modules.{around, defined_at, func_imports, imported_func}
+use Rattle.wasm_validate.proofs.FuncLemmas.{func_at, some_at}
+use Rattle.wa_types.specs.Validity.{Valid}
+use Rattle.wasm_tree.specs.Kinds.{is_leaf}
+use Rattle.wasm_validate.specs.Walk.{Walk, outset, Stays, Inside, TypedAt}
 use Rattle.wasm_validate.proofs.Trees.{is_block, is_loop, is_branch, is_plain, kind}
 
 -- control may come behind it
@@ -235,3 +246,52 @@ ahead w x rest h = alone w.around w.labels x rest w.own h
 -- the rest is typed where the walk stands then
 pub behind : (v w : Walk) (x : Instr) (rest : Code) → TypedAt v (in_front x rest) → Stays v w → Types v.around v.labels (in_front x done) w.own v.own → is_last_instr x ≡ false → TypedAt w rest
 behind v w x rest h s t l = stays_typed v w rest w.own s (onward v.around v.labels x rest v.own h w.own t l)
+
+pub leaf_block : (r : Option ValType) (u : Vec Instr Global) → is_leaf (Block r u) ≡ false
+unfolding is_leaf
+leaf_block r u = refl
+
+pub leaf_loop : (r : Option ValType) (u : Vec Instr Global) → is_leaf (Loop r u) ≡ false
+unfolding is_leaf
+leaf_loop r u = refl
+
+pub leaf_if : (r : Option ValType) (u t : Vec Instr Global) → is_leaf (If r u t) ≡ false
+unfolding is_leaf
+leaf_if r u t = refl
+
+-- The body of a construct, and each of its arms, is typed where the walk stands that `inside` gives.
+module _ (v w : Walk) (x : Instr) (rest : Code) (h : TypedAt v (in_front x rest)) (i : Inside v (in_front x done) w) where
+  pub block_typed : (r : Option ValType) (u : Vec Instr Global) (xs : List Instr) → x ≡ Block r u → xs ≡ u.items → TypedAt w (code xs)
+  block_typed r u xs e f =
+      let g = subst (λ (k : Code). Inside v k w) (ap (λ y. in_front y done) e ∙ in_block r u done) i in
+      subst (λ (z : Walk). TypedAt z (code xs)) (sym g) (in_a_block v.around v.labels x rest v.own h r u xs e f)
+
+  pub loop_typed : (r : Option ValType) (u : Vec Instr Global) (xs : List Instr) → x ≡ Loop r u → xs ≡ u.items → TypedAt w (code xs)
+  loop_typed r u xs e f =
+      let g = subst (λ (k : Code). Inside v k w) (ap (λ y. in_front y done) e ∙ in_loop r u done) i in
+      subst (λ (z : Walk). TypedAt z (code xs)) (sym g) (in_a_loop v.around v.labels x rest v.own h r u xs e f)
+
+  pub arms_typed : (r : Option ValType) (u t : Vec Instr Global) (xs ys : List Instr) → x ≡ If r u t → xs ≡ u.items → ys ≡ t.items → TypedAt w (code xs) × TypedAt w (code ys)
+  arms_typed r u t xs ys e f k =
+      let g = subst (λ (c : Code). Inside v c w) (ap (λ y. in_front y done) e ∙ in_if r u t done) i in
+      let both = in_an_if v.around v.labels x rest v.own h r u t xs ys e f k in
+      (subst (λ (z : Walk). TypedAt z (code xs)) (sym g) both.0, subst (λ (z : Walk). TypedAt z (code ys)) (sym g) both.1)
+
+-- the rest of a list of instructions, from one of them on
+pub step_typed : (w : Walk) (xs : List Instr) (i : ℕ) (x : Instr) → i < length xs → x ≡ get_or xs i x → TypedAt w (code (drop i xs)) → TypedAt w (in_front x (code (drop (i + 1) xs)))
+step_typed w xs i x h e t = typed_step w.around w.labels xs i x w.own h e t
+
+-- The body of a defined function of a valid module is typed where a walk begins.
+pub outset_typed : (m : Module) (i : ℕ) (f : Func) → Valid m → slice_get m.funcs i ≡ Some f → TypedAt (outset (around m f)) f.body
+outset_typed m i f h e = (listed (around m f).result, h.bodies i f e)
+
+-- the first function of a module that imports nothing
+pub zero_defined : (m : ModuleValue) (f : FuncValue) → length m.imports.items ≡ 0 → 0 < length m.funcs.items → f ≡ get_or m.funcs.items 0 f → defined_at (module_of m) 0 ≡ Some (func_of f)
+zero_defined m f none some e =
+    let n : func_imports (module_of m) ≡ 0 = no_imports m.imports.items none in
+    let h : slice_get (module_of m).funcs 0 ≡ Some (func_of f) = func_at m.funcs.items 0 f some e in
+    ap (λ k. if nat_lt 0 k then None else slice_get (module_of m).funcs (0 - k)) n ∙ h
+  where
+    no_imports : (is : List Import) → length is ≡ 0 → length (filter_map (λ (i : Import). imported_func i.kind) is) ≡ 0
+    no_imports [] h = refl
+    no_imports (i ∷ is) h = absurd (omega arith)

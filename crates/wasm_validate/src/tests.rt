@@ -1,4 +1,5 @@
 mod small;
+mod walks;
 
 use super::*;
 use small::is_small;
@@ -8,6 +9,7 @@ use wa_types::{
     Elem, Export, Func, FuncType, GlobalDef, Import, ImportKind, Instr, Limits, Module, Name,
     NumOp, Segment, Space, ValType, Value,
 };
+use walks::most_operands;
 
 fn empty(alloc: Global) -> Module {
     Module {
@@ -217,5 +219,36 @@ fn selects_by_a_branch_table(rt: HostRuntime) -> Result<(), Fail> {
         kind: ImportKind::Func(0),
     })?;
     assert_eq!(rt; refused(alloc, module), None);
+    Ok(())
+}
+
+#[test]
+fn walks_over_a_body(rt: HostRuntime) -> Result<(), Fail> {
+    let alloc = rt.alloc();
+    let inner = vec![in alloc;
+        Instr::Const(Value::I64(1)),
+        Instr::Const(Value::I64(2)),
+        Instr::Num(NumOp::I64LtS),
+    ]?;
+    let body = vec![in alloc;
+        Instr::LocalGet(0),
+        Instr::LocalGet(0),
+        Instr::Block {
+            result: Some(ValType::I32),
+            body: inner
+        },
+        Instr::If {
+            result: None,
+            then_arm: Vec::new(alloc),
+            else_arm: vec![in alloc; Instr::Unreachable]?
+        },
+        Instr::Num(NumOp::I32Add),
+        Instr::Return,
+        Instr::Drop,
+    ]?;
+    let module = one_func(alloc, &[ValType::I32], &[ValType::I32], body)?;
+    assert!(rt; is_small(&module));
+    let valid = validate(alloc, module)?;
+    assert_eq!(rt; most_operands(alloc, &valid)?, 4);
     Ok(())
 }
