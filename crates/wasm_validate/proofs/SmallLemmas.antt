@@ -2,8 +2,7 @@
 use Rattle.std.proofs.Common.{arith, ◌≡◌, ℕ, zero, suc, ◌+◌, ◌*◌, ◌<◌, ◌≤◌, ◌^◌, List, [], ◌∷◌, All, length, drop, get_or, map, Option, Some, None, refl, ap, sym, ◌∙◌, subst}
 use Rattle.std.specs.List.{sum_by}
 use Rattle.std.specs.Option.{IfSome}
-use Rattle.std.proofs.lemmas.List.{length-map, get_or-map}
-use Rattle.std.proofs.lemmas.List.Elements.{All-get_or}
+use Rattle.std.proofs.lemmas.List.{length-map}
 use Rattle.std.specs.declared.vec.Vec.{Vec}
 use Rattle.std.specs.declared.alloc.Global.{Global}
 use Rattle.wa_types.specs.declared.values.ValType.{ValType}
@@ -11,8 +10,8 @@ use Rattle.wa_types.specs.declared.syntax.Run.{Run}
 use Rattle.wa_types.specs.declared.syntax.Import.{Import}
 use Rattle.wa_types.specs.declared.instrs.Instr.{Instr}
 use Rattle.wa_types.specs.declared.instrs.Instr.TheVariants.{Unreachable, Nop, Drop, Select, Return, MemorySize, MemoryGrow, Const, Num, Br, BrIf, BrTable, Call, CallIndirect, LocalGet, LocalSet, LocalTee, GlobalGet, GlobalSet, Load, Store, Block, Loop, If, Block', Loop', If'}
-use Rattle.wa_types.specs.Syntax.{Basic, Plain, basic, local_get, local_set, local_tee, br, br_if, br_table, return, unreachable, call, call_indirect, Code, done, plain, nest, branch, FuncType, Func, GlobalDef, Elem, Segment, Module}
-use Rattle.wa_types.specs.Sizes.{code_items, code_lists, code_params, call_params, label_count, else_count, plain_lists, params_of_type, params_at_index, all_sorts, imported, is_func, is_table, is_memory, is_global, TypeSizes, FuncSizes, ElemSizes, SegmentSizes, MeetsSizes, SizeRule}
+use Rattle.wa_types.specs.Syntax.{Plain, basic, local_get, local_set, local_tee, br, br_if, br_table, return, unreachable, call, call_indirect, Code, done, plain, nest, branch, FuncType, Func, Module}
+use Rattle.wa_types.specs.Sizes.{code_items, code_lists, code_params, call_params, else_count, params_of_type, params_at_index, all_sorts, is_func, is_table, is_memory, is_global, FuncSizes, SizeRule}
 use Rattle.std.proofs.lemmas.List.Sums.{count_by-le-length}
 use Rattle.wa_types.specs.View.{in_front, code}
 use Rattle.wa_types.proofs.ViewLemmas.{in_block, in_loop, in_if, in_br_table, code_step, code_empty}

@@ -21,7 +21,7 @@ use Rattle.wa_types.specs.declared.syntax.Func.{Func as FuncValue}
 use Rattle.wa_types.specs.declared.syntax.Module.{Module as ModuleValue}
 use Rattle.wa_types.specs.View.{module_of, func_of}
 use Rattle.wa_types.specs.Modules.{around, defined_at, func_imports, imported_func}
-use Rattle.wasm_validate.proofs.FuncLemmas.{func_at, some_at}
+use Rattle.wasm_validate.proofs.FuncLemmas.{func_at}
 use Rattle.wa_types.specs.Validity.{Valid}
 use Rattle.wasm_tree.specs.Kinds.{is_leaf}
 use Rattle.wasm_validate.specs.Walk.{Walk, outset, Stays, Inside, TypedAt}

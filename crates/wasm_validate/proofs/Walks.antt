@@ -1,5 +1,5 @@
 -- The types on a walk.
-use Rattle.std.proofs.Common.{arith, ◌≡◌, ℕ, zero, suc, ◌+◌, ◌-◌, ◌≤◌, ◌<◌, ◌++◌, length, take, drop, reverse, List, [], ◌∷◌, Option, Some, None, Bool, true, false, if◌then◌else◌, refl, ap, sym, ◌∙◌, subst, length-drop, length-append, slice_get}
+use Rattle.std.proofs.Common.{arith, ◌≡◌, ℕ, zero, suc, ◌+◌, ◌-◌, ◌≤◌, ◌++◌, length, take, drop, reverse, List, [], ◌∷◌, Option, Some, None, Bool, true, false, if◌then◌else◌, refl, ap, sym, ◌∙◌, subst, length-drop, length-append, slice_get}
 use Rattle.std.proofs.lemmas.List.{length-reverse, reverse-append, take-append-drop, drop-append-le, drop-take, drop_all, take_all, reverse-reverse}
 use Rattle.std.proofs.Math.Seq.{drop-append_seam}
 use Rattle.std.specs.declared.vec.Vec.{Vec}
@@ -10,7 +10,7 @@ use Rattle.wa_types.specs.declared.instrs.Instr.{Instr}
 use Rattle.wa_types.specs.declared.instrs.Instr.TheVariants.{Unreachable, Nop, Drop, Select, Return, MemorySize, MemoryGrow, Const, Num, Br, BrIf, BrTable, Call, CallIndirect, LocalGet, LocalSet, LocalTee, GlobalGet, GlobalSet, Load, Store, Block, Loop, If, Block', Loop', If'}
 use Rattle.wa_types.specs.Syntax.{Plain, Shape, a_block, a_loop, Code, done, plain, nest, branch}
 use Rattle.wa_types.specs.View.{in_front, code}
-use Rattle.wa_types.specs.Typing.{Around, Types, sig, listed, Sig, moves, leaves, drops, selects, lacks, late, Takes, label}
+use Rattle.wa_types.specs.Typing.{Around, Types, sig, listed, Sig, moves, leaves, drops, selects, Takes}
 use Rattle.wa_types.proofs.ViewLemmas.{in_block, in_loop, in_if}
 use Rattle.wasm_validate.specs.declared.table.Asks as D
 use Rattle.wasm_validate.specs.Stack.{sig_of, tested}

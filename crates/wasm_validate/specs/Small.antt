@@ -1,5 +1,5 @@
 -- Small modules, as the tests validate.
-use Rattle.std.specs.Prelude.{◌≡◌, ℕ, ◌≤◌, ◌^◌, List, [], All, length}
+use Rattle.std.specs.Prelude.{◌≡◌, ◌≤◌, ◌^◌, List, [], All, length}
 use Rattle.wa_types.specs.Syntax.{FuncType, Func, GlobalDef, Elem, Segment, Module}
 use Rattle.wa_types.specs.Sizes.{code_items, code_lists, ElemSizes, SegmentSizes}
 

@@ -1,8 +1,7 @@
-use Rattle.std.proofs.Common.{rules, arith, ap, ◌^◌, ◌≡◌, ◌+◌, ◌≤◌, length, drop, sym, subst, List}
+use Rattle.std.proofs.Common.{rules, arith, ap, ◌^◌, ◌≤◌, length, subst, List}
 use Rattle.wa_types.specs.declared.instrs.Instr.{Instr}
 use Rattle.wa_types.specs.Sizes.{code_items, code_lists}
-use Rattle.wa_types.specs.View.{code, in_front}
-use Rattle.wa_types.specs.Syntax.{done}
+use Rattle.wa_types.specs.View.{code}
 use Rattle.wasm_validate.proofs.SmallLemmas.{items_step, lists_step, count_block, count_loop, count_if, count_table, count_leaf, some_items, some_lists}
 use Rattle.wasm_validate.proofs.tests.small.+left.Goals as goal
 

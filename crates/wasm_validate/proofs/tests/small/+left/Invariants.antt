@@ -1,4 +1,4 @@
-use Rattle.std.proofs.Common.{◌≡◌, ◌+◌, ◌≤◌, ◌^◌, drop}
+use Rattle.std.proofs.Common.{◌+◌, ◌≤◌, ◌^◌, drop}
 use Rattle.wa_types.specs.Sizes.{code_items, code_lists}
 use Rattle.wa_types.specs.View.{code}
 use Rattle.wasm_validate.proofs.tests.small.+left.Given as goal
