@@ -1,7 +1,7 @@
 -- Functions checked one by one.
 use Rattle.std.specs.Option.{MatchOption}
-use Rattle.std.proofs.Common.{arith, zero, ◌≡◌, ℕ, suc, ◌+◌, ◌<◌, ◌≤◌, ◌^◌, List, [], ◌∷◌, ◌++◌, All, map, length, get_or, drop, slice_get, Option, Some, None, Bool, true, false, ◌&&◌, refl, ap, sym, ◌∙◌, subst, Result, Ok, Err, IsErrAnd, add-one, drop-cons, cond, count_by, nat_lt}
-use Rattle.std.specs.List.{filter_map, list_all}
+use Rattle.std.proofs.Common.{arith, zero, ◌≡◌, ℕ, suc, ◌+◌, ◌<◌, ◌≤◌, ◌^◌, List, [], ◌∷◌, map, length, get_or, drop, slice_get, Option, Some, None, refl, ap, sym, ◌∙◌, subst, Result, Ok, Err, IsErrAnd, add-one, drop-cons, cond, count_by}
+use Rattle.std.specs.List.{filter_map}
 use Rattle.std.proofs.lemmas.List.{length-map, get_or-map, drop_all}
 use Rattle.std.proofs.lemmas.List.Recursion.{is_count_by}
 use Rattle.std.proofs.lemmas.Option.{slice_get-get_or}
@@ -11,13 +11,13 @@ use Rattle.wa_types.specs.declared.syntax.ImportKind.TheVariants.{Func as a_func
 use Rattle.wa_types.specs.declared.syntax.Func.{Func as FuncValue}
 use Rattle.wa_types.specs.declared.syntax.Module.{Module as ModuleValue}
 use Rattle.wa_types.specs.Syntax.{Code, done, plain, nest, branch, Func, Module}
-use Rattle.wa_types.specs.Sizes.{SizeRule, is_func, code_items, label_count, else_count}
+use Rattle.wa_types.specs.Sizes.{SizeRule, is_func, code_items, else_count}
 use Rattle.wa_types.specs.Modules.{imported_func, func_imports, around}
 use Rattle.wa_types.specs.View.{func_of, module_of, code}
 use Rattle.wa_types.specs.FirstFault.{size, mid}
 use Rattle.wasm_validate.specs.declared.valid.ValidateFault.{ValidateFault}
 use Rattle.wasm_validate.specs.declared.valid.ValidateFault.TheVariants.{Memory, Invalid}
-use Rattle.wasm_validate.specs.Running.{Verdict, fine, fault, body_verdict, Answer, valid, invalid, func_answer, funcs_answer, outside_answer}
+use Rattle.wasm_validate.specs.Running.{Verdict, body_verdict, Answer, valid, invalid, func_answer, funcs_answer, outside_answer}
 use Rattle.wa_types.specs.Typing.{Around}
 use Rattle.wa_types.specs.Validity.{Valid, broken_outside}
 use Rattle.wasm_validate.specs.Laws.{Says}

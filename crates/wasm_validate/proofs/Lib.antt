@@ -7,6 +7,8 @@ pub mod Lists
 pub mod NameLemmas
 pub mod OutsideLemmas
 pub mod Right
+pub mod SmallLemmas
 pub mod SpaceLemmas
 pub mod Trees
+pub mod WalkUses
 pub mod Walks

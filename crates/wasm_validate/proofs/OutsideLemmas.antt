@@ -1,5 +1,5 @@
 -- Tests of lists that are put together.
-use Rattle.std.proofs.Common.{zero, suc, take, length, arith, ◌≡◌, ℕ, List, [], ◌∷◌, ◌++◌, map, Option, Some, None, Bool, true, false, ◌&&◌, refl, ap, sym, ◌∙◌, nat_lt}
+use Rattle.std.proofs.Common.{zero, suc, take, length, arith, ◌≡◌, ℕ, List, [], ◌∷◌, ◌++◌, map, Option, Some, None, Bool, true, false, ◌&&◌, refl, ap, ◌∙◌, nat_lt}
 use Rattle.std.specs.List.{filter_map, flat_map, list_all}
 use Rattle.std.proofs.lemmas.List.Folds.{list_all-append, list_all-map}
 use Rattle.std.proofs.lemmas.List.Concat.{flat_map-append}

@@ -9,7 +9,7 @@ use Rattle.wa_types.specs.declared.instrs.Instr.{Instr, roll-Instr, roll-out-Ins
 use Rattle.wa_types.specs.declared.instrs.Instr.TheVariants.{Unreachable, Nop, Drop, Select, Return, MemorySize, MemoryGrow, Const, Num, Br, BrIf, BrTable, Call, CallIndirect, LocalGet, LocalSet, LocalTee, GlobalGet, GlobalSet, Load, Store, Block, Loop, If, Block', Loop', If', rolls-Block, rolls-Loop, rolls-If, outs-Block', outs-Loop', outs-If'}
 use Rattle.wa_types.specs.Syntax.{Plain, Shape, a_block, a_loop, Code, done, plain, nest, branch}
 use Rattle.wa_types.specs.View.{in_front, onto, code}
-use Rattle.wa_types.specs.Typing.{Around, Sig, moves, sig, listed, label}
+use Rattle.wa_types.specs.Typing.{Around, sig, listed, label}
 use Rattle.wa_types.specs.FirstFault.{size, mid}
 use Rattle.wa_types.proofs.ViewLemmas.{in_block, in_loop, in_if, code_step, code_empty, code_none}
 use Rattle.wasm_validate.specs.declared.bodies.BodyFail.{BodyFail}

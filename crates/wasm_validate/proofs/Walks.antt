@@ -1,7 +1,9 @@
 -- The types on a walk.
-use Rattle.std.proofs.Common.{arith, ◌≡◌, ℕ, zero, suc, ◌+◌, ◌-◌, ◌≤◌, ◌<◌, ◌++◌, length, take, drop, reverse, List, [], ◌∷◌, Option, Some, None, Bool, true, false, if◌then◌else◌, refl, ap, sym, ◌∙◌, subst, length-drop, length-append, slice_get}
+use Rattle.std.proofs.Common.{arith, ◌≡◌, ℕ, zero, suc, ◌+◌, ◌-◌, ◌≤◌, ◌++◌, length, take, drop, reverse, List, [], ◌∷◌, Option, Some, None, Bool, true, false, if◌then◌else◌, refl, ap, sym, ◌∙◌, subst, length-drop, length-append, slice_get}
 use Rattle.std.proofs.lemmas.List.{length-reverse, reverse-append, take-append-drop, drop-append-le, drop-take, drop_all, take_all, reverse-reverse}
 use Rattle.std.proofs.Math.Seq.{drop-append_seam}
+use Rattle.std.proofs.Common.{Result, Ok, Err}
+use Rattle.std.specs.Result.{OnErr}
 use Rattle.std.specs.declared.vec.Vec.{Vec}
 use Rattle.std.specs.declared.alloc.Global.{Global}
 use Rattle.wa_types.specs.declared.values.ValType.{ValType}
@@ -10,7 +12,7 @@ use Rattle.wa_types.specs.declared.instrs.Instr.{Instr}
 use Rattle.wa_types.specs.declared.instrs.Instr.TheVariants.{Unreachable, Nop, Drop, Select, Return, MemorySize, MemoryGrow, Const, Num, Br, BrIf, BrTable, Call, CallIndirect, LocalGet, LocalSet, LocalTee, GlobalGet, GlobalSet, Load, Store, Block, Loop, If, Block', Loop', If'}
 use Rattle.wa_types.specs.Syntax.{Plain, Shape, a_block, a_loop, Code, done, plain, nest, branch}
 use Rattle.wa_types.specs.View.{in_front, code}
-use Rattle.wa_types.specs.Typing.{Around, Types, sig, listed, Sig, moves, leaves, drops, selects, lacks, late, Takes, label}
+use Rattle.wa_types.specs.Typing.{Around, Types, sig, listed, Sig, moves, leaves, drops, selects, Takes}
 use Rattle.wa_types.proofs.ViewLemmas.{in_block, in_loop, in_if}
 use Rattle.wasm_validate.specs.declared.table.Asks as D
 use Rattle.wasm_validate.specs.Stack.{sig_of, tested}
@@ -250,6 +252,9 @@ module _ (m : ModuleValue) (func : ℕ) (ls : List (Option ValType)) (ts : List 
     under = under_kept base ts ts' k ∙ ap (λ (w : Walk). w.under) e;
   }
 
+  pub same_place : (ts' : List ValType) → ts' ≡ ts → standing m func ls ts' base ≡ v
+  same_place ts' k = ap (λ z. standing m func ls z base) k ∙ e
+
   -- what is typed where the walk stands, in its fields
   pub own_is : own_at base ts ≡ v.own
   own_is = ap (λ (w : Walk). w.own) e
@@ -269,3 +274,7 @@ says_at a b ls ks x s e f h =
 pub ruleset insides = (inside_block, inside_loop)
 
 pub ruleset walking = (reverse_listed, own_nothing, walk_block, walk_loop, walk_if, room_if, can_walk, walked)
+
+pub on_err : {A E : Type 0} (res : Result A E) (P : Type 0) → P → OnErr res P
+on_err (Ok u) P h = tt
+on_err (Err f) P h = h

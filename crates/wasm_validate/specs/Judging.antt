@@ -1,8 +1,5 @@
 -- What the validator says of a body against what is computed of it.
 use Rattle.std.specs.Prelude.{◌≡◌, Result, Ok, Err}
-use Rattle.wa_types.specs.Syntax.{Code}
-use Rattle.wa_types.specs.Typing.{Around, Typed}
-use Rattle.wa_types.specs.FirstFault.{BodyFault}
 use Rattle.wasm_validate.specs.declared.bodies.BodyFail.{BodyFail}
 use Rattle.wasm_validate.specs.declared.bodies.BodyFail.TheVariants.{Memory, Invalid}
 use Rattle.wasm_validate.specs.Running.{Verdict, fault}

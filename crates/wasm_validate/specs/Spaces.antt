@@ -1,9 +1,9 @@
 -- What stands in a module under each index, as the validator keeps it.
-use Rattle.std.specs.Prelude.{◌≡◌, ℕ, ◌+◌, List, [], ◌∷◌, map, length, sum_by, Option}
+use Rattle.std.specs.Prelude.{◌≡◌, ℕ, ◌+◌, List, [], ◌∷◌, map, length, sum_by}
 use Rattle.wa_types.specs.declared.syntax.Run.{Run}
 use Rattle.wa_types.specs.Syntax.{Func, Module}
 use Rattle.wa_types.specs.Typing.{GlobalType}
-use Rattle.wa_types.specs.Modules.{imported_func, imported_global, imported, func_sorts, func_imports, all_tables, all_memories, all_globals}
+use Rattle.wa_types.specs.Modules.{imported_global, imported, func_sorts, func_imports, all_tables, all_memories, all_globals}
 use Rattle.wasm_validate.specs.declared.spaces.GlobalType.{GlobalType as GlobalValue}
 use Rattle.wasm_validate.specs.declared.spaces.Spaces.{Spaces}
 

@@ -1,6 +1,5 @@
 -- Instructions that hold no other, and what the validator's table says of them.
-use Rattle.std.specs.Prelude.{◌≡◌, ℕ, Option, Some, None}
-use Rattle.wa_types.specs.declared.values.ValType.{ValType}
+use Rattle.std.specs.Prelude.{Option, Some, None}
 use Rattle.wa_types.specs.declared.instrs.Instr.{Instr}
 use Rattle.wa_types.specs.declared.instrs.Instr.TheVariants.{Unreachable, Nop, Drop, Select, Return, MemorySize, MemoryGrow, Const, Num, Br, BrIf, BrTable, Call, CallIndirect, LocalGet, LocalSet, LocalTee, GlobalGet, GlobalSet, Load, Store}
 use Rattle.wa_types.specs.Accesses.{AccessRow}

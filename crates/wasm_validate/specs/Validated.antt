@@ -1,7 +1,6 @@
 -- What validation says of functions and of a module.
-use Rattle.std.specs.Prelude.{◌≡◌, ℕ, Option, Some, Result, Ok, Err}
+use Rattle.std.specs.Prelude.{◌≡◌, ℕ, Some, Result, Ok, Err}
 use Rattle.wa_types.specs.declared.syntax.Module.{Module as ModuleValue}
-use Rattle.wa_types.specs.Syntax.{Module}
 use Rattle.wa_types.specs.Validity.{Valid}
 use Rattle.wa_types.specs.View.{module_of}
 use Rattle.wa_types.specs.FirstFault.{FirstFault}

@@ -1,4 +1,5 @@
-ghost use Rattle.std.specs.Prelude.{◌≡◌, ◌+◌, ◌≤◌, [], ◌∷◌, ◌++◌, drop, false, length, reverse, take, Some, IfOk};
+ghost use Rattle.std.specs.Prelude.{◌≡◌, ◌+◌, ◌≤◌, [], ◌∷◌, ◌++◌, drop, false, length, reverse, take, Some, IfOk, IsOk, OnErr};
+ghost use Rattle.std.specs.Vec.{vec_capacity, vec_len};
 ghost use Rattle.wa_types.specs.Modules.{around, defined_at};
 ghost use Rattle.wa_types.specs.Syntax.{done, Func as PlainFunc};
 ghost use Rattle.wa_types.specs.Typing.{Takes, Types};
@@ -43,6 +44,8 @@ fn take_types(types: &mut Vec<ValType>, base: usize, count: usize)
     ensures deep { base ≤ length types.new.items }
     ensures own { own_at base types.new.items ≡ drop count (own_at base types.old.items) }
     ensures kept { take base types.new.items ≡ take base types.old.items }
+    ensures len { vec_len types.new ≤ vec_len types.old }
+    ensures capacity { vec_capacity types.new ≡ vec_capacity types.old }
 {
     types.truncate(types.len() - count);
 }
@@ -53,9 +56,28 @@ fn give_types(types: &mut Vec<ValType>, base: usize, given: &[ValType]) -> Resul
     ensures deep { base ≤ length types.new.items }
     ensures own { IfOk result (λ _. own_at base types.new.items ≡ reverse given.now ++ own_at base types.old.items) }
     ensures kept { take base types.new.items ≡ take base types.old.items }
+    ensures succeeds { vec_len types.old + length given.now ≤ vec_capacity types.old → IsOk result }
 {
-    types.extend_from_slice(given)?;
-    Ok(())
+    types.extend_from_slice(given)
+}
+
+/// Puts types in place of so many topmost ones. Where there is no memory, all stay.
+#[tactic(auto, using(crate::proofs::Walks::taking))]
+fn change_types(
+    types: &mut Vec<ValType>,
+    base: usize,
+    count: usize,
+    given: &[ValType],
+) -> Result<(), AllocError>
+    requires { base + count ≤ length types.old.items }
+    ensures deep { base ≤ length types.new.items }
+    ensures own { IfOk result (λ _. own_at base types.new.items ≡ reverse given.now ++ drop count (own_at base types.old.items)) }
+    ensures kept { take base types.new.items ≡ take base types.old.items }
+    ensures err { OnErr result (types.new.items ≡ types.old.items) }
+{
+    types.reserve(given.len())?;
+    take_types(types, base, count);
+    give_types(types, base, given)
 }
 
 #[tactic(auto, using(crate::proofs::Walks::moving))]
@@ -76,11 +98,11 @@ fn take_and_give(types: &mut Vec<ValType>, base: usize, asks: Asks) -> Result<()
     ensures deep { base ≤ length types.new.items }
     ensures typed { IfOk result (λ _. Takes (sig_of asks.entry) (own_at base types.old.items) (own_at base types.new.items)) }
     ensures kept { take base types.new.items ≡ take base types.old.items }
+    ensures err { OnErr result (types.new.items ≡ types.old.items) }
 {
     match asks {
         Asks::Moves { test, ins, outs } => {
-            take_types(types, base, taken(test, ins));
-            give_types(types, base, outs)?;
+            change_types(types, base, taken(test, ins), outs)?;
             Ok(())
         }
         Asks::Leaves { .. } => Ok(()),
@@ -125,25 +147,25 @@ impl<'m> Typing<'m> {
     }
 
     /// Goes behind an instruction, or behind a whole block, loop or if, which is typed where the walk stands.
-    /// Where there is no memory, operands of the innermost construct may be lost.
+    /// Where there is no memory, the walk stays where it was.
     #[tactic(auto, using(crate::proofs::Walks::walking))]
     pub fn advance(&mut self, instr: &Instr) -> Result<(), AllocError>
         requires { TypedAt self.old (in_front instr.now done) }
         ensures stays { Stays self.old self.new }
+        ensures err { OnErr result (self.new ≡ self.old) }
         ensures typed { IfOk result (λ _. Types self.old.around self.old.labels (in_front instr.now done) self.new.own self.old.own) }
     {
         match instr {
             Instr::Block { result, .. } => {
-                give_types(&mut self.types, self.base, listing(*result))?;
+                change_types(&mut self.types, self.base, 0, listing(*result))?;
                 Ok(())
             }
             Instr::Loop { result, .. } => {
-                give_types(&mut self.types, self.base, listing(*result))?;
+                change_types(&mut self.types, self.base, 0, listing(*result))?;
                 Ok(())
             }
             Instr::If { result, .. } => {
-                take_types(&mut self.types, self.base, 1);
-                give_types(&mut self.types, self.base, listing(*result))?;
+                change_types(&mut self.types, self.base, 1, listing(*result))?;
                 Ok(())
             }
             _ => {

@@ -1,4 +1,4 @@
-use Rattle.std.proofs.Common.{◌≡◌, ◌≤◌, ◌<◌, ◌-◌, suc, take, length}
+use Rattle.std.proofs.Common.{◌≤◌, ◌<◌, ◌-◌, suc, take, length}
 use Rattle.wasm_validate.specs.Spaces.{total}
 use Rattle.wasm_validate.proofs.context.declared.Given as goal
 

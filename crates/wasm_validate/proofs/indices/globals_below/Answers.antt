@@ -2,7 +2,7 @@ use Rattle.std.proofs.Common.{sym, ◌∙◌}
 use Rattle.wa_types.specs.declared.syntax.Space.TheVariants.{Global}
 use Rattle.wa_types.specs.Validity.{all_below}
 use Rattle.wasm_validate.specs.Outside.{exported_in}
-use Rattle.wasm_validate.proofs.OutsideLemmas.{in_globals, in_elems, in_segments, expressions_below, four_first, four_second, four_third, four_fourth}
+use Rattle.wasm_validate.proofs.OutsideLemmas.{in_globals, in_elems, in_segments, expressions_below, four_second, four_third, four_fourth}
 use Rattle.wasm_validate.proofs.indices.globals_below.Goals as goal
 
 pub returns-then-not-inits_below : goal.returns-then-not-inits_below

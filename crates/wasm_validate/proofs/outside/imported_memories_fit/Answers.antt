@@ -1,4 +1,4 @@
-use Rattle.std.proofs.Common.{rules, tests, sym, ◌∙◌, nat_lt, nat_le, ◌^◌, List, ◌∷◌, map, take}
+use Rattle.std.proofs.Common.{rules, tests, sym, ◌∙◌}
 use Rattle.std.proofs.lemmas.Iterator.{YieldsList-from_slice}
 use Rattle.std.proofs.lemmas.Iterator.Search.{all_from_yields_List}
 use Rattle.wa_types.specs.declared.syntax.Import.{Import}

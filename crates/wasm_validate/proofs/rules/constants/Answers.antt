@@ -1,5 +1,5 @@
-use Rattle.std.proofs.Common.{◌≡◌, ◌∙◌, map, take}
-use Rattle.wa_types.specs.Modules.{imported, imported_global, all_globals}
+use Rattle.std.proofs.Common.{◌≡◌, map, take}
+use Rattle.wa_types.specs.Modules.{imported, imported_global}
 use Rattle.wa_types.specs.View.{module_of}
 use Rattle.wasm_validate.specs.Spaces.{global_type_of}
 use Rattle.wasm_validate.proofs.OutsideLemmas.{taken}

@@ -1,4 +1,4 @@
-use Rattle.std.proofs.Common.{map, List, ℕ, []}
+use Rattle.std.proofs.Common.{map, []}
 use Rattle.wa_types.specs.Syntax.{Func}
 use Rattle.wa_types.specs.View.{func_of}
 use Rattle.wasm_validate.specs.Spaces.{ends_from}

@@ -1,4 +1,4 @@
-use Rattle.std.proofs.Common.{◌≡◌, take, map, List, ℕ}
+use Rattle.std.proofs.Common.{◌≡◌, take, map}
 use Rattle.wa_types.specs.declared.syntax.Func.{Func}
 use Rattle.wasm_validate.specs.Spaces.{ends_from}
 use Rattle.wasm_validate.proofs.spaces.all_ends.Given as goal

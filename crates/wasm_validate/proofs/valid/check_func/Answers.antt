@@ -1,4 +1,4 @@
-use Rattle.std.proofs.Common.{arith, ◌≡◌, ◌<◌, ◌∙◌, ap, length, map, Some, ◌+◌}
+use Rattle.std.proofs.Common.{arith, ◌<◌, ap, length, map, Some, ◌+◌}
 use Rattle.std.proofs.lemmas.List.{length-map}
 use Rattle.wa_types.specs.View.{module_of, func_of, code}
 use Rattle.wasm_validate.specs.Running.{fine, fault}

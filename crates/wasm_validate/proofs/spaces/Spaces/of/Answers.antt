@@ -1,13 +1,11 @@
-use Rattle.std.proofs.Common.{arith, rules, sym, ◌≡◌, ap, length, ◌∙◌, ◌<◌, ◌^◌, map}
+use Rattle.std.proofs.Common.{arith, rules, sym, ◌≡◌, length, ◌∙◌, map}
 use Rattle.std.specs.List.{filter_map}
 use Rattle.std.proofs.lemmas.List.{length-map}
-use Rattle.std.proofs.lemmas.List.Elements.{All-get_or}
 use Rattle.wa_types.specs.declared.syntax.Import.{Import}
-use Rattle.wa_types.specs.declared.syntax.Func.{Func as FuncValue}
 use Rattle.wa_types.specs.Modules.{imported_func, imported_table, imported_memory, imported_global, global_type}
 use Rattle.wa_types.specs.Syntax.{Func}
 use Rattle.wa_types.specs.View.{module_of, func_of, global_of}
-use Rattle.wasm_validate.specs.Spaces.{total, global_type_of}
+use Rattle.wasm_validate.specs.Spaces.{global_type_of}
 use Rattle.wasm_validate.proofs.SpaceLemmas.{front_length, both_length, each_total, few_locals}
 use Rattle.wasm_validate.proofs.spaces.Spaces.of.Goals as goal
 

@@ -1,5 +1,4 @@
-use Rattle.std.proofs.Common.{rules, arith, ap, ◌∙◌, ◌≤◌, ◌-◌, ◌≡◌, length, [], ◌∷◌}
-use Rattle.wasm_validate.specs.Walk.{Walk}
+use Rattle.std.proofs.Common.{arith, ap, ◌-◌, ◌≡◌, length}
 use Rattle.wasm_validate.proofs.Walks.{at_if, no_other, inside_block, inside_loop, inside_if, below_all, below_rest, some_types}
 use Rattle.wasm_validate.proofs.walk.Typing.inside.Goals as goal
 
