@@ -1,0 +1,4 @@
+pub mod Access
+pub mod Effects
+pub mod Told
+pub mod View

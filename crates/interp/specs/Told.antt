@@ -1,0 +1,44 @@
+-- What a reduction came to, told by its flow.
+use Rattle.std.specs.Prelude.{◌≡◌, ℕ, ◌≤◌, ◌<◌, List, reverse, take, Option}
+use Rattle.wa_types.specs.declared.values.Value.{Value}
+use Rattle.wa_types.specs.Syntax.{Plain, Code, Module}
+use Rattle.wa_model.specs.Store.{Store}
+use Rattle.wa_model.specs.Configuration.{Label, Activation, Configuration, running}
+use Rattle.wa_model.specs.Step.{Next, steps, asks, returns, traps, stuck, step_plain}
+use Rattle.wa_model.specs.Blocking.{value_of_results}
+use Rattle.interp.specs.declared.flow.Flow.{Flow}
+use Rattle.interp.specs.declared.flow.Flow.TheVariants.{Moved, Asked, Returned, Trapped, Spent}
+use Rattle.interp.specs.View.{taking}
+
+-- what comes next costs more than is left, or nothing comes
+abbrev pub IsUnpaid : Next → (left : ℕ) → Type 0
+IsUnpaid (steps k d) left = left ≤ k
+IsUnpaid (asks k import args d) left = left ≤ k
+IsUnpaid (returns k values s) left = left ≤ k
+IsUnpaid (traps k trap s) left = left ≤ k
+IsUnpaid stuck left = Unit {0}
+
+-- the function that is called, and with what
+pub record IsAsked (next : Next) (more import taken : ℕ) (c : Configuration) : Type 0 where
+  pub args : List Value
+  pub next_is : next ≡ asks more import args (taking taken c)
+
+pub record IsReturned (next : Next) (value : Option Value) (s : Store) : Type 0 where
+  pub values : List Value
+  pub next_is : next ≡ returns 0 values s
+  pub value_is : value ≡ value_of_results values
+
+-- From a store s, with this much left to pay: what came next, and the configuration behind it. Where none was paid the
+-- store is as it was.
+abbrev pub Tells : Store → Next → (left : ℕ) → Flow → Configuration → Type 0
+Tells s next left (Moved more) c = (next ≡ steps more c) × (more < left)
+Tells s next left (Asked more import taken) c = IsAsked next more import taken c × (more < left)
+Tells s next left (Returned value) c = IsReturned next value c.store × (0 < left)
+Tells s next left (Trapped more trap) c = (next ≡ traps more trap c.store) × (more < left)
+Tells s next left Spent c = IsUnpaid next left × (c.store ≡ s)
+
+-- what an instruction does that touches only the locals and the operands
+abbrev pub Plainly : Plain → (ls ops : List Value) → Flow → (ls' ops' : List Value) → Type 0
+Plainly p ls ops f ls' ops' =
+    (m : Module) (s : Store) (fn : ℕ) (under : List Activation) (labels : List Label) (rest : Code) (left : ℕ) → 0 < left
+    → Tells s (step_plain m s fn under ls ops labels rest p) left f (running s fn under ls' ops' rest labels)

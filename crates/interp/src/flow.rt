@@ -1,0 +1,20 @@
+use wa_types::{Trap, Value};
+
+/// What came of one reduction. `more` is what it costs past 1.
+#[derive(Clone, Copy)]
+pub enum Flow {
+    /// It led to the next configuration.
+    Moved { more: u64 },
+    /// It called an imported function and took so many operands.
+    Asked {
+        more: u64,
+        import: u32,
+        taken: usize,
+    },
+    /// The outermost activation returned.
+    Returned(Option<Value>),
+    /// It trapped.
+    Trapped { more: u64, trap: Trap },
+    /// None that can be paid.
+    Spent,
+}
