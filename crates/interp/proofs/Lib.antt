@@ -1,2 +1,6 @@
+pub mod CallLemmas
+pub mod JumpLemmas
 pub mod LoadLemmas
 pub mod OperandLemmas
+pub mod ProgramLemmas
+pub mod TypeLemmas

@@ -1,4 +1,5 @@
 pub mod Access
 pub mod Effects
+pub mod Stacks
 pub mod Told
 pub mod View

@@ -23,9 +23,9 @@ pub record IsAsked (next : Next) (more import taken : ℕ) (c : Configuration) :
   pub args : List Value
   pub next_is : next ≡ asks more import args (taking taken c)
 
-pub record IsReturned (next : Next) (value : Option Value) (s : Store) : Type 0 where
+pub record IsReturned (next : Next) (more : ℕ) (value : Option Value) (s : Store) : Type 0 where
   pub values : List Value
-  pub next_is : next ≡ returns 0 values s
+  pub next_is : next ≡ returns more values s
   pub value_is : value ≡ value_of_results values
 
 -- From a store s, with this much left to pay: what came next, and the configuration behind it. Where none was paid the
@@ -33,7 +33,7 @@ pub record IsReturned (next : Next) (value : Option Value) (s : Store) : Type 0 
 abbrev pub Tells : Store → Next → (left : ℕ) → Flow → Configuration → Type 0
 Tells s next left (Moved more) c = (next ≡ steps more c) × (more < left)
 Tells s next left (Asked more import taken) c = IsAsked next more import taken c × (more < left)
-Tells s next left (Returned value) c = IsReturned next value c.store × (0 < left)
+Tells s next left (Returned more value) c = IsReturned next more value c.store × (more < left)
 Tells s next left (Trapped more trap) c = (next ≡ traps more trap c.store) × (more < left)
 Tells s next left Spent c = IsUnpaid next left × (c.store ≡ s)
 

@@ -1,6 +1,8 @@
 -- The configuration that the interpreter's values stand for.
 use Rattle.std.specs.Prelude.{ℕ, List, [], ◌∷◌, map, reverse, take, drop, Bool, true, false, Option, Some, None}
 use Rattle.wa_types.specs.declared.values.Value.{Value}
+use Rattle.std.specs.Borrow.{Bor}
+use Rattle.wa_types.specs.declared.instrs.Instr.{Instr}
 use Rattle.wa_types.specs.View.{code}
 use Rattle.wa_types.specs.Syntax.{Code, done}
 use Rattle.wa_model.specs.Store.{Store}
@@ -20,9 +22,12 @@ abbrev pub count_of : Bool → ℕ
 count_of false = 0
 count_of true = 1
 
+abbrev pub skipped_of : Option (Bor (List Instr)) → Code
+skipped_of None = done
+skipped_of (Some skipped) = code skipped.now
+
 abbrev pub label_of : L.Label → C.Label
-label_of (LV.Block height carries rest None) = block_label height (count_of carries) (code rest.now) done
-label_of (LV.Block height carries rest (Some skipped)) = block_label height (count_of carries) (code rest.now) (code skipped.now)
+label_of (LV.Block height carries rest skipped) = block_label height (count_of carries) (code rest.now) (skipped_of skipped)
 label_of (LV.Loop height body rest) = loop_label height (code body.now) (code rest.now)
 
 -- an activation that waits, whose topmost operands the call took
@@ -32,9 +37,9 @@ waiting_of w =
     (code w.activation.code.now) (map label_of (reverse w.activation.labels.items))
 
 -- a stack whose innermost activation runs
-abbrev pub running_of : S.Store → Stack → Configuration
+abbrev pub running_of : Store → Stack → Configuration
 running_of s k =
-    running (store_of s) k.here.func (map waiting_of (reverse k.under.items)) k.here.locals.items (reverse k.here.operands.items)
+    running s k.here.func (map waiting_of (reverse k.under.items)) k.here.locals.items (reverse k.here.operands.items)
     (code k.here.code.now) (map label_of (reverse k.here.labels.items))
 
 -- the same, where the innermost one waits at a call that took so many operands

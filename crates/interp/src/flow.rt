@@ -12,7 +12,7 @@ pub enum Flow {
         taken: usize,
     },
     /// The outermost activation returned.
-    Returned(Option<Value>),
+    Returned { more: u64, value: Option<Value> },
     /// It trapped.
     Trapped { more: u64, trap: Trap },
     /// None that can be paid.

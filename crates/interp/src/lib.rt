@@ -3,10 +3,13 @@
 
 mod access;
 mod activation;
+mod calls;
+mod control;
 mod flow;
 mod locals;
 mod memory;
 mod numeric;
 mod operands;
+mod program;
 mod store;
 mod values;
