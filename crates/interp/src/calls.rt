@@ -1,10 +1,10 @@
-ghost use Rattle.std.specs.Prelude.{◌≡◌, ◌<◌, ◌+◌, ◌^◌, ◌++◌, ℕ, IfOk, map, reverse, take, drop};
+ghost use Rattle.std.specs.Prelude.{◌≡◌, ◌<◌, ◌+◌, ◌^◌, ◌++◌, ℕ, IfOk, MatchOption, map, slice_get, reverse, take, drop};
 ghost use Rattle.wa_types.specs.Modules.{declared_locals};
 ghost use Rattle.wa_types.specs.Syntax.{call, call_indirect};
 ghost use Rattle.wa_types.specs.View.{module_of};
 ghost use Rattle.wa_model.specs.Store.{Store};
 ghost use Rattle.wa_model.specs.Step.{zero_of};
-ghost use Rattle.interp.specs.Stacks.{invoke_of, plain_of};
+ghost use Rattle.interp.specs.Stacks.{HasNumber, LacksNumber, invoke_of, plain_of};
 ghost use Rattle.interp.specs.Told.{Tells};
 ghost use Rattle.interp.specs.View.{running_of, store_of};
 
@@ -87,4 +87,57 @@ fn invoke<'m>(program: &Program<'m>, stack: &mut Stack<'m>, own: usize, params: 
         taken,
     })?;
     Ok(Flow::Moved { more })
+}
+
+/// The topmost operand, where it is an i32. It stays.
+#[tactic(auto, using(crate::proofs::NumberLemmas::peeking))]
+fn top_number(operands: &Vec<Value>) -> Option<u32>
+    ensures { MatchOption result (LacksNumber (reverse operands.now.items)) (λ n. HasNumber (reverse operands.now.items) n) }
+{
+    let Some(Value::I32(n)) = operands.last().copied() else {
+        return None;
+    };
+    Some(n)
+}
+
+/// The element of a table at this place.
+fn element_at(table: &Vec<Option<u32>>, place: u32) -> Option<Option<u32>>
+    ensures { result ≡ slice_get table.now.items place }
+{
+    table.get(place as usize).copied()
+}
+
+/// `call` (standard, section 4.4.5.10).
+pub fn call<'m>(program: &Program<'m>, stack: &mut Stack<'m>, func: u32, left: u64) -> Result<Flow, AllocError>
+    ensures { IfOk result (λ f. (s : Store) → Tells s (plain_of (module_of program.now.source.now) s stack.old (call func)) left f (running_of s stack.new)) }
+{
+    let params = program.func_params(func);
+    invoke(program, stack, 0, params, func, left)
+}
+
+/// `call_indirect` (standard, section 4.4.5.11).
+pub fn call_indirect<'m>(program: &Program<'m>, table: &Vec<Option<u32>>, stack: &mut Stack<'m>, sort: u32, left: u64) -> Result<Flow, AllocError>
+    ensures { IfOk result (λ f. (s : Store) → s.table ≡ table.now.items → Tells s (plain_of (module_of program.now.source.now) s stack.old (call_indirect sort)) left f (running_of s stack.new)) }
+{
+    let params = program.sort_params(sort);
+    let more = params as u64;
+    let Some(place) = top_number(&stack.here.operands) else {
+        return Ok(Flow::Spent);
+    };
+    if left <= more {
+        return Ok(Flow::Spent);
+    }
+    let Some(element) = element_at(table, place) else {
+        let trap = Trap::UndefinedElement;
+        return Ok(Flow::Trapped { more, trap });
+    };
+    let Some(func) = element else {
+        let trap = Trap::UninitializedElement;
+        return Ok(Flow::Trapped { more, trap });
+    };
+    if !program.has_type(func, sort) {
+        let trap = Trap::TypeMismatch;
+        return Ok(Flow::Trapped { more, trap });
+    }
+    invoke(program, stack, 1, params, func, left)
 }

@@ -1,4 +1,4 @@
-ghost use Rattle.std.specs.Prelude.{◌≡◌, Some, None, MatchOption, length};
+ghost use Rattle.std.specs.Prelude.{◌≡◌, ◌<◌, ◌^◌, Some, None, MatchOption, length};
 ghost use Rattle.wa_types.specs.Modules.{func_sorts, func_imports, empty_type, type_at, func_type_at, defined_at};
 ghost use Rattle.wa_types.specs.View.{func_type_of, func_of, module_of};
 ghost use Rattle.wa_model.specs.Step.{result_count, same_types, same_func_type};
@@ -38,7 +38,8 @@ impl<'m> Program<'m> {
 
     /// How many parameters the type of this index has.
     pub fn sort_params(&self, sort: u32) -> usize
-        ensures { result ≡ length (type_at (module_of self.now.source.now) sort).params }
+        ensures count { result ≡ length (type_at (module_of self.now.source.now) sort).params }
+        ensures small { result < 2 ^ 63 }
     {
         match self.sort(sort) {
             Some(ty) => ty.params.len(),
@@ -48,7 +49,8 @@ impl<'m> Program<'m> {
 
     /// How many parameters the function of this index has.
     pub fn func_params(&self, func: u32) -> usize
-        ensures { result ≡ length (func_type_at (module_of self.now.source.now) func).params }
+        ensures count { result ≡ length (func_type_at (module_of self.now.source.now) func).params }
+        ensures small { result < 2 ^ 63 }
     {
         match self.func_type(func) {
             Some(ty) => ty.params.len(),
@@ -81,8 +83,8 @@ impl<'m> Program<'m> {
     {
         match (self.func_type(func), self.sort(sort)) {
             (Some(f), Some(t)) => same_types(&f.params, &t.params) && same_types(&f.results, &t.results),
-            (Some(f), None) => f.params.is_empty() && f.results.is_empty(),
-            (None, Some(t)) => t.params.is_empty() && t.results.is_empty(),
+            (Some(f), None) => same_types(&f.params, &[]) && same_types(&f.results, &[]),
+            (None, Some(t)) => same_types(&[], &t.params) && same_types(&[], &t.results),
             (None, None) => true,
         }
     }
