@@ -1,17 +1,37 @@
 -- A branch, label by label.
-use Rattle.std.proofs.Common.{arith, ◌≡◌, ℕ, zero, suc, ◌+◌, ◌-◌, List, [], ◌∷◌, ◌++◌, map, reverse, take, Bool, Option, refl, ap, sym, ◌∙◌}
+use Rattle.std.proofs.Common.{arith, ◌≡◌, ℕ, zero, suc, ◌+◌, ◌-◌, ◌≤◌, List, [], ◌∷◌, ◌++◌, map, reverse, take, Bool, Option, refl, ap, sym, ◌∙◌}
 use Rattle.wa_types.specs.declared.instrs.Instr.{Instr}
 use Rattle.wa_types.specs.declared.values.Value.{Value}
+use Rattle.wa_types.specs.declared.values.Value.TheVariants as V
 use Rattle.wa_types.specs.Syntax.{Module}
 use Rattle.wa_types.specs.View.{code}
 use Rattle.wa_model.specs.Store.{Store}
 use Rattle.wa_model.specs.Configuration.{Activation, running}
 use Rattle.wa_model.specs.Configuration as C
-use Rattle.wa_model.specs.Step.{Next, steps, keep, leave, jump, result_count}
+use Rattle.wa_model.specs.Step.{Next, steps, keep, leave, jump, result_count, with_number}
+use Rattle.interp.specs.Told.{IsUnpaid}
 use Rattle.interp.specs.declared.activation.Label.{Label}
 use Rattle.interp.specs.declared.activation.Label.TheVariants as L
 use Rattle.interp.specs.View.{count_of, label_of}
 use Rattle.interp.proofs.OperandLemmas.{top_first, keep_is}
+
+leave_unpaid : (more : ℕ) (s : Store) (ops : List Value) (arity : ℕ) (under : List Activation) (left : ℕ) → left ≤ more → IsUnpaid (leave more s ops arity under) left
+leave_unpaid more s ops arity [] left h = h
+leave_unpaid more s ops arity (a ∷ under) left h = h
+
+module _ (m : Module) (s : Store) (more fn : ℕ) (under : List Activation) (ls : List Value) where
+  pub jump_unpaid : (ops : List Value) (labels : List C.Label) (l left : ℕ) → left ≤ more → IsUnpaid (jump more m s fn under ls ops labels l) left
+  jump_unpaid ops [] l left h = leave_unpaid more s ops (result_count m fn) under left h
+  jump_unpaid ops (C.block_label b arity rest skipped ∷ labels) zero left h = h
+  jump_unpaid ops (C.block_label b arity rest skipped ∷ labels) (suc l) left h = jump_unpaid ops labels l left h
+  jump_unpaid ops (C.loop_label b body rest ∷ labels) zero left h = h
+  jump_unpaid ops (C.loop_label b body rest ∷ labels) (suc l) left h = jump_unpaid ops labels l left h
+
+  -- by a number, where there is one
+  pub table_unpaid : (ops : List Value) (labels : List C.Label) (to : ℕ → ℕ) (left : ℕ) → left ≤ more → IsUnpaid (with_number ops (λ n below. jump more m s fn under ls below labels (to n))) left
+  table_unpaid [] labels to left h = tt
+  table_unpaid (V.I32 n ∷ ops) labels to left h = jump_unpaid ops labels (to n) left h
+  table_unpaid (V.I64 n ∷ ops) labels to left h = tt
 
 module _ (m : Module) (s : Store) (more fn : ℕ) (under : List Activation) (ls ops : List Value) where
   -- the branch from these labels, the innermost last

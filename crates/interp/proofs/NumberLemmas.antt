@@ -1,5 +1,6 @@
 -- The topmost operand as a number, and what stands on it.
-use Rattle.std.proofs.Common.{arith, ◌≡◌, ℕ, ◌-◌, ◌≤◌, List, [], ◌∷◌, length, reverse, take, drop, slice_get, Option, Some, None, Bool, true, false, if◌then◌else◌, refl, ap, sym, ◌∙◌, subst}
+use Rattle.std.proofs.Common.{arith, ◌≡◌, ℕ, ◌-◌, ◌≤◌, List, [], ◌∷◌, ◌++◌, length, reverse, take, drop, slice_get, Option, Some, None, Bool, true, false, if◌then◌else◌, refl, ap, sym, ◌∙◌, subst}
+use Rattle.std.proofs.lemmas.List.{nil_from_length}
 use Rattle.wa_types.specs.declared.values.Value.{Value}
 use Rattle.wa_types.specs.declared.values.Value.TheVariants as V
 use Rattle.wa_types.specs.declared.values.Trap.TheVariants.{UndefinedElement, UninitializedElement, TypeMismatch}
@@ -10,7 +11,7 @@ use Rattle.wa_model.specs.Configuration.{Label, Activation}
 use Rattle.wa_model.specs.Step.{Next, stuck, traps, with_number, through, invoke, param_count, same_func_type, step_plain}
 use Rattle.interp.specs.Stacks.{HasNumber, LacksNumber}
 use Rattle.interp.specs.Told.{IsUnpaid}
-use Rattle.interp.proofs.OperandLemmas.{last_is}
+use Rattle.interp.proofs.OperandLemmas.{last_is, top_first}
 
 first_number : (ops : List Value) (n : ℕ) → slice_get ops 0 ≡ Some (V.I32 n) → ops ≡ V.I32 n ∷ drop 1 ops
 first_number [] n e = cc
@@ -28,6 +29,14 @@ pub lacks_number : (xs : List Value) → ((n : ℕ) → slice_get xs (length xs 
 lacks_number xs h = record { is = λ on. no_first (reverse xs) on (λ n e. h n (last_is xs ∙ e)) }
 
 pub ruleset peeking = (has_number, lacks_number)
+
+pub lacks_none : (xs : List Value) → length xs ≡ 0 → LacksNumber (reverse xs)
+lacks_none xs e = record { is = λ on. ap (λ v. with_number (reverse v) on) (nil_from_length xs e) }
+
+pub lacks_wide : (xs ys : List Value) (n : ℕ) → xs ≡ ys ++ V.I64 n ∷ [] → LacksNumber (reverse xs)
+lacks_wide xs ys n e = record { is = λ on. ap (λ v. with_number v on) (top_first xs ys (V.I64 n) e) }
+
+pub ruleset popping = (lacks_none, lacks_wide, top_first)
 
 module _ (m : Module) (s : Store) (fn : ℕ) (under : List Activation) (ls ops : List Value) (labels : List Label) (rest : Code) where
   -- with a number topmost

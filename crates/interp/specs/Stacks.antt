@@ -2,11 +2,11 @@
 use Rattle.std.specs.Prelude.{◌≡◌, ℕ, List, ◌∷◌, map, reverse, take, drop}
 use Rattle.wa_types.specs.declared.values.Value.{Value}
 use Rattle.wa_types.specs.declared.values.Value.TheVariants as V
-use Rattle.wa_types.specs.Syntax.{Module, Plain}
+use Rattle.wa_types.specs.Syntax.{Module, Plain, Code}
 use Rattle.wa_types.specs.Modules.{defined_at}
 use Rattle.wa_types.specs.View.{code}
 use Rattle.wa_model.specs.Store.{Store}
-use Rattle.wa_model.specs.Step.{Next, jump, finish, leave, stuck, invoke, with_number, step_plain}
+use Rattle.wa_model.specs.Step.{Next, jump, finish, leave, stuck, invoke, with_number, step_plain, step_at}
 use Rattle.interp.specs.declared.activation.Stack.{Stack}
 use Rattle.interp.specs.View.{label_of, waiting_of}
 
@@ -35,6 +35,11 @@ abbrev pub plain_of : Module → Store → Stack → Plain → Next
 plain_of m s k p =
     step_plain m s k.here.func (map waiting_of (reverse k.under.items)) k.here.locals.items (reverse k.here.operands.items)
     (map label_of (reverse k.here.labels.items)) (code k.here.code.now) p
+
+-- code, in place of that of the activation
+abbrev pub code_of : Module → Store → Stack → Code → Next
+code_of m s k =
+    step_at m s k.here.func (map waiting_of (reverse k.under.items)) k.here.locals.items (reverse k.here.operands.items) (map label_of (reverse k.here.labels.items))
 
 -- an i32 lies topmost
 pub record HasNumber (ops : List Value) (n : ℕ) : Type 0 where

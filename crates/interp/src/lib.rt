@@ -3,6 +3,7 @@
 
 mod access;
 mod activation;
+mod branches;
 mod calls;
 mod control;
 mod flow;
