@@ -1,7 +1,9 @@
 pub mod CallLemmas
+pub mod Fronts
 pub mod JumpLemmas
 pub mod LoadLemmas
 pub mod NumberLemmas
 pub mod OperandLemmas
 pub mod ProgramLemmas
+pub mod ReduceLemmas
 pub mod TypeLemmas

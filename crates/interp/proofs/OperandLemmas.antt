@@ -108,7 +108,9 @@ none_carried xs h e = nothing (reverse xs) (sym (last_is xs) ∙ e)
     nothing (z ∷ zs) e = cc
 
 pub ruleset keeping = (keep_is, carried, none_carried)
+
 pub ruleset handing = (handed, handed)
+
 pub ruleset topping = (top_value, top_value)
 
 -- a list without its last one, and that one

@@ -21,5 +21,7 @@ pub func_none : (m : Module) (x : ℕ) → slice_get (func_sorts m) x ≡ None �
 func_none m x e = ap or_empty (slice_get-map (type_at m) (func_sorts m) x ∙ ap (option_map (type_at m)) e)
 
 pub ruleset looking = (sort_some, sort_none)
+
 pub ruleset typing = (func_some, func_none)
+
 pub ruleset finding = (slice_get-map, slice_get-map)

@@ -36,9 +36,3 @@ Tells s next left (Asked more import taken) c = IsAsked next more import taken c
 Tells s next left (Returned more value) c = IsReturned next more value c.store × (more < left)
 Tells s next left (Trapped more trap) c = (next ≡ traps more trap c.store) × (more < left)
 Tells s next left Spent c = IsUnpaid next left × (c.store ≡ s)
-
--- what an instruction does that touches only the locals and the operands
-abbrev pub Plainly : Plain → (ls ops : List Value) → Flow → (ls' ops' : List Value) → Type 0
-Plainly p ls ops f ls' ops' =
-    (m : Module) (s : Store) (fn : ℕ) (under : List Activation) (labels : List Label) (rest : Code) (left : ℕ) → 0 < left
-    → Tells s (step_plain m s fn under ls ops labels rest p) left f (running s fn under ls' ops' rest labels)

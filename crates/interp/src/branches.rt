@@ -28,7 +28,13 @@ pub fn branch_if(program: &Program, stack: &mut Stack, label: u32) -> Result<Flo
 }
 
 /// `br_table` (standard, section 4.4.5.8).
-pub fn branch_by(program: &Program, stack: &mut Stack, labels: &Vec<u32>, last: u32, left: u64) -> Result<Flow, AllocError>
+pub fn branch_by(
+    program: &Program,
+    stack: &mut Stack,
+    labels: &Vec<u32>,
+    last: u32,
+    left: u64,
+) -> Result<Flow, AllocError>
     ensures { IfOk result (λ f. (s : Store) → Tells s (plain_of (module_of program.now.source.now) s stack.old (br_table labels.now.items last)) left f (running_of s stack.new)) }
 {
     let more = labels.len() as u64 + 1;
@@ -62,7 +68,11 @@ fn pop_number(operands: &mut Vec<Value>) -> Option<u32>
 }
 
 /// Enters a block (standard, section 4.4.5.3).
-pub fn enter_block<'m>(stack: &mut Stack<'m>, result_type: Option<ValType>, body: &'m [Instr]) -> Result<Flow, AllocError>
+pub fn enter_block<'m>(
+    stack: &mut Stack<'m>,
+    result_type: Option<ValType>,
+    body: &'m [Instr],
+) -> Result<Flow, AllocError>
     ensures { IfOk result (λ f. (m : Module) (s : Store) (left : ℕ) → 0 < left → Tells s (code_of m s stack.old (nest a_block result_type (code body.now) (code stack.old.here.code.now))) left f (running_of s stack.new)) }
 {
     let label = Label::Block {
@@ -77,7 +87,11 @@ pub fn enter_block<'m>(stack: &mut Stack<'m>, result_type: Option<ValType>, body
 }
 
 /// Enters a loop (standard, section 4.4.5.4).
-pub fn enter_loop<'m>(stack: &mut Stack<'m>, result_type: Option<ValType>, body: &'m [Instr]) -> Result<Flow, AllocError>
+pub fn enter_loop<'m>(
+    stack: &mut Stack<'m>,
+    result_type: Option<ValType>,
+    body: &'m [Instr],
+) -> Result<Flow, AllocError>
     ensures { IfOk result (λ f. (m : Module) (s : Store) (left : ℕ) → 0 < left → Tells s (code_of m s stack.old (nest a_loop result_type (code body.now) (code stack.old.here.code.now))) left f (running_of s stack.new)) }
 {
     let label = Label::Loop {
@@ -91,7 +105,12 @@ pub fn enter_loop<'m>(stack: &mut Stack<'m>, result_type: Option<ValType>, body:
 }
 
 /// Enters an arm of an if (standard, section 4.4.5.5).
-pub fn enter_arm<'m>(stack: &mut Stack<'m>, result_type: Option<ValType>, then_arm: &'m [Instr], else_arm: &'m [Instr]) -> Result<Flow, AllocError>
+pub fn enter_arm<'m>(
+    stack: &mut Stack<'m>,
+    result_type: Option<ValType>,
+    then_arm: &'m [Instr],
+    else_arm: &'m [Instr],
+) -> Result<Flow, AllocError>
     ensures { IfOk result (λ f. (m : Module) (s : Store) (left : ℕ) → 0 < left → Tells s (code_of m s stack.old (branch result_type (code then_arm.now) (code else_arm.now) (code stack.old.here.code.now))) left f (running_of s stack.new)) }
 {
     let Some(test) = pop_number(&mut stack.here.operands) else {

@@ -49,7 +49,14 @@ pub fn args_of(operands: &Vec<Value>, own: usize, params: usize) -> &[Value]
 
 /// A call of the function of this index, which takes so many operands itself and then the arguments. One that would make
 /// an activation too many traps (standard, section 4.4.7.1).
-fn invoke<'m>(program: &Program<'m>, stack: &mut Stack<'m>, own: usize, params: usize, func: u32, left: u64) -> Result<Flow, AllocError>
+fn invoke<'m>(
+    program: &Program<'m>,
+    stack: &mut Stack<'m>,
+    own: usize,
+    params: usize,
+    func: u32,
+    left: u64,
+) -> Result<Flow, AllocError>
     requires { own + params < 2 ^ 64 }
     ensures { IfOk result (λ f. (s : Store) → Tells s (invoke_of (module_of program.now.source.now) s stack.old own params func) left f (running_of s stack.new)) }
 {
@@ -108,7 +115,12 @@ fn element_at(table: &Vec<Option<u32>>, place: u32) -> Option<Option<u32>>
 }
 
 /// `call` (standard, section 4.4.5.10).
-pub fn call<'m>(program: &Program<'m>, stack: &mut Stack<'m>, func: u32, left: u64) -> Result<Flow, AllocError>
+pub fn call<'m>(
+    program: &Program<'m>,
+    stack: &mut Stack<'m>,
+    func: u32,
+    left: u64,
+) -> Result<Flow, AllocError>
     ensures { IfOk result (λ f. (s : Store) → Tells s (plain_of (module_of program.now.source.now) s stack.old (call func)) left f (running_of s stack.new)) }
 {
     let params = program.func_params(func);
@@ -116,7 +128,13 @@ pub fn call<'m>(program: &Program<'m>, stack: &mut Stack<'m>, func: u32, left: u
 }
 
 /// `call_indirect` (standard, section 4.4.5.11).
-pub fn call_indirect<'m>(program: &Program<'m>, table: &Vec<Option<u32>>, stack: &mut Stack<'m>, sort: u32, left: u64) -> Result<Flow, AllocError>
+pub fn call_indirect<'m>(
+    program: &Program<'m>,
+    table: &Vec<Option<u32>>,
+    stack: &mut Stack<'m>,
+    sort: u32,
+    left: u64,
+) -> Result<Flow, AllocError>
     ensures { IfOk result (λ f. (s : Store) → s.table ≡ table.now.items → Tells s (plain_of (module_of program.now.source.now) s stack.old (call_indirect sort)) left f (running_of s stack.new)) }
 {
     let params = program.sort_params(sort);

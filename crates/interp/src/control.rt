@@ -23,7 +23,12 @@ pub fn leave(stack: &mut Stack, arity: usize, more: u64) -> Result<Flow, AllocEr
         return Ok(Flow::Returned { more, value });
     };
     let callee = mem::replace(&mut stack.here, caller.activation);
-    hand_over(&callee.operands, arity, &mut stack.here.operands, caller.taken)?;
+    hand_over(
+        &callee.operands,
+        arity,
+        &mut stack.here.operands,
+        caller.taken,
+    )?;
     Ok(Flow::Moved { more })
 }
 
@@ -40,7 +45,12 @@ fn top_of(operands: &Vec<Value>, arity: usize) -> Option<Value>
 
 /// Takes operands off a caller's, and puts the results in their place.
 #[tactic(auto, using(crate::proofs::OperandLemmas::handing))]
-fn hand_over(from: &Vec<Value>, arity: usize, to: &mut Vec<Value>, taken: usize) -> Result<(), AllocError>
+fn hand_over(
+    from: &Vec<Value>,
+    arity: usize,
+    to: &mut Vec<Value>,
+    taken: usize,
+) -> Result<(), AllocError>
     ensures { IfOk result (λ _. reverse to.new.items ≡ take arity (reverse from.now.items) ++ drop taken (reverse to.old.items)) }
 {
     to.truncate(to.len().saturating_sub(taken));

@@ -4,7 +4,9 @@ use wa_types::{Trap, Value};
 #[derive(Clone, Copy)]
 pub enum Flow {
     /// It led to the next configuration.
-    Moved { more: u64 },
+    Moved {
+        more: u64,
+    },
     /// It called an imported function and took so many operands.
     Asked {
         more: u64,
@@ -12,9 +14,15 @@ pub enum Flow {
         taken: usize,
     },
     /// The outermost activation returned.
-    Returned { more: u64, value: Option<Value> },
+    Returned {
+        more: u64,
+        value: Option<Value>,
+    },
     /// It trapped.
-    Trapped { more: u64, trap: Trap },
+    Trapped {
+        more: u64,
+        trap: Trap,
+    },
     /// None that can be paid.
     Spent,
 }

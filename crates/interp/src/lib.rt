@@ -12,5 +12,6 @@ mod memory;
 mod numeric;
 mod operands;
 mod program;
+mod reduce;
 mod store;
 mod values;

@@ -12,8 +12,13 @@ use wa_ops::load_value;
 use wa_types::{Trap, ValType, Value};
 
 /// A load (standard, section 4.4.4.1).
-pub fn load(store: &Store, operands: &mut Vec<Value>, op: u8, align: u32, offset: u32) -> Result<Flow, AllocError>
-    ensures { IfOk result (λ f. (most : Option ℕ) → Shows (effect most (load op align offset) (store_of store.now) (reverse operands.old.items)) f (store_of store.now) (reverse operands.new.items)) }
+pub fn load_at(
+    store: &Store,
+    operands: &mut Vec<Value>,
+    op: u8,
+    offset: u32,
+) -> Result<Flow, AllocError>
+    ensures { IfOk result (λ f. (most : Option ℕ) (align : ℕ) → Shows (effect most (load op align offset) (store_of store.now) (reverse operands.old.items)) f (store_of store.now) (reverse operands.new.items)) }
 {
     let Some(Value::I32(addr)) = operands.pop() else {
         return Ok(Flow::Spent);
@@ -22,7 +27,10 @@ pub fn load(store: &Store, operands: &mut Vec<Value>, op: u8, align: u32, offset
         return Ok(Flow::Spent);
     };
     let width = width_of(access.natural);
-    match store.memory.load(u64::from(addr) + u64::from(offset), width) {
+    match store
+        .memory
+        .load(u64::from(addr) + u64::from(offset), width)
+    {
         Some(number) => {
             operands.push(load_value(access.ty, width, access.signed, number))?;
             Ok(Flow::Moved { more: 0 })
@@ -35,8 +43,8 @@ pub fn load(store: &Store, operands: &mut Vec<Value>, op: u8, align: u32, offset
 }
 
 /// A store (standard, section 4.4.4.2).
-pub fn store(store: &mut Store, operands: &mut Vec<Value>, op: u8, align: u32, offset: u32) -> Flow
-    ensures shows { (most : Option ℕ) → Shows (effect most (store_instr op align offset) (store_of store.old) (reverse operands.old.items)) result (store_of store.new) (reverse operands.new.items) }
+pub fn store_at(store: &mut Store, operands: &mut Vec<Value>, op: u8, offset: u32) -> Flow
+    ensures shows { (most : Option ℕ) (align : ℕ) → Shows (effect most (store_instr op align offset) (store_of store.old) (reverse operands.old.items)) result (store_of store.new) (reverse operands.new.items) }
     ensures kept { Unmoved result → store_of store.new ≡ store_of store.old }
     ensures max { store.new.memory.max ≡ store.old.memory.max }
 {

@@ -82,7 +82,8 @@ impl<'m> Program<'m> {
         ensures { result ≡ same_func_type (func_type_at (module_of self.now.source.now) func) (type_at (module_of self.now.source.now) sort) }
     {
         match (self.func_type(func), self.sort(sort)) {
-            (Some(f), Some(t)) => same_types(&f.params, &t.params) && same_types(&f.results, &t.results),
+            (Some(f), Some(t)) => same_types(&f.params, &t.params)
+                && same_types(&f.results, &t.results),
             (Some(f), None) => same_types(&f.params, &[]) && same_types(&f.results, &[]),
             (None, Some(t)) => same_types(&[], &t.params) && same_types(&[], &t.results),
             (None, None) => true,

@@ -16,12 +16,13 @@ returns-then-func-program c =
     let m = module_of c.args.program.now.source.now in
     let k = c.args.stack.now in
     let ops = reverse k.here.operands.items in
-    λ s.
-    (record {
-      args = reverse (take c.args.params (drop c.args.own ops));
-      next_is = asked_at m s k.here.func (map waiting_of (reverse k.under.items)) k.here.locals.items ops (code k.here.code.now) (map label_of (reverse k.here.labels.items)) c.args.own c.args.params c.args.func c.in_default.ensures (subst (λ i. c.args.func < i) c.args.program.now.imports_are c.if-func-program.true);
-    },
-    omega arith)
+    λ s. (
+      record {
+        args = reverse (take c.args.params (drop c.args.own ops));
+        next_is = asked_at m s k.here.func (map waiting_of (reverse k.under.items)) k.here.locals.items ops (code k.here.code.now) (map label_of (reverse k.here.labels.items)) c.args.own c.args.params c.args.func c.in_default.ensures (subst (λ i. c.args.func < i) c.args.program.now.imports_are c.if-func-program.true);
+      },
+      omega arith,
+    )
 
 pub returns : goal.returns
 returns c =
@@ -47,7 +48,8 @@ returns c =
     ∙ ap (λ h. here h (w ∷ under)) c.replace-caller.ensures.after
     ∙ ap (λ v. running s c.args.func (w ∷ under) ls (reverse v) (code c.as_slice.result.now) (map label_of (reverse c.new-2.result.items))) c.new.ensures.items
     ∙ ap (λ v. running s c.args.func (w ∷ under) ls [] (code v) (map label_of (reverse c.new-2.result.items))) c.as_slice.ensures.value
-    ∙ ap (λ v. running s c.args.func (w ∷ under) ls [] f.body (map label_of (reverse v))) c.new-2.ensures.items in
-    (entered_at m s k.here.func under k.here.locals.items ops rest labels c.args.own c.args.params c.args.func f c.in_ok-locals.locals.items c.in-Some.ensures room locals
-    ∙ ap (steps c.args.params) (sym after),
-    omega arith)
+    ∙ ap (λ v. running s c.args.func (w ∷ under) ls [] f.body (map label_of (reverse v))) c.new-2.ensures.items in (
+      entered_at m s k.here.func under k.here.locals.items ops rest labels c.args.own c.args.params c.args.func f c.in_ok-locals.locals.items c.in-Some.ensures room locals
+          ∙ ap (steps c.args.params) (sym after),
+      omega arith,
+    )

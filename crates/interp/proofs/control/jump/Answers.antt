@@ -22,12 +22,13 @@ returns-in_ok-carry-in-Block c =
     let size = k.here.labels.ok.0 in
     let rest : c.pop.new.self.items ≡ take (length labels - 1) labels = c.pop.ensures.rest ∙ ap (λ n. take (n - 1) labels) size in
     let split = last_split labels c.pop.new.self.items c.in-Some.entry.now rest last in
-    λ s left paid.
-    (sym (c.loop-entry.invariant s)
-    ∙ at_block m s c.args.more k.here.func under ls ops
-    labels c.pop.new.self.items c.in-Some.entry.now c.in-Block.height c.loop-entry.passed c.in-Block.carries c.in-Block.rest c.in-Block.skipped (reverse c.carry.new.operands.items)
-    split c.in-Block.is c.if-passed-eq0.true c.in_ok-carry-in-Block.ensures,
-    paid)
+    λ s left paid. (
+      sym (c.loop-entry.invariant s)
+          ∙ at_block m s c.args.more k.here.func under ls ops
+          labels c.pop.new.self.items c.in-Some.entry.now c.in-Block.height c.loop-entry.passed c.in-Block.carries c.in-Block.rest c.in-Block.skipped (reverse c.carry.new.operands.items)
+          split c.in-Block.is c.if-passed-eq0.true c.in_ok-carry-in-Block.ensures,
+      paid,
+    )
 
 pub returns-in-Loop : goal.returns-in-Loop
 returns-in-Loop c =
@@ -40,12 +41,13 @@ returns-in-Loop c =
     let last = ap (λ v. slice_get v (length v - 1)) (sym c.deref.ensures.value) ∙ sym c.in-Some.ensures.value in
     let split = last_split labels (take (length labels - 1) labels) c.in-Some.entry.now refl last in
     let kept = ap reverse c.truncate.ensures.items ∙ sym (keep_is c.in-Loop.height k.here.operands.items) in
-    λ s left paid.
-    (sym (c.loop-entry.invariant s)
-    ∙ at_loop m s c.args.more k.here.func under ls ops
-    labels (take (length labels - 1) labels) c.in-Some.entry.now c.in-Loop.height c.loop-entry.passed c.in-Loop.body c.in-Loop.rest (reverse c.truncate.new.self.items)
-    split c.in-Loop.is c.if-passed-eq0.true kept,
-    paid)
+    λ s left paid. (
+      sym (c.loop-entry.invariant s)
+          ∙ at_loop m s c.args.more k.here.func under ls ops
+          labels (take (length labels - 1) labels) c.in-Some.entry.now c.in-Loop.height c.loop-entry.passed c.in-Loop.body c.in-Loop.rest (reverse c.truncate.new.self.items)
+          split c.in-Loop.is c.if-passed-eq0.true kept,
+      paid,
+    )
 
 pub loop-entry-preserved : goal.loop-entry-preserved
 loop-entry-preserved c =
