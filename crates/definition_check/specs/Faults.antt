@@ -11,8 +11,8 @@ use Rattle.wa_types.specs.declared.syntax.Export.{Export}
 use Rattle.wa_types.specs.declared.syntax.Space.{Space}
 use Rattle.wa_types.specs.declared.syntax.Space.TheVariants.{Func as a_func, Table as a_table, Global as a_global}
 use Rattle.wa_types.specs.Syntax.{drop, select, const, num, global_get, global_set, load, memory_size, basic, local_get, br, br_if, br_table, unreachable, call, call_indirect, a_block, a_loop, Code, done, plain, nest, branch, FuncType, GlobalDef, Segment, Module}
-use Rattle.definition_check.specs.Running.{Answer, valid, invalid}
-use Rattle.definition_check.specs.Laws.{Says}
+use Rattle.wasm_validate.specs.Running.{Answer, valid, invalid}
+use Rattle.wasm_validate.specs.Laws.{Says}
 
 abbrev pub type_of : List ValType → List ValType → FuncType
 type_of params results = record { params = params; results = results }

@@ -2,7 +2,5 @@ pub mod Analysis
 pub mod Beginnings
 pub mod Faults
 pub mod Files
-pub mod Laws
 pub mod Lists
 pub mod Rows
-pub mod Running

@@ -7,9 +7,9 @@ use Rattle.wa_types.specs.Validity.{broken_outside}
 use Rattle.wa_types.specs.FirstFault.{FuncFault}
 use Rattle.wa_types.proofs.TypingLemmas.{less_on}
 use Rattle.wa_types.proofs.FaultLemmas.{all_hold_valid}
-use Rattle.definition_check.specs.Running.{Verdict, fine, fault, body_verdict, Answer, valid, invalid, func_answer, funcs_answer, outside_answer, module_answer}
-use Rattle.definition_check.specs.Laws.{Says}
-use Rattle.definition_check.proofs.Right.{passes_typed, fails_fault}
+use Rattle.wasm_validate.specs.Running.{Verdict, fine, fault, body_verdict, Answer, valid, invalid, func_answer, funcs_answer, outside_answer, module_answer}
+use Rattle.wasm_validate.specs.Laws.{Says}
+use Rattle.wasm_validate.proofs.Right.{passes_typed, fails_fault}
 
 -- the functions before this one are typed
 abbrev Before : Module → ℕ → Type 0

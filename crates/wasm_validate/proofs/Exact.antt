@@ -6,7 +6,7 @@ use Rattle.wa_types.specs.Encoding.{same_type}
 use Rattle.wa_types.specs.Typing.{Sig, moves, leaves, drops, selects, lacks, late, Takes}
 use Rattle.wa_types.specs.FirstFault.{Meets}
 use Rattle.wa_types.proofs.SigLemmas.{Lawful}
-use Rattle.definition_check.specs.Running.{Is, Fits, may_be, chain, pops, knows, Next, goes, stops, pushed, gone, too_late, dropped, two, selected, next}
+use Rattle.wasm_validate.specs.Running.{Is, Fits, may_be, chain, pops, knows, Next, goes, stops, pushed, gone, too_late, dropped, two, selected, next}
 
 pub same_eq : (t u : ValType) → same_type t u ≡ true → t ≡ u
 same_eq I32 I32 h = refl

@@ -4,7 +4,7 @@ use Rattle.wa_types.specs.Syntax.{Code, Module}
 use Rattle.wa_types.specs.Typing.{Around, Typed}
 use Rattle.wa_types.specs.Validity.{Valid}
 use Rattle.wa_types.specs.FirstFault.{BodyFault, FirstFault}
-use Rattle.definition_check.specs.Running.{fine, fault, body_verdict, Answer, valid, invalid, module_answer}
+use Rattle.wasm_validate.specs.Running.{fine, fault, body_verdict, Answer, valid, invalid, module_answer}
 
 abbrev pub VerdictIsTyping : Type 0
 VerdictIsTyping =

@@ -1,0 +1,9 @@
+pub mod ContextLemmas
+pub mod Decided
+pub mod Exact
+pub mod ExpressionLemmas
+pub mod Lists
+pub mod OutsideLemmas
+pub mod Right
+pub mod SpaceLemmas
+pub mod Trees

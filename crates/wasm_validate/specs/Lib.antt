@@ -1,0 +1,7 @@
+pub mod Judging
+pub mod Laws
+pub mod Outside
+pub mod Running
+pub mod Spaces
+pub mod Stack
+pub mod Table
