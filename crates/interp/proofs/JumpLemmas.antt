@@ -1,6 +1,5 @@
 -- A branch, label by label.
-use Rattle.std.proofs.Common.{arith, ◌≡◌, ℕ, zero, suc, ◌+◌, ◌-◌, ◌≤◌, List, [], ◌∷◌, ◌++◌, map, reverse, take, Bool, Option, refl, ap, sym, ◌∙◌}
-use Rattle.wa_types.specs.declared.instrs.Instr.{Instr}
+use Rattle.std.proofs.Common.{arith, ◌≡◌, ℕ, zero, suc, ◌-◌, ◌≤◌, List, [], ◌∷◌, ◌++◌, map, reverse, take, Bool, refl, ap, sym, ◌∙◌}
 use Rattle.wa_types.specs.declared.values.Value.{Value}
 use Rattle.wa_types.specs.declared.values.Value.TheVariants as V
 use Rattle.wa_types.specs.Syntax.{Module}
@@ -13,7 +12,7 @@ use Rattle.interp.specs.Told.{IsUnpaid}
 use Rattle.interp.specs.declared.activation.Label.{Label}
 use Rattle.interp.specs.declared.activation.Label.TheVariants as L
 use Rattle.interp.specs.View.{count_of, label_of}
-use Rattle.interp.proofs.OperandLemmas.{top_first, keep_is}
+use Rattle.interp.proofs.OperandLemmas.{top_first}
 
 leave_unpaid : (more : ℕ) (s : Store) (ops : List Value) (arity : ℕ) (under : List Activation) (left : ℕ) → left ≤ more → IsUnpaid (leave more s ops arity under) left
 leave_unpaid more s ops arity [] left h = h

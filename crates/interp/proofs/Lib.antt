@@ -6,4 +6,5 @@ pub mod NumberLemmas
 pub mod OperandLemmas
 pub mod ProgramLemmas
 pub mod ReduceLemmas
+pub mod RunLemmas
 pub mod TypeLemmas

@@ -1,17 +1,17 @@
 -- What a load comes to.
-use Rattle.std.proofs.Common.{◌≡◌, ℕ, ◌+◌, ◌*◌, ◌^◌, List, ◌∷◌, Option, Some, Bool, refl, ap, sym, ◌∙◌, subst}
+use Rattle.std.proofs.Common.{◌≡◌, ℕ, ◌+◌, ◌^◌, List, ◌∷◌, Option, Some, Bool, refl, ap, sym, ◌∙◌}
 use Rattle.wa_types.specs.declared.values.ValType.{ValType}
 use Rattle.wa_types.specs.declared.values.ValType.TheVariants.{I32, I64}
 use Rattle.wa_types.specs.declared.values.Value.{Value}
 use Rattle.wa_types.specs.declared.values.Value.TheVariants as V
-use Rattle.wa_types.specs.Accesses.{AccessRow, load_row}
+use Rattle.wa_types.specs.Accesses.{load_row}
 use Rattle.wa_types.specs.Memory.{number_at}
 use Rattle.wa_types.specs.Syntax.{load}
 use Rattle.wa_ops.specs.Loads.{load_value}
 use Rattle.wa_model.specs.Store.{Store, extended, loaded, load_at}
 use Rattle.interp.specs.declared.access.Access.{Access}
 use Rattle.interp.specs.Access.{row_of}
-use Rattle.interp.specs.Effects.{Effect, worked, effect, effect_over}
+use Rattle.interp.specs.Effects.{worked, effect, effect_over}
 
 extended_is : (op natural : ℕ) (ty : ValType) (signed : Bool) (n : ℕ) → extended (record { opcode = op; ty = ty; natural = natural; signed = signed }) n ≡ load_value ty (2 ^ natural) signed n
 extended_is op natural I32 signed n = refl

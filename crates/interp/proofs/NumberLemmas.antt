@@ -1,16 +1,15 @@
 -- The topmost operand as a number, and what stands on it.
-use Rattle.std.proofs.Common.{arith, ◌≡◌, ℕ, ◌-◌, ◌≤◌, List, [], ◌∷◌, ◌++◌, length, reverse, take, drop, slice_get, Option, Some, None, Bool, true, false, if◌then◌else◌, refl, ap, sym, ◌∙◌, subst}
+use Rattle.std.proofs.Common.{◌≡◌, ℕ, ◌-◌, List, [], ◌∷◌, ◌++◌, length, reverse, take, drop, slice_get, Some, true, if◌then◌else◌, refl, ap, sym, ◌∙◌}
 use Rattle.std.proofs.lemmas.List.{nil_from_length}
 use Rattle.wa_types.specs.declared.values.Value.{Value}
 use Rattle.wa_types.specs.declared.values.Value.TheVariants as V
-use Rattle.wa_types.specs.declared.values.Trap.TheVariants.{UndefinedElement, UninitializedElement, TypeMismatch}
-use Rattle.wa_types.specs.Syntax.{call_indirect, Code, Func, Module}
+use Rattle.wa_types.specs.declared.values.Trap.TheVariants.{TypeMismatch}
+use Rattle.wa_types.specs.Syntax.{call_indirect, Code, Module}
 use Rattle.wa_types.specs.Modules.{defined_at, type_at, func_type_at}
 use Rattle.wa_model.specs.Store.{Store}
 use Rattle.wa_model.specs.Configuration.{Label, Activation}
 use Rattle.wa_model.specs.Step.{Next, stuck, traps, with_number, through, invoke, param_count, same_func_type, step_plain}
 use Rattle.interp.specs.Stacks.{HasNumber, LacksNumber}
-use Rattle.interp.specs.Told.{IsUnpaid}
 use Rattle.interp.proofs.OperandLemmas.{last_is, top_first}
 
 first_number : (ops : List Value) (n : ℕ) → slice_get ops 0 ≡ Some (V.I32 n) → ops ≡ V.I32 n ∷ drop 1 ops

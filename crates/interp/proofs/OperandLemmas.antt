@@ -1,14 +1,13 @@
 -- Operands as a list with the topmost first.
-use Rattle.std.proofs.Common.{arith, ◌≡◌, ℕ, zero, suc, ◌+◌, ◌-◌, ◌<◌, ◌≤◌, ◌⊎◌, inl, inr, List, [], ◌∷◌, ◌++◌, length, reverse, take, drop, get_or, slice_get, Option, Some, None, Bool, true, false, refl, ap, sym, ◌∙◌}
+use Rattle.std.proofs.Common.{arith, ◌≡◌, ℕ, zero, suc, ◌+◌, ◌-◌, ◌<◌, ◌≤◌, ◌⊎◌, inl, inr, List, [], ◌∷◌, ◌++◌, length, reverse, take, drop, get_or, slice_get, Some, None, refl, ap, sym, ◌∙◌}
 use Rattle.std.proofs.lemmas.Bool.{cases_lt}
-use Rattle.std.proofs.lemmas.List.{reverse-append, length-reverse, reverse-reverse, take-append-drop, length-take-le, length-drop, take_at, drop_at, take_all, drop_all, nil_from_length, get_or-reverse, take_more}
+use Rattle.std.proofs.lemmas.List.{reverse-append, length-reverse, take-append-drop, length-drop, take_at, drop_at, take_all, drop_all, nil_from_length, get_or-reverse, take_more}
 use Rattle.std.proofs.lemmas.Option.{slice_get-get_or, slice_get_within, get_or_from_slice_get}
 use Rattle.std.proofs.Math.Seq.{take-length}
 use Rattle.wa_types.specs.declared.values.Value.{Value}
 use Rattle.wa_types.specs.declared.values.Value.TheVariants as V
 use Rattle.wa_model.specs.Step.{keep}
 use Rattle.wa_model.specs.Blocking.{value_of_results}
-use Rattle.interp.specs.View.{count_of}
 
 pub top_first : {A : Type 0} → (xs ys : List A) (v : A) → xs ≡ ys ++ v ∷ [] → reverse xs ≡ v ∷ reverse ys
 top_first xs ys v e = ap reverse e ∙ reverse-append ys (v ∷ [])
@@ -128,3 +127,12 @@ last_split xs ys x ey ex =
 pub none_last : {A : Type 0} → (xs : List A) → slice_get xs (length xs - 1) ≡ None → xs ≡ []
 none_last [] e = refl
 none_last (x ∷ xs) e = let h : length (x ∷ xs) - 1 < length (x ∷ xs) = omega arith in cc (slice_get-get_or (x ∷ xs) (length (x ∷ xs) - 1) x h)
+
+-- an answer in place of what a call took
+pub answered_with : (xs : List Value) (taken : ℕ) (v : Value) (ys zs : List Value) → ys ≡ take (length xs - taken) xs → zs ≡ ys ++ v ∷ [] → reverse zs ≡ v ∷ drop taken (reverse xs)
+answered_with xs taken v ys zs ey ez = top_first zs ys v ez ∙ ap (λ w. v ∷ w) (ap reverse ey ∙ sym (rest_reversed taken xs))
+
+pub answered_without : (xs : List Value) (taken : ℕ) (ys : List Value) → ys ≡ take (length xs - taken) xs → reverse ys ≡ drop taken (reverse xs)
+answered_without xs taken ys ey = ap reverse ey ∙ sym (rest_reversed taken xs)
+
+pub ruleset answering = (answered_with, answered_without)

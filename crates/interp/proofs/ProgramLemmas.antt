@@ -1,12 +1,11 @@
 -- What a module has under an index.
-use Rattle.std.proofs.Common.{arith, ◌≡◌, ℕ, suc, ◌+◌, ◌-◌, ◌<◌, ◌≤◌, List, [], ◌∷◌, length, map, get_or, drop, slice_get, Option, Some, None, Bool, true, false, ◌&&◌, if◌then◌else◌, nat_lt, ltb-false, refl, ap, sym, ◌∙◌, drop-cons}
+use Rattle.std.proofs.Common.{◌≡◌, ℕ, List, map, slice_get, Some, None, ap, ◌∙◌}
 use Rattle.std.specs.Option.{option_map}
 use Rattle.std.proofs.lemmas.Option.{slice_get-map}
 use Rattle.wa_types.specs.declared.syntax.FuncType.{FuncType as FuncTypeValue}
-use Rattle.wa_types.specs.declared.syntax.Func.{Func as FuncValue}
-use Rattle.wa_types.specs.Syntax.{FuncType, Func, Module}
-use Rattle.wa_types.specs.Modules.{func_sorts, func_types, func_imports, or_empty, empty_type, type_at, func_type_at, defined_at}
-use Rattle.wa_types.specs.View.{func_type_of, func_of}
+use Rattle.wa_types.specs.Syntax.{Module}
+use Rattle.wa_types.specs.Modules.{func_sorts, or_empty, empty_type, type_at, func_type_at}
+use Rattle.wa_types.specs.View.{func_type_of}
 
 pub sort_some : (ts : List FuncTypeValue) (x : ℕ) (t : FuncTypeValue) → slice_get ts x ≡ Some t → or_empty (slice_get (map func_type_of ts) x) ≡ func_type_of t
 sort_some ts x t e = ap or_empty (slice_get-map func_type_of ts x ∙ ap (option_map func_type_of) e)

@@ -1,12 +1,12 @@
 -- A reduction by the instruction that stands next.
-use Rattle.std.proofs.Common.{◌≡◌, ℕ, ◌<◌, List, ◌∷◌, map, reverse, take, drop, Option, Result, Ok, Err, IfOk, Vec, Global, Bool, refl, ap, sym, ◌∙◌, subst}
+use Rattle.std.proofs.Common.{◌≡◌, ℕ, ◌<◌, List, ◌∷◌, map, reverse, take, drop, Result, Ok, Err, IfOk, Vec, Global, refl, ap, sym, ◌∙◌, subst}
 use Rattle.wa_types.specs.declared.values.Value.{Value}
 use Rattle.wa_types.specs.declared.instrs.Instr.{Instr}
-use Rattle.wa_types.specs.Syntax.{Basic, Plain, basic, Code, done, plain, Module}
+use Rattle.wa_types.specs.Syntax.{Basic, basic, Code, plain, Module}
 use Rattle.wa_types.specs.View.{in_front, onto, code}
 use Rattle.wa_model.specs.Store.{Store, Did, works, fails, lacks, takes, act}
 use Rattle.wa_model.specs.Configuration.{Label, Activation, Configuration, running}
-use Rattle.wa_model.specs.Step.{Next, steps, traps, stuck, did, memory_max, step_plain, step_at}
+use Rattle.wa_model.specs.Step.{Next, steps, traps, stuck, did, memory_max, step_plain}
 use Rattle.interp.specs.declared.flow.Flow.{Flow}
 use Rattle.interp.specs.declared.flow.Flow.TheVariants.{Moved, Asked, Returned, Trapped, Spent}
 use Rattle.interp.specs.Effects.{Effect, worked, trapped, nothing, effect_over, effect, Shows, Unmoved}
@@ -39,7 +39,7 @@ module _ (m : Module) (s : Store) (fn : ℕ) (under : List Activation) (ls : Lis
       (did_led (drop (takes b) ops) (act (memory_max m) b s (take (takes b) ops)) ∙ ap led h.1 ∙ ap (λ n. traps n trap s) (sym h.0) ∙ ap (traps more trap) (sym (kept tt)), subst (λ n. n < left) (sym h.0) paid)
   shows_tells b ops ops' s' Spent left paid kept h =
       (subst (λ x. IsUnpaid x left) (sym (did_led (drop (takes b) ops) (act (memory_max m) b s (take (takes b) ops)) ∙ ap led h)) tt, kept tt)
-  shows_tells b ops ops' s' (Asked more import taken) left paid kept h = absurd h
+  shows_tells b ops ops' s' (Asked more import own taken) left paid kept h = absurd h
   shows_tells b ops ops' s' (Returned more value) left paid kept h = absurd h
 
 -- the stack with other operands

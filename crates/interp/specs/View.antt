@@ -1,6 +1,5 @@
 -- The configuration that the interpreter's values stand for.
-use Rattle.std.specs.Prelude.{ℕ, List, [], ◌∷◌, map, reverse, take, drop, Bool, true, false, Option, Some, None}
-use Rattle.wa_types.specs.declared.values.Value.{Value}
+use Rattle.std.specs.Prelude.{ℕ, List, map, reverse, take, drop, Bool, true, false, Option, Some, None}
 use Rattle.std.specs.Borrow.{Bor}
 use Rattle.wa_types.specs.declared.instrs.Instr.{Instr}
 use Rattle.wa_types.specs.View.{code}
@@ -11,7 +10,6 @@ use Rattle.wa_model.specs.Configuration.{Configuration, block_label, loop_label,
 use Rattle.interp.specs.declared.store.Store as S
 use Rattle.interp.specs.declared.activation.Label as L
 use Rattle.interp.specs.declared.activation.Label.TheVariants as LV
-use Rattle.interp.specs.declared.activation.Activation.{Activation}
 use Rattle.interp.specs.declared.activation.Waiting.{Waiting}
 use Rattle.interp.specs.declared.activation.Stack.{Stack}
 

@@ -70,6 +70,7 @@ fn invoke<'m>(
             return Ok(Flow::Asked {
                 more,
                 import: func,
+                own,
                 taken,
             });
         }

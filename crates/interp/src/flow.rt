@@ -7,10 +7,11 @@ pub enum Flow {
     Moved {
         more: u64,
     },
-    /// It called an imported function and took so many operands.
+    /// It called an imported function. It took `own` operands itself, and `taken` with the arguments.
     Asked {
         more: u64,
         import: u32,
+        own: usize,
         taken: usize,
     },
     /// The outermost activation returned.

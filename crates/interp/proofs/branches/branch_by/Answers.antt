@@ -1,9 +1,7 @@
 use Rattle.std.proofs.Common.{arith, ◌≡◌, ◌+◌, ◌≤◌, length, map, reverse, refl, slice_get, unwrap_or, ap, sym, ◌∙◌, subst}
 use Rattle.std.proofs.lemmas.Result.{IfOk-weaker}
-use Rattle.wa_types.specs.Syntax.{br_table}
 use Rattle.wa_types.specs.View.{module_of}
 use Rattle.wa_model.specs.Step.{jump, with_number}
-use Rattle.interp.specs.Stacks.{jump_of, plain_of}
 use Rattle.interp.specs.Told.{Tells}
 use Rattle.interp.specs.View.{label_of, waiting_of, running_of}
 use Rattle.interp.proofs.JumpLemmas.{table_unpaid}

@@ -1,12 +1,12 @@
-use Rattle.std.proofs.Common.{arith, ◌≡◌, ◌+◌, ◌<◌, [], ◌∷◌, ◌++◌, length, map, reverse, take, drop, List, ap, sym, ◌∙◌, subst}
+use Rattle.std.proofs.Common.{arith, ◌≡◌, ◌+◌, ◌-◌, ◌<◌, [], ◌∷◌, ◌++◌, length, map, reverse, take, drop, List, ap, sym, ◌∙◌, subst}
 use Rattle.std.proofs.lemmas.List.{length-reverse, length-map}
 use Rattle.wa_types.specs.Modules.{declared_locals}
 use Rattle.wa_types.specs.View.{code, func_of, module_of}
 use Rattle.wa_model.specs.Configuration as C
 use Rattle.wa_model.specs.Configuration.{Configuration, running, waiting}
-use Rattle.wa_model.specs.Step.{steps, zero_of}
+use Rattle.wa_model.specs.Step.{steps, asks, zero_of}
 use Rattle.interp.specs.declared.activation.Activation.{Activation}
-use Rattle.interp.specs.View.{label_of, waiting_of, running_of}
+use Rattle.interp.specs.View.{label_of, waiting_of, running_of, taking}
 use Rattle.interp.proofs.OperandLemmas.{top_first}
 use Rattle.interp.proofs.CallLemmas.{asked_at, entered_at}
 use Rattle.interp.proofs.calls.invoke.Goals as goal
@@ -17,10 +17,8 @@ returns-then-func-program c =
     let k = c.args.stack.now in
     let ops = reverse k.here.operands.items in
     λ s. (
-      record {
-        args = reverse (take c.args.params (drop c.args.own ops));
-        next_is = asked_at m s k.here.func (map waiting_of (reverse k.under.items)) k.here.locals.items ops (code k.here.code.now) (map label_of (reverse k.here.labels.items)) c.args.own c.args.params c.args.func c.in_default.ensures (subst (λ i. c.args.func < i) c.args.program.now.imports_are c.if-func-program.true);
-      },
+      asked_at m s k.here.func (map waiting_of (reverse k.under.items)) k.here.locals.items ops (code k.here.code.now) (map label_of (reverse k.here.labels.items)) c.args.own c.args.params c.args.func c.in_default.ensures (subst (λ i. c.args.func < i) c.args.program.now.imports_are c.if-func-program.true)
+          ∙ ap (λ p. asks c.args.params c.args.func (reverse (take p (drop c.args.own ops))) (taking (c.args.own + c.args.params) (running_of s k))) (let e : c.args.params ≡ c.args.own + c.args.params - c.args.own = omega arith in e),
       omega arith,
     )
 

@@ -1,6 +1,5 @@
-use Rattle.std.proofs.Common.{arith, ◌≡◌, ◌+◌, ◌-◌, ◌++◌, length, take, get_or, replicate, ap, ◌∙◌, sym, refl}
+use Rattle.std.proofs.Common.{◌≡◌, ◌+◌, ◌-◌, ◌++◌, length, take, get_or, replicate, ap, ◌∙◌}
 use Rattle.wa_types.specs.declared.values.ValType.TheVariants.{I32}
-use Rattle.wa_types.specs.declared.values.Value.{Value}
 use Rattle.wa_types.specs.declared.syntax.Run.{Run}
 use Rattle.std.proofs.lemmas.List.{get_or_default}
 use Rattle.interp.proofs.CallLemmas.{locals_more}

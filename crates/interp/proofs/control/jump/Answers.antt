@@ -1,5 +1,4 @@
-use Rattle.std.proofs.Common.{arith, ◌≡◌, ◌-◌, [], length, map, reverse, take, slice_get, refl, ap, sym, ◌∙◌, Some, subst}
-use Rattle.std.proofs.lemmas.List.{nil_from_length}
+use Rattle.std.proofs.Common.{◌≡◌, ◌-◌, length, map, reverse, take, slice_get, refl, ap, sym, ◌∙◌, subst}
 use Rattle.wa_types.specs.View.{module_of}
 use Rattle.std.proofs.lemmas.Result.{IfOk-weaker}
 use Rattle.wa_model.specs.Step.{leave}

@@ -1,14 +1,13 @@
-use Rattle.std.proofs.Common.{◌≡◌, ap, sym, ◌∙◌, refl, map, reverse, subst}
+use Rattle.std.proofs.Common.{ap, sym, ◌∙◌, refl, map, reverse, subst}
 use Rattle.std.proofs.lemmas.Result.{IfOk-weaker}
 use Rattle.wa_types.specs.declared.values.Trap.TheVariants as T
 use Rattle.wa_types.specs.declared.instrs.Instr.TheVariants.{Unreachable, Nop, Drop, Select, Return, MemorySize, MemoryGrow, Const, Num, Br, BrIf, BrTable, Call, CallIndirect, LocalGet, LocalSet, LocalTee, GlobalGet, GlobalSet, Load, Store, Block, Loop, If}
-use Rattle.wa_types.specs.Syntax.{nop, drop as drop_operand, select, const, num, global_get, global_set, load, store, memory_size, memory_grow, basic, local_get, local_set, local_tee, br, br_if, br_table, return, unreachable, call, call_indirect, plain, nest, branch, a_block, a_loop}
+use Rattle.wa_types.specs.Syntax.{nop, drop as drop_operand, select, const, num, global_get, global_set, load, store, memory_size, memory_grow, local_get, local_set, local_tee, br, br_if, br_table, return, unreachable, call, call_indirect, plain, nest, branch, a_block, a_loop}
 use Rattle.wa_types.specs.View.{code, module_of}
 use Rattle.wa_types.proofs.ViewLemmas.{in_block, in_loop, in_if, in_br_table}
 use Rattle.wa_model.specs.Step.{memory_max, leave}
 use Rattle.interp.specs.declared.flow.Flow.TheVariants.{Moved, Trapped}
 use Rattle.interp.specs.Effects.{Shows, effect}
-use Rattle.interp.specs.Stacks.{code_of}
 use Rattle.interp.specs.Told.{Tells}
 use Rattle.interp.specs.View.{store_of, running_of, waiting_of}
 use Rattle.interp.proofs.Fronts.{front_unreachable, front_nop, front_drop, front_select, front_return, front_size, front_grow, front_const, front_num, front_br, front_br_if, front_call, front_indirect, front_local_get, front_local_set, front_local_tee, front_global_get, front_global_set, front_load, front_store}
