@@ -2,6 +2,7 @@ pub mod CallLemmas
 pub mod Fronts
 pub mod JumpLemmas
 pub mod LoadLemmas
+pub mod MakeLemmas
 pub mod NumberLemmas
 pub mod OperandLemmas
 pub mod ProgramLemmas

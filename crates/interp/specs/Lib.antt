@@ -1,8 +1,10 @@
 pub mod Access
 pub mod Effects
 pub mod Stacks
+pub mod Faults
 pub mod Host
 pub mod Instance
+pub mod Making
 pub mod Runs
 pub mod Told
 pub mod View

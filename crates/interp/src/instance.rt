@@ -1,17 +1,20 @@
-ghost use Rattle.std.specs.Prelude.{◌≡◌, ◌<◌, ◌≤◌, ◌+◌, ◌-◌, ◌^◌, ◌++◌, IfOk, nat_lt, length, drop, reverse};
+ghost use Rattle.std.specs.Prelude.{◌≡◌, ◌<◌, ◌≤◌, ◌+◌, ◌-◌, ◌^◌, ◌++◌, IfOk, IfErr, nat_lt, length, drop, reverse};
 ghost use Rattle.std.specs.Option.{option_copied, option_to_list};
 ghost use Rattle.wa_types.specs.Modules.{all_memories};
 ghost use Rattle.wa_types.specs.View.{module_of};
 ghost use Rattle.wa_model.specs.Step.{memory_max};
 
 use crate::go_on::{call_from_outside, go_on};
-use crate::program::Program;
+use crate::make::{MakeFault, open};
+use crate::program::{Program, make_program};
 use crate::run::Steps;
+use crate::spaces::all_memories;
 use crate::store::Store;
 use crate::turns::{Turn, Wait};
-use std::alloc::AllocError;
+use std::alloc::{AllocError, Global};
 use std::mem;
 use wa_types::Value;
+use wasm_validate::Valid;
 
 /// An instance of a module: its store, and what waits for an import's answer.
 #[derive(Drop)]
@@ -26,7 +29,32 @@ pub struct Instance<'m> {
 
 impl<'m> Instance<'m> {
     ghost use Rattle.interp.specs.Instance.{Calls, Resumes, nothing, waits_of};
+    ghost use Rattle.interp.specs.Faults.{FailsAs};
+    ghost use Rattle.wa_model.specs.Instantiation.{opening, opens};
     ghost use Rattle.interp.specs.Host.{code_in, store_in, waits_in, memory_of, CallsAside, Pokes};
+
+    /// An instance of a module whose imported globals have these values, before its start function runs.
+    pub fn make(
+        alloc: Global,
+        valid: &'m Valid,
+        globals: &[Value],
+    ) -> Result<Instance<'m>, MakeFault>
+        ensures code { IfOk result (λ i. code_in i ≡ module_of valid.now) }
+        ensures store { IfOk result (λ i. opening (module_of valid.now) globals.now ≡ opens (store_in i)) }
+        ensures waits { IfOk result (λ i. waits_in i ≡ nothing) }
+        ensures err { IfErr result (FailsAs (opening (module_of valid.now) globals.now)) }
+    {
+        let source = valid.module();
+        let store = open(alloc, source, globals)?;
+        let has_memory = all_memories(alloc, source)?.len() > 0;
+        let program = make_program(alloc, source)?;
+        Ok(Instance {
+            program,
+            store,
+            has_memory,
+            wait: Wait::Nothing,
+        })
+    }
 
     /// Calls a function on an empty stack, in place of what waits. It goes on to the first return, trap or call of an
     /// import, or up to a reduction that costs more than is left.

@@ -1,9 +1,10 @@
-ghost use Rattle.std.specs.Prelude.{◌≡◌, ◌<◌, ◌^◌, Some, None, MatchOption, length};
+ghost use Rattle.std.specs.Prelude.{◌≡◌, ◌<◌, ◌^◌, Some, None, IfOk, MatchOption, length};
 ghost use Rattle.wa_types.specs.Modules.{func_sorts, func_imports, empty_type, type_at, func_type_at, defined_at};
 ghost use Rattle.wa_types.specs.View.{func_type_of, func_of, module_of};
 ghost use Rattle.wa_model.specs.Step.{result_count, same_types, same_func_type};
 
-use std::alloc::Global;
+use crate::spaces::{all_sorts, imported_sorts};
+use std::alloc::{AllocError, Global};
 use wa_types::{Func, FuncType, Module, ValType};
 
 /// A module with what is looked up at calls: the index of each function's type, imports first, and how many functions are
@@ -89,6 +90,20 @@ impl<'m> Program<'m> {
             (None, None) => true,
         }
     }
+}
+
+/// What is looked up in a module.
+pub fn make_program<'m>(alloc: Global, source: &'m Module) -> Result<Program<'m>, AllocError>
+    ensures { IfOk result (λ p. p.source.now ≡ source.now) }
+{
+    let sorts = all_sorts(alloc, source)?;
+    let imports = imported_sorts(alloc, source)?.len();
+    Ok(Program {
+        alloc,
+        source,
+        sorts,
+        imports,
+    })
 }
 
 /// Whether two lists of types are the same.

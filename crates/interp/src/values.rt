@@ -4,8 +4,8 @@ ghost use Rattle.wa_model.specs.Store.{value_at};
 use wa_types::Value;
 
 /// The value of this index; one that isn't there counts as zero.
-pub fn value_at(values: &Vec<Value>, x: u32) -> Value
-    ensures { result ≡ value_at values.now.items x }
+pub fn value_at(values: &[Value], x: u32) -> Value
+    ensures { result ≡ value_at values.now x }
 {
     match values.get(x as usize) {
         Some(v) => *v,
