@@ -13,7 +13,7 @@ use crate::store::Store;
 use crate::turns::{Turn, Wait};
 use std::alloc::{AllocError, Global};
 use std::mem;
-use wa_types::Value;
+use wa_types::{Module, Value};
 use wasm_validate::Valid;
 
 /// An instance of a module: its store, and what waits for an import's answer.
@@ -44,7 +44,18 @@ impl<'m> Instance<'m> {
         ensures waits { IfOk result (λ i. waits_in i ≡ nothing) }
         ensures err { IfErr result (FailsAs (opening (module_of valid.now) globals.now)) }
     {
-        let source = valid.module();
+        Instance::of(alloc, valid.module(), globals)
+    }
+
+    /// The same, of a module that may be invalid.
+    fn of(alloc: Global, source: &'m Module, globals: &[Value]) -> Result<Instance<'m>, MakeFault>
+        requires elems { length source.now.elems.items < 2 ^ 32 }
+        requires segments { length source.now.segments.items < 2 ^ 32 }
+        ensures code { IfOk result (λ i. code_in i ≡ module_of source.now) }
+        ensures store { IfOk result (λ i. opening (module_of source.now) globals.now ≡ opens (store_in i)) }
+        ensures waits { IfOk result (λ i. waits_in i ≡ nothing) }
+        ensures err { IfErr result (FailsAs (opening (module_of source.now) globals.now)) }
+    {
         let store = open(alloc, source, globals)?;
         let has_memory = all_memories(alloc, source)?.len() > 0;
         let program = make_program(alloc, source)?;
@@ -156,3 +167,6 @@ fn answer(operands: &mut Vec<Value>, taken: usize, value: Option<Value>) -> Resu
         None => Ok(()),
     }
 }
+
+#[cfg(test)]
+mod tests;
