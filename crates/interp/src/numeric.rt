@@ -17,14 +17,14 @@ pub fn numeric(op: NumOp, operands: &mut Vec<Value>) -> Result<Flow, AllocError>
     ensures { IfOk result (λ f. (most : Option ℕ) (s : Store) → Shows (effect most (num op) s (reverse operands.old.items)) f s (reverse operands.new.items)) }
 {
     match OperatorClass::of(op) {
-        OperatorClass::Unary => on_one(op, operands),
-        OperatorClass::Conversion => on_other(op, operands),
-        OperatorClass::Comparison => on_two(op, operands),
-        OperatorClass::Binary => on_pair(op, operands),
+        OperatorClass::Unary => apply_unary(op, operands),
+        OperatorClass::Conversion => apply_conversion(op, operands),
+        OperatorClass::Comparison => apply_comparison(op, operands),
+        OperatorClass::Binary => apply_binary(op, operands),
     }
 }
 
-fn on_one(op: NumOp, operands: &mut Vec<Value>) -> Result<Flow, AllocError>
+fn apply_unary(op: NumOp, operands: &mut Vec<Value>) -> Result<Flow, AllocError>
     requires class { class_of op ≡ Unary }
     ensures { IfOk result (λ f. (most : Option ℕ) (s : Store) → Shows (effect most (num op) s (reverse operands.old.items)) f s (reverse operands.new.items)) }
 {
@@ -38,7 +38,7 @@ fn on_one(op: NumOp, operands: &mut Vec<Value>) -> Result<Flow, AllocError>
     Ok(Flow::Moved { more: 0 })
 }
 
-fn on_other(op: NumOp, operands: &mut Vec<Value>) -> Result<Flow, AllocError>
+fn apply_conversion(op: NumOp, operands: &mut Vec<Value>) -> Result<Flow, AllocError>
     requires class { class_of op ≡ Conversion }
     ensures { IfOk result (λ f. (most : Option ℕ) (s : Store) → Shows (effect most (num op) s (reverse operands.old.items)) f s (reverse operands.new.items)) }
 {
@@ -52,7 +52,7 @@ fn on_other(op: NumOp, operands: &mut Vec<Value>) -> Result<Flow, AllocError>
     Ok(Flow::Moved { more: 0 })
 }
 
-fn on_two(op: NumOp, operands: &mut Vec<Value>) -> Result<Flow, AllocError>
+fn apply_comparison(op: NumOp, operands: &mut Vec<Value>) -> Result<Flow, AllocError>
     requires class { class_of op ≡ Comparison }
     ensures { IfOk result (λ f. (most : Option ℕ) (s : Store) → Shows (effect most (num op) s (reverse operands.old.items)) f s (reverse operands.new.items)) }
 {
@@ -70,7 +70,7 @@ fn on_two(op: NumOp, operands: &mut Vec<Value>) -> Result<Flow, AllocError>
     Ok(Flow::Moved { more: 0 })
 }
 
-fn on_pair(op: NumOp, operands: &mut Vec<Value>) -> Result<Flow, AllocError>
+fn apply_binary(op: NumOp, operands: &mut Vec<Value>) -> Result<Flow, AllocError>
     requires class { class_of op ≡ Binary }
     ensures { IfOk result (λ f. (most : Option ℕ) (s : Store) → Shows (effect most (num op) s (reverse operands.old.items)) f s (reverse operands.new.items)) }
 {
