@@ -11,7 +11,10 @@ use Rattle.wa_types.specs.Modules.{declared_locals, defined_at, func_imports}
 use Rattle.wa_model.specs.Store.{Store}
 use Rattle.wa_model.specs.Configuration.{Label, Activation, running, waiting}
 use Rattle.wa_model.specs.Step.{steps, asks, traps, stuck, entered, invoke, zero_of}
-use Rattle.interp.specs.View.{taking}
+use Rattle.wa_types.specs.View.{code}
+use Rattle.interp.specs.declared.activation.Activation.{Activation as Entered}
+use Rattle.interp.specs.Stacks.{IsEntered}
+use Rattle.interp.specs.View.{taking, label_of}
 use Rattle.interp.proofs.OperandLemmas.{first_reversed, rest_reversed}
 
 -- the operands between two places
@@ -79,3 +82,12 @@ module _ (m : Module) (s : Store) (fn : ℕ) (under : List Activation) (ls ops :
       ∙ ap (λ b. if b then steps params (entered s (waiting fn ls (drop params (drop own ops)) (take own ops ++ take params (drop own ops)) rest labels ∷ under) args x f) else traps params StackExhausted s) (lt-ltb (length under + 1) 4096 h)
       ∙ ap (λ w. steps params (entered s (w ∷ under) args x f)) waits_at
       ∙ ap (λ v. steps params (running s x (waiting fn ls (drop (own + params) ops) (take (own + params) ops) rest labels ∷ under) v [] f.body [])) (sym el)
+
+-- an activation that has just been entered, above others
+pub entered_runs : (s : Store) (a : Entered) (x : ℕ) (args : List Value) (f : Func) (under : List Activation) → IsEntered a x args f → running s a.func under a.locals.items (reverse a.operands.items) (code a.code.now) (map label_of (reverse a.labels.items)) ≡ entered s under args x f
+entered_runs s a x args f under e =
+    ap (λ v. running s v under a.locals.items (reverse a.operands.items) (code a.code.now) (map label_of (reverse a.labels.items))) e.func_is
+    ∙ ap (λ v. running s x under v (reverse a.operands.items) (code a.code.now) (map label_of (reverse a.labels.items))) e.locals
+    ∙ ap (λ v. running s x under (args ++ map zero_of (declared_locals f.locals)) (reverse v) (code a.code.now) (map label_of (reverse a.labels.items))) e.operands
+    ∙ ap (λ v. running s x under (args ++ map zero_of (declared_locals f.locals)) [] v (map label_of (reverse a.labels.items))) e.code_is
+    ∙ ap (λ v. running s x under (args ++ map zero_of (declared_locals f.locals)) [] f.body (map label_of (reverse v))) e.labels

@@ -1,12 +1,13 @@
 -- What control does to the innermost activation of a stack.
-use Rattle.std.specs.Prelude.{◌≡◌, ℕ, List, ◌∷◌, map, reverse, take, drop}
+use Rattle.std.specs.Prelude.{◌≡◌, ℕ, List, [], ◌∷◌, ◌++◌, map, reverse, take, drop}
 use Rattle.wa_types.specs.declared.values.Value.{Value}
 use Rattle.wa_types.specs.declared.values.Value.TheVariants as V
-use Rattle.wa_types.specs.Syntax.{Module, Plain, Code}
-use Rattle.wa_types.specs.Modules.{defined_at}
+use Rattle.wa_types.specs.Syntax.{Func, Module, Plain, Code}
+use Rattle.wa_types.specs.Modules.{declared_locals, defined_at}
 use Rattle.wa_types.specs.View.{code}
 use Rattle.wa_model.specs.Store.{Store}
-use Rattle.wa_model.specs.Step.{Next, jump, finish, leave, stuck, invoke, with_number, step_plain, step_at}
+use Rattle.wa_model.specs.Step.{Next, zero_of, jump, finish, leave, stuck, invoke, with_number, step_plain, step_at}
+use Rattle.interp.specs.declared.activation.Activation.{Activation}
 use Rattle.interp.specs.declared.activation.Stack.{Stack}
 use Rattle.interp.specs.View.{label_of, waiting_of}
 
@@ -48,3 +49,11 @@ pub record HasNumber (ops : List Value) (n : ℕ) : Type 0 where
 -- none does
 pub record LacksNumber (ops : List Value) : Type 0 where
   pub is : (on : ℕ → List Value → Next) → with_number ops on ≡ stuck
+
+-- an activation of this function that has just been entered
+pub record IsEntered (a : Activation) (func : ℕ) (args : List Value) (f : Func) : Type 0 where
+  pub func_is : a.func ≡ func
+  pub locals : a.locals.items ≡ args ++ map zero_of (declared_locals f.locals)
+  pub operands : a.operands.items ≡ []
+  pub code_is : code a.code.now ≡ f.body
+  pub labels : a.labels.items ≡ []

@@ -1,10 +1,10 @@
 ghost use Rattle.std.specs.Prelude.{◌≡◌, ◌<◌, ◌+◌, ◌^◌, ◌++◌, ℕ, IfOk, MatchOption, map, slice_get, reverse, take, drop};
 ghost use Rattle.wa_types.specs.Modules.{declared_locals};
 ghost use Rattle.wa_types.specs.Syntax.{call, call_indirect};
-ghost use Rattle.wa_types.specs.View.{module_of};
+ghost use Rattle.wa_types.specs.View.{func_of, module_of};
 ghost use Rattle.wa_model.specs.Store.{Store};
 ghost use Rattle.wa_model.specs.Step.{zero_of};
-ghost use Rattle.interp.specs.Stacks.{HasNumber, LacksNumber, invoke_of, plain_of};
+ghost use Rattle.interp.specs.Stacks.{IsEntered, HasNumber, LacksNumber, invoke_of, plain_of};
 ghost use Rattle.interp.specs.Told.{Tells};
 ghost use Rattle.interp.specs.View.{running_of, store_of};
 
@@ -13,13 +13,13 @@ use crate::flow::Flow;
 use crate::program::Program;
 use std::alloc::{AllocError, Global};
 use std::mem;
-use wa_types::{Run, Trap, ValType, Value};
+use wa_types::{Func, Run, Trap, ValType, Value};
 
 /// How many activations there may be.
 const MOST_ACTIVATIONS: usize = 4_096;
 
 /// The locals of a new activation: its arguments, and zeros (standard, section 4.4.7.1).
-pub fn make_locals(alloc: Global, args: &[Value], runs: &[Run]) -> Result<Vec<Value>, AllocError>
+fn make_locals(alloc: Global, args: &[Value], runs: &[Run]) -> Result<Vec<Value>, AllocError>
     ensures { IfOk result (λ v. v.items ≡ args.now ++ map zero_of (declared_locals runs.now)) }
 {
     let mut locals = Vec::from_slice(alloc, args)?;
@@ -27,6 +27,24 @@ pub fn make_locals(alloc: Global, args: &[Value], runs: &[Run]) -> Result<Vec<Va
         locals.resize(locals.len() + run.count as usize, zero(run.ty))?;
     }
     Ok(locals)
+}
+
+/// A new activation of a function, with these arguments (standard, section 4.4.7.1).
+pub fn enter<'m>(
+    alloc: Global,
+    func: u32,
+    callee: &'m Func,
+    args: &[Value],
+) -> Result<Activation<'m>, AllocError>
+    ensures { IfOk result (λ a. IsEntered a func args.now (func_of callee.now)) }
+{
+    Ok(Activation {
+        func,
+        locals: make_locals(alloc, args, &callee.locals)?,
+        operands: Vec::new(alloc),
+        code: callee.body.as_slice(),
+        labels: Vec::new(alloc),
+    })
 }
 
 /// The zero of a type.
@@ -81,14 +99,7 @@ fn invoke<'m>(
         return Ok(Flow::Trapped { more, trap });
     }
     let args = args_of(&stack.here.operands, own, params);
-    let locals = make_locals(program.alloc, args, &callee.locals)?;
-    let entered = Activation {
-        func,
-        locals,
-        operands: Vec::new(program.alloc),
-        code: callee.body.as_slice(),
-        labels: Vec::new(program.alloc),
-    };
+    let entered = enter(program.alloc, func, callee, args)?;
     let caller = mem::replace(&mut stack.here, entered);
     stack.under.push(Waiting {
         activation: caller,

@@ -4,8 +4,8 @@ ghost use Rattle.wa_model.specs.Step.{memory_max};
 ghost use Rattle.interp.specs.Instance.{Calls, Turns, waits_of};
 ghost use Rattle.interp.specs.View.{store_of, running_of};
 
-use crate::activation::{Activation, Stack};
-use crate::calls::{args_of, make_locals};
+use crate::activation::Stack;
+use crate::calls::{args_of, enter};
 use crate::program::Program;
 use crate::run::{Steps, Stop, pay, run};
 use crate::store::Store;
@@ -65,14 +65,7 @@ pub fn call_from_outside<'m>(
         pay(steps, more);
         return Ok((Turn::Waiting(Call { import: func, args }), Wait::Outermost));
     };
-    let locals = make_locals(program.alloc, args, &callee.locals)?;
-    let here = Activation {
-        func,
-        locals,
-        operands: Vec::new(program.alloc),
-        code: callee.body.as_slice(),
-        labels: Vec::new(program.alloc),
-    };
+    let here = enter(program.alloc, func, callee, args)?;
     let under = Vec::new(program.alloc);
     pay(steps, more);
     go_on(program, store, Stack { here, under }, steps)

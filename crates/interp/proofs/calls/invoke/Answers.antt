@@ -8,7 +8,7 @@ use Rattle.wa_model.specs.Step.{steps, asks, zero_of}
 use Rattle.interp.specs.declared.activation.Activation.{Activation}
 use Rattle.interp.specs.View.{label_of, waiting_of, running_of, taking}
 use Rattle.interp.proofs.OperandLemmas.{top_first}
-use Rattle.interp.proofs.CallLemmas.{asked_at, entered_at}
+use Rattle.interp.proofs.CallLemmas.{asked_at, entered_at, entered_runs}
 use Rattle.interp.proofs.calls.invoke.Goals as goal
 
 pub returns-then-func-program : goal.returns-then-func-program
@@ -33,10 +33,11 @@ returns c =
     let f = func_of c.in-Some.callee.now in
     let n = c.args.own + c.args.params in
     let w = waiting k.here.func k.here.locals.items (drop n ops) (take n ops) rest labels in
-    let ls = c.in_ok-locals.locals.items in
+    let args = c.args_of-args.result.now in
+    let ls = args ++ map zero_of (declared_locals f.locals) in
     let size = k.under.ok.0 in
     let room : length under + 1 < 4096 = omega (arith, length-map (reverse k.under.items) waiting_of, length-reverse k.under.items) in
-    let locals = c.in_ok-locals.ensures ∙ ap (λ r. c.args_of-args.result.now ++ map zero_of (declared_locals r)) c.deref.ensures.value ∙ ap (λ v. v ++ map zero_of (declared_locals f.locals)) c.args_of-args.ensures in
+    let locals = ap (λ v. v ++ map zero_of (declared_locals f.locals)) c.args_of-args.ensures in
     let pushed = top_first c.push.new.self.items k.under.items _ c.in_ok-push.ensures.items in
     λ s.
     let here : Activation → List C.Activation → Configuration = λ h u. running s h.func u h.locals.items (reverse h.operands.items) (code h.code.now) (map label_of (reverse h.labels.items)) in
@@ -44,10 +45,8 @@ returns c =
     ap (λ u. here c.replace-caller.new.dest (map waiting_of u)) pushed
     ∙ ap (λ a. here c.replace-caller.new.dest (waiting_of (record { activation = a; taken = n }) ∷ under)) c.replace-caller.ensures.value
     ∙ ap (λ h. here h (w ∷ under)) c.replace-caller.ensures.after
-    ∙ ap (λ v. running s c.args.func (w ∷ under) ls (reverse v) (code c.as_slice.result.now) (map label_of (reverse c.new-2.result.items))) c.new.ensures.items
-    ∙ ap (λ v. running s c.args.func (w ∷ under) ls [] (code v) (map label_of (reverse c.new-2.result.items))) c.as_slice.ensures.value
-    ∙ ap (λ v. running s c.args.func (w ∷ under) ls [] f.body (map label_of (reverse v))) c.new-2.ensures.items in (
-      entered_at m s k.here.func under k.here.locals.items ops rest labels c.args.own c.args.params c.args.func f c.in_ok-locals.locals.items c.in-Some.ensures room locals
+    ∙ entered_runs s c.in_ok-entered.entered c.args.func args f (w ∷ under) c.in_ok-entered.ensures in (
+      entered_at m s k.here.func under k.here.locals.items ops rest labels c.args.own c.args.params c.args.func f ls c.in-Some.ensures room locals
           ∙ ap (steps c.args.params) (sym after),
       omega arith,
     )

@@ -1,12 +1,13 @@
-use Rattle.std.proofs.Common.{arith, ◌≡◌, suc, ◌+◌, ◌-◌, [], ◌++◌, length, map, reverse, false, nat_le, ap, sym, ◌∙◌, subst}
+use Rattle.std.proofs.Common.{arith, ◌≡◌, suc, ◌+◌, ◌-◌, [], length, map, reverse, false, nat_le, ap, sym, ◌∙◌, subst}
 use Rattle.std.proofs.lemmas.Bool.{lt-leb}
 use Rattle.std.proofs.lemmas.Result.{IfOk-weaker}
-use Rattle.wa_types.specs.Modules.{declared_locals, defined_at}
+use Rattle.wa_types.specs.Modules.{defined_at}
 use Rattle.wa_types.specs.View.{code, func_of, module_of}
 use Rattle.wa_model.specs.Configuration.{running}
-use Rattle.wa_model.specs.Step.{entered, zero_of}
+use Rattle.wa_model.specs.Step.{entered}
 use Rattle.interp.specs.Instance.{CallsAs, Turns, waits_of}
 use Rattle.interp.specs.View.{store_of, label_of, waiting_of}
+use Rattle.interp.proofs.CallLemmas.{entered_runs}
 use Rattle.interp.proofs.go_on.call_from_outside.Goals as goal
 
 pub returns-clause-calls : goal.returns-clause-calls
@@ -17,20 +18,16 @@ returns-clause-calls c =
     let x = c.args.func in
     let args = c.args.args.now in
     let f = func_of c.in-Some.callee.now in
-    let ls = c.in_ok-locals.locals.items in
+    let here = c.in_ok-here.here in
     let left = c.args.steps.now.left in
     let used = c.go_on.new.steps.used - c.args.steps.now.used in
     let more = c.go_on.new.steps.used - c.pay-2.new.steps.used in
     let affordable : nat_le left (length args) ≡ false = lt-leb left (length args) (omega arith) in
     let left_is : c.pay-2.new.steps.left ≡ left - suc (length args) = omega (arith, c.pay-2.ensures.left) in
     let cost : used ≡ suc (length args) + more = omega (arith, c.pay-2.ensures.used, c.go_on.ensures.grows) in
-    let locals = c.in_ok-locals.ensures ∙ ap (λ r. args ++ map zero_of (declared_locals r)) c.deref.ensures.value in
-    let entered_is : running s x (map waiting_of (reverse c.new-under.result.items)) ls (reverse c.new.result.items) (code c.as_slice.result.now) (map label_of (reverse c.new-2.result.items)) ≡ entered s [] args x f =
-    ap (λ v. running s x (map waiting_of (reverse v)) ls (reverse c.new.result.items) (code c.as_slice.result.now) (map label_of (reverse c.new-2.result.items))) c.new-under.ensures.items
-    ∙ ap (λ v. running s x [] ls (reverse v) (code c.as_slice.result.now) (map label_of (reverse c.new-2.result.items))) c.new.ensures.items
-    ∙ ap (λ v. running s x [] ls [] (code v) (map label_of (reverse c.new-2.result.items))) c.as_slice.ensures.value
-    ∙ ap (λ v. running s x [] ls [] f.body (map label_of (reverse v))) c.new-2.ensures.items
-    ∙ ap (λ v. running s x [] v [] f.body []) locals in
+    let entered_is =
+    ap (λ v. running s here.func (map waiting_of (reverse v)) here.locals.items (reverse here.operands.items) (code here.code.now) (map label_of (reverse here.labels.items))) c.new-under.ensures.items
+    ∙ entered_runs s here x args f [] c.in_ok-here.ensures in
     IfOk-weaker c.go_on.result _ _
     (λ t told.
     subst (λ b. CallsAs m s x args b (defined_at m x) left used t.0 s' (waits_of t.1)) (sym affordable)
