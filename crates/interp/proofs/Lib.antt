@@ -1,0 +1,11 @@
+pub mod CallLemmas
+pub mod Fronts
+pub mod JumpLemmas
+pub mod LoadLemmas
+pub mod MakeLemmas
+pub mod NumberLemmas
+pub mod OperandLemmas
+pub mod ProgramLemmas
+pub mod ReduceLemmas
+pub mod RunLemmas
+pub mod TypeLemmas

@@ -1,0 +1,47 @@
+-- A run goes on, and stops.
+use Rattle.std.proofs.Common.{arith, ◌≡◌, ℕ, ◌+◌, ◌≤◌, [], true, refl, ap, sym, subst}
+use Rattle.wa_types.specs.Syntax.{Module}
+use Rattle.wa_model.specs.Machine.{Leads, stays, moves}
+use Rattle.wa_model.specs.Configuration.{Configuration}
+use Rattle.wa_model.specs.Step.{Next, steps, asks, returns, traps, stuck, step}
+use Rattle.wa_model.specs.Blocking.{Note}
+use Rattle.wa_model.specs.Alone.{alone, alone_next, Goes, Finish, it_spent, FinishesAt, CostsAbove, by_finish, by_steps}
+use Rattle.wa_model.proofs.Runs.{leads_on}
+use Rattle.interp.specs.Told.{IsUnpaid}
+use Rattle.interp.specs.Runs.{Ends, by_ending, by_stuck}
+
+module _ (m : Module) (c : Configuration) where
+  pub no_step : (n : ℕ) → n ≡ 0 → Goes m c n c
+  no_step n e = subst (λ k. Goes m c k c) (sym e) stays
+
+  pub one_more : (d e : Configuration) (n more n' : ℕ) → Goes m c n d → step m d ≡ steps more e → n' ≡ n + (more + 1) → Goes m c n' e
+  one_more d e n more n' g next en =
+      let last : Leads (alone (λ x. true) m) d (more + 1) [] e = moves (ap (alone_next true) next) stays (omega arith) refl in
+      subst (λ k. Goes m c k e) (sym en) (leads_on Configuration Note (alone (λ x. true) m) c d e n (more + 1) [] [] g last)
+
+  -- it stops where what comes next is no reduction
+  pub ends_by : (left n more used : ℕ) (d : Configuration) (next : Next) (end : Finish) → Goes m c n d → step m d ≡ next → FinishesAt next (more + 1) end → used ≡ n + (more + 1) → used ≤ left → Ends m c left used end
+  ends_by left n more used d next end g en fin eu le =
+      by_ending (by_finish n (more + 1) d g (subst (λ x. FinishesAt x (more + 1) end) (sym en) fin) eu le)
+
+  by_cost : (left used more : ℕ) (d : Configuration) (next : Next) → Goes m c used d → step m d ≡ next → left ≡ used + more → IsUnpaid next more → Ends m c left used (it_spent d)
+  by_cost left used more d (steps k e) g en el h = by_ending (by_steps more d g refl el (subst (λ x. CostsAbove x more) (sym en) h))
+  by_cost left used more d (asks k import args e) g en el h = by_ending (by_steps more d g refl el (subst (λ x. CostsAbove x more) (sym en) h))
+  by_cost left used more d (returns k values s) g en el h = by_ending (by_steps more d g refl el (subst (λ x. CostsAbove x more) (sym en) h))
+  by_cost left used more d (traps k trap s) g en el h = by_ending (by_steps more d g refl el (subst (λ x. CostsAbove x more) (sym en) h))
+  by_cost left used more d stuck g en el h = by_stuck d g en (omega arith) refl
+
+  -- or where none can be paid
+  pub ends_spent : (left used more : ℕ) (d : Configuration) → Goes m c used d → left ≡ used + more → IsUnpaid (step m d) more → Ends m c left used (it_spent d)
+  ends_spent left used more d g el h = by_cost left used more d (step m d) g refl el h
+
+unpaid_by : (next : Next) → IsUnpaid next 0
+unpaid_by (steps k e) = omega arith
+unpaid_by (asks k import args e) = omega arith
+unpaid_by (returns k values s) = omega arith
+unpaid_by (traps k trap s) = omega arith
+unpaid_by stuck = tt
+
+-- nothing can be paid with nothing
+pub nothing_left : (next : Next) (left : ℕ) → left ≤ 0 → IsUnpaid next left
+nothing_left next left h = let e : left ≡ 0 = omega arith in subst (IsUnpaid next) (sym e) (unpaid_by next)

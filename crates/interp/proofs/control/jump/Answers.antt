@@ -1,0 +1,83 @@
+use Rattle.std.proofs.Common.{◌≡◌, ◌-◌, length, map, reverse, take, slice_get, refl, ap, sym, ◌∙◌, subst}
+use Rattle.wa_types.specs.View.{module_of}
+use Rattle.std.proofs.lemmas.Result.{IfOk-weaker}
+use Rattle.wa_model.specs.Step.{leave}
+use Rattle.interp.specs.Stacks.{leave_of, jump_of}
+use Rattle.interp.specs.Told.{Tells}
+use Rattle.interp.specs.View.{waiting_of, running_of}
+use Rattle.interp.proofs.OperandLemmas.{last_split, keep_is, none_last}
+use Rattle.interp.proofs.JumpLemmas.{at_block, at_loop, at_next, at_none}
+use Rattle.interp.proofs.control.jump.Goals as goal
+
+pub returns-in_ok-carry-in-Block : goal.returns-in_ok-carry-in-Block
+returns-in_ok-carry-in-Block c =
+    let m = module_of c.args.program.now.source.now in
+    let k = c.loop-entry.stack in
+    let under = map waiting_of (reverse k.under.items) in
+    let ls = k.here.locals.items in
+    let ops = reverse k.here.operands.items in
+    let labels = k.here.labels.items in
+    let last = ap (λ v. slice_get v (length v - 1)) (sym c.deref.ensures.value) ∙ sym c.in-Some.ensures.value in
+    let size = k.here.labels.ok.0 in
+    let rest : c.pop.new.self.items ≡ take (length labels - 1) labels = c.pop.ensures.rest ∙ ap (λ n. take (n - 1) labels) size in
+    let split = last_split labels c.pop.new.self.items c.in-Some.entry.now rest last in
+    λ s left paid. (
+      sym (c.loop-entry.invariant s)
+          ∙ at_block m s c.args.more k.here.func under ls ops
+          labels c.pop.new.self.items c.in-Some.entry.now c.in-Block.height c.loop-entry.passed c.in-Block.carries c.in-Block.rest c.in-Block.skipped (reverse c.carry.new.operands.items)
+          split c.in-Block.is c.if-passed-eq0.true c.in_ok-carry-in-Block.ensures,
+      paid,
+    )
+
+pub returns-in-Loop : goal.returns-in-Loop
+returns-in-Loop c =
+    let m = module_of c.args.program.now.source.now in
+    let k = c.loop-entry.stack in
+    let under = map waiting_of (reverse k.under.items) in
+    let ls = k.here.locals.items in
+    let ops = reverse k.here.operands.items in
+    let labels = k.here.labels.items in
+    let last = ap (λ v. slice_get v (length v - 1)) (sym c.deref.ensures.value) ∙ sym c.in-Some.ensures.value in
+    let split = last_split labels (take (length labels - 1) labels) c.in-Some.entry.now refl last in
+    let kept = ap reverse c.truncate.ensures.items ∙ sym (keep_is c.in-Loop.height k.here.operands.items) in
+    λ s left paid. (
+      sym (c.loop-entry.invariant s)
+          ∙ at_loop m s c.args.more k.here.func under ls ops
+          labels (take (length labels - 1) labels) c.in-Some.entry.now c.in-Loop.height c.loop-entry.passed c.in-Loop.body c.in-Loop.rest (reverse c.truncate.new.self.items)
+          split c.in-Loop.is c.if-passed-eq0.true kept,
+      paid,
+    )
+
+pub loop-entry-preserved : goal.loop-entry-preserved
+loop-entry-preserved c =
+    let m = module_of c.args.program.now.source.now in
+    let k = c.loop-entry.stack in
+    let under = map waiting_of (reverse k.under.items) in
+    let ls = k.here.locals.items in
+    let ops = reverse k.here.operands.items in
+    let labels = k.here.labels.items in
+    let last = ap (λ v. slice_get v (length v - 1)) (sym c.deref.ensures.value) ∙ sym c.in-Some.ensures.value in
+    let size = k.here.labels.ok.0 in
+    let rest : c.pop-in-Some.new.self.items ≡ take (length labels - 1) labels = c.pop-in-Some.ensures.rest ∙ ap (λ n. take (n - 1) labels) size in
+    let split = last_split labels c.pop-in-Some.new.self.items c.in-Some.entry.now rest last in
+    λ s.
+    at_next m s c.args.more k.here.func under ls ops labels c.pop-in-Some.new.self.items c.in-Some.entry.now c.loop-entry.passed split c.if-passed-eq0.false
+    ∙ c.loop-entry.invariant s
+
+pub returns : goal.returns
+returns c =
+    let m = module_of c.args.program.now.source.now in
+    let k = c.loop-entry.stack in
+    let under = map waiting_of (reverse k.under.items) in
+    let ops = reverse k.here.operands.items in
+    let labels = k.here.labels.items in
+    let last = ap (λ v. slice_get v (length v - 1)) (sym c.deref.ensures.value) ∙ sym c.in_default.ensures.value in
+    let none = none_last labels last in
+    IfOk-weaker c.leave.result _ _
+    (λ f told s left paid.
+    let same : leave_of s c.args.more k c.func_results.result ≡ jump_of m s c.args.more c.args.stack.now c.args.label =
+    ap (λ n. leave c.args.more s ops n under) c.func_results.ensures
+    ∙ sym (at_none m s c.args.more k.here.func under k.here.locals.items ops labels c.loop-entry.passed none)
+    ∙ c.loop-entry.invariant s in
+    subst (λ x. Tells s x left f (running_of s c.leave.new.stack)) same (told s left paid))
+    c.leave.ensures

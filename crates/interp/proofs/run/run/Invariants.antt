@@ -1,0 +1,17 @@
+use Rattle.std.proofs.Common.{◌≡◌, ◌+◌, ◌-◌, ◌≤◌}
+use Rattle.wa_types.specs.View.{module_of}
+use Rattle.wa_model.specs.Alone.{Goes}
+use Rattle.interp.specs.View.{store_of, running_of}
+use Rattle.interp.proofs.run.run.Given as goal
+
+abbrev pub invariant-loop-steps : goal.invariant-loop-steps
+invariant-loop-steps l =
+    record {
+      goes : Goes (module_of l.program.source.now) (running_of (store_of l.fn.store) l.fn.stack) (l.steps.used - l.fn.steps.used) (running_of (store_of l.store) l.stack);
+      sum : l.steps.left + l.steps.used ≡ l.fn.steps.left + l.fn.steps.used;
+      grows : l.fn.steps.used ≤ l.steps.used;
+      max : l.store.memory.max ≡ l.fn.store.memory.max;
+    }
+
+abbrev pub decreases-loop-steps : goal.decreases-loop-steps
+decreases-loop-steps l = l.steps.left

@@ -1,0 +1,93 @@
+-- An instance as plain data, and how its calls turn out.
+use Rattle.std.specs.Prelude.{◌≡◌, ℕ, suc, ◌+◌, ◌-◌, nat_le, List, [], length, map, reverse, take, drop, Option, Some, None, Bool, true, false}
+use Rattle.std.specs.Option.{option_to_list}
+use Rattle.wa_types.specs.declared.values.Value.{Value}
+use Rattle.wa_types.specs.Syntax.{Func, Module}
+use Rattle.wa_types.specs.Modules.{defined_at}
+use Rattle.wa_types.specs.View.{code}
+use Rattle.wa_model.specs.Store.{Store}
+use Rattle.wa_model.specs.Configuration.{Activation, Configuration, waiting}
+use Rattle.wa_model.specs.Step.{entered}
+use Rattle.wa_model.specs.Blocking.{resumed}
+use Rattle.wa_model.specs.Alone.{it_trapped, it_asks, it_spent}
+use Rattle.interp.specs.declared.turns.Turn.{Turn}
+use Rattle.interp.specs.declared.turns.Turn.TheVariants.{Returned, Trapped, Waiting, StepsSpent}
+use Rattle.interp.specs.declared.turns.Wait as W
+use Rattle.interp.specs.declared.turns.Wait.TheVariants as WV
+use Rattle.interp.specs.View.{label_of, waiting_of}
+use Rattle.interp.specs.Runs.{Ends, EndsReturned}
+
+-- What waits for the answer of an import: nothing, the host, which called it itself, or an activation with those below it.
+pub data Waits : Type 0 where
+  nothing outermost : Waits
+  inside : (here : Activation) → (under : List Activation) → Waits
+
+abbrev pub waits_of : W.Wait → Waits
+waits_of WV.Nothing = nothing
+waits_of WV.Outermost = outermost
+waits_of (WV.Inside k taken) =
+    inside
+    (waiting k.here.func k.here.locals.items (drop taken (reverse k.here.operands.items)) (take taken (reverse k.here.operands.items)) (code k.here.code.now) (map label_of (reverse k.here.labels.items)))
+    (map waiting_of (reverse k.under.items))
+
+-- the run came to stand at a configuration with this store
+pub record TurnsSpent (m : Module) (c : Configuration) (left used : ℕ) (s : Store) : Type 0 where
+  pub at : Configuration
+  pub store_is : at.store ≡ s
+  pub ends : Ends m c left used (it_spent at)
+
+-- it waits in the activations that are told
+pub record TurnsWaiting (m : Module) (c : Configuration) (left used import : ℕ) (args : List Value) (s : Store) (w : Waits) : Type 0 where
+  pub at : Configuration
+  pub store_is : at.store ≡ s
+  pub waits : w ≡ inside at.here at.under
+  pub ends : Ends m c left used (it_asks import args at)
+
+-- How a run from c turned out, where it might pay so much and paid so much, with the store and what waits behind it.
+abbrev pub Turns : Module → Configuration → (left used : ℕ) → Turn → Store → Waits → Type 0
+Turns m c left used (Returned value) s w = EndsReturned m c left used value s × (w ≡ nothing)
+Turns m c left used (Trapped trap) s w = Ends m c left used (it_trapped trap s) × (w ≡ nothing)
+Turns m c left used (Waiting call) s w = TurnsWaiting m c left used call.import call.args.items s w
+Turns m c left used StepsSpent s w = TurnsSpent m c left used s × (w ≡ nothing)
+
+-- the turn is a call of this import
+abbrev pub IsCall : Turn → (import : ℕ) → (args : List Value) → Type 0
+IsCall (Waiting call) import args = (call.import ≡ import) × (call.args.items ≡ args)
+IsCall _ import args = ⊥
+
+-- a call of a defined function on a fresh stack: its cost is paid, and then it runs
+pub record Enters (m : Module) (s : Store) (x : ℕ) (args : List Value) (f : Func) (left used : ℕ) (turn : Turn) (s' : Store) (w : Waits) : Type 0 where
+  pub more : ℕ
+  pub cost : used ≡ suc (length args) + more
+  pub turns : Turns m (entered s [] args x f) (left - suc (length args)) more turn s' w
+
+-- a call of an import from outside
+pub record AsksAtOnce (s : Store) (x : ℕ) (args : List Value) (used : ℕ) (turn : Turn) (s' : Store) (w : Waits) : Type 0 where
+  pub cost : used ≡ suc (length args)
+  pub call : IsCall turn x args
+  pub store_is : s' ≡ s
+  pub waits : w ≡ outermost
+
+-- a call whose own cost is more than is left
+pub record TooDear (s : Store) (used : ℕ) (turn : Turn) (s' : Store) (w : Waits) : Type 0 where
+  pub cost : used ≡ 0
+  pub turn_is : turn ≡ StepsSpent
+  pub store_is : s' ≡ s
+  pub waits : w ≡ nothing
+
+abbrev pub CallsAs : Module → Store → ℕ → List Value → (dear : Bool) → Option Func → (left used : ℕ) → Turn → Store → Waits → Type 0
+CallsAs m s x args true f left used turn s' w = TooDear s used turn s' w
+CallsAs m s x args false (Some f) left used turn s' w = Enters m s x args f left used turn s' w
+CallsAs m s x args false None left used turn s' w = AsksAtOnce s x args used turn s' w
+
+-- How a call of a function from outside turned out, from a store s: it costs 1 and its arguments, and is followed by what
+-- runs on a fresh stack.
+abbrev pub Calls : Module → Store → (func : ℕ) → (args : List Value) → (left used : ℕ) → Turn → Store → Waits → Type 0
+Calls m s x args left used turn s' w = CallsAs m s x args (nat_le left (length args)) (defined_at m x) left used turn s' w
+
+-- How the answer of an import turned out.
+abbrev pub Resumes : Module → Store → Waits → Option Value → (left used : ℕ) → Turn → Store → Waits → Type 0
+Resumes m s nothing value left used turn s' w = ⊥
+Resumes m s outermost value left used turn s' w = (used ≡ 0) × (turn ≡ Returned value) × (s' ≡ s) × (w ≡ nothing)
+Resumes m s (inside here under) value left used turn s' w =
+    Turns m (resumed (record { store = s; here = here; under = under }) s (option_to_list value)) left used turn s' w

@@ -1,0 +1,11 @@
+pub mod Access
+pub mod Effects
+pub mod Stacks
+pub mod Faults
+pub mod Host
+pub mod Instance
+pub mod Laws
+pub mod Making
+pub mod Runs
+pub mod Told
+pub mod View

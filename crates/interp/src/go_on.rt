@@ -1,0 +1,72 @@
+ghost use Rattle.std.specs.Prelude.{◌≡◌, ◌<◌, ◌≤◌, ◌+◌, ◌-◌, ◌^◌, IfOk};
+ghost use Rattle.wa_types.specs.View.{module_of};
+ghost use Rattle.wa_model.specs.Step.{memory_max};
+ghost use Rattle.interp.specs.Instance.{Calls, Turns, waits_of};
+ghost use Rattle.interp.specs.View.{store_of, running_of};
+
+use crate::activation::Stack;
+use crate::calls::{args_of, enter};
+use crate::program::Program;
+use crate::run::{Steps, Stop, pay, run};
+use crate::store::Store;
+use crate::turns::{Turn, Wait};
+use std::alloc::AllocError;
+use wa_model::Call;
+use wa_types::Value;
+
+/// Runs a stack until it returns, traps, waits or has spent its steps.
+pub fn go_on<'m>(
+    program: &Program<'m>,
+    store: &mut Store,
+    mut stack: Stack<'m>,
+    steps: &mut Steps,
+) -> Result<(Turn, Wait<'m>), AllocError>
+    requires most { store.old.memory.max ≡ memory_max (module_of program.now.source.now) }
+    requires fits { steps.old.left + steps.old.used < 2 ^ 64 }
+    ensures turns { IfOk result (λ t. Turns (module_of program.now.source.now) (running_of (store_of store.old) stack.entry) steps.old.left (steps.new.used - steps.old.used) t.0 (store_of store.new) (waits_of t.1)) }
+    ensures sum { steps.new.left + steps.new.used ≡ steps.old.left + steps.old.used }
+    ensures grows { steps.old.used ≤ steps.new.used }
+    ensures max { store.new.memory.max ≡ store.old.memory.max }
+{
+    match run(program, store, &mut stack, steps)? {
+        Stop::Returned(value) => Ok((Turn::Returned(value), Wait::Nothing)),
+        Stop::Trapped(trap) => Ok((Turn::Trapped(trap), Wait::Nothing)),
+        Stop::Asked { import, own, taken } => {
+            let args = args_of(&stack.here.operands, own, taken.saturating_sub(own));
+            let args = Vec::from_slice(program.alloc, args)?;
+            let wait = Wait::Inside { stack, taken };
+            Ok((Turn::Waiting(Call { import, args }), wait))
+        }
+        Stop::Spent => Ok((Turn::StepsSpent, Wait::Nothing)),
+    }
+}
+
+/// Calls a function from outside, on a fresh stack.
+pub fn call_from_outside<'m>(
+    program: &Program<'m>,
+    store: &mut Store,
+    func: u32,
+    args: &[Value],
+    steps: &mut Steps,
+) -> Result<(Turn, Wait<'m>), AllocError>
+    requires most { store.old.memory.max ≡ memory_max (module_of program.now.source.now) }
+    requires fits { steps.old.left + steps.old.used < 2 ^ 64 }
+    ensures calls { IfOk result (λ t. Calls (module_of program.now.source.now) (store_of store.old) func args.now steps.old.left (steps.new.used - steps.old.used) t.0 (store_of store.new) (waits_of t.1)) }
+    ensures sum { steps.new.left + steps.new.used ≡ steps.old.left + steps.old.used }
+    ensures grows { steps.old.used ≤ steps.new.used }
+    ensures max { store.new.memory.max ≡ store.old.memory.max }
+{
+    let more = args.len() as u64;
+    if steps.left <= more {
+        return Ok((Turn::StepsSpent, Wait::Nothing));
+    }
+    let Some(callee) = program.defined(func) else {
+        let args = Vec::from_slice(program.alloc, args)?;
+        pay(steps, more);
+        return Ok((Turn::Waiting(Call { import: func, args }), Wait::Outermost));
+    };
+    let here = enter(program.alloc, func, callee, args)?;
+    let under = Vec::new(program.alloc);
+    pay(steps, more);
+    go_on(program, store, Stack { here, under }, steps)
+}

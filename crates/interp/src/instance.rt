@@ -1,0 +1,172 @@
+ghost use Rattle.std.specs.Prelude.{◌≡◌, ◌<◌, ◌≤◌, ◌+◌, ◌-◌, ◌^◌, ◌++◌, IfOk, IfErr, nat_lt, length, drop, reverse};
+ghost use Rattle.std.specs.Option.{option_copied, option_to_list};
+ghost use Rattle.wa_types.specs.Modules.{all_memories};
+ghost use Rattle.wa_types.specs.View.{module_of};
+ghost use Rattle.wa_model.specs.Step.{memory_max};
+
+use crate::go_on::{call_from_outside, go_on};
+use crate::make::{MakeFault, open};
+use crate::program::{Program, make_program};
+use crate::run::Steps;
+use crate::spaces::all_memories;
+use crate::store::Store;
+use crate::turns::{Turn, Wait};
+use std::alloc::{AllocError, Global};
+use std::mem;
+use wa_types::{Module, Value};
+use wasm_validate::Valid;
+
+/// An instance of a module: its store, and what waits for an import's answer.
+#[derive(Drop)]
+pub struct Instance<'m> {
+    program: Program<'m>,
+    store: Store,
+    has_memory: bool,
+    wait: Wait<'m>,
+    ghost most_is: { store.memory.max ≡ memory_max (module_of program.source.now) },
+    ghost has_is: { has_memory ≡ nat_lt 0 (length (all_memories (module_of program.source.now))) },
+}
+
+impl<'m> Instance<'m> {
+    ghost use Rattle.interp.specs.Instance.{Calls, Resumes, nothing, waits_of};
+    ghost use Rattle.interp.specs.Faults.{FailsAs};
+    ghost use Rattle.wa_model.specs.Instantiation.{opening, opens};
+    ghost use Rattle.interp.specs.Host.{code_in, store_in, waits_in, memory_of, CallsAside, Pokes};
+
+    /// An instance of a module whose imported globals have these values, before its start function runs.
+    pub fn make(
+        alloc: Global,
+        valid: &'m Valid,
+        globals: &[Value],
+    ) -> Result<Instance<'m>, MakeFault>
+        ensures code { IfOk result (λ i. code_in i ≡ module_of valid.now) }
+        ensures store { IfOk result (λ i. opening (module_of valid.now) globals.now ≡ opens (store_in i)) }
+        ensures waits { IfOk result (λ i. waits_in i ≡ nothing) }
+        ensures err { IfErr result (FailsAs (opening (module_of valid.now) globals.now)) }
+    {
+        Instance::of(alloc, valid.module(), globals)
+    }
+
+    /// The same, of a module that may be invalid.
+    fn of(alloc: Global, source: &'m Module, globals: &[Value]) -> Result<Instance<'m>, MakeFault>
+        requires elems { length source.now.elems.items < 2 ^ 32 }
+        requires segments { length source.now.segments.items < 2 ^ 32 }
+        ensures code { IfOk result (λ i. code_in i ≡ module_of source.now) }
+        ensures store { IfOk result (λ i. opening (module_of source.now) globals.now ≡ opens (store_in i)) }
+        ensures waits { IfOk result (λ i. waits_in i ≡ nothing) }
+        ensures err { IfErr result (FailsAs (opening (module_of source.now) globals.now)) }
+    {
+        let store = open(alloc, source, globals)?;
+        let has_memory = all_memories(alloc, source)?.len() > 0;
+        let program = make_program(alloc, source)?;
+        Ok(Instance {
+            program,
+            store,
+            has_memory,
+            wait: Wait::Nothing,
+        })
+    }
+
+    /// Calls a function on an empty stack, in place of what waits. It goes on to the first return, trap or call of an
+    /// import, or up to a reduction that costs more than is left.
+    pub fn begin(
+        &mut self,
+        func: u32,
+        args: &[Value],
+        steps: &mut Steps,
+    ) -> Result<Turn, AllocError>
+        requires fits { steps.old.left + steps.old.used < 2 ^ 64 }
+        ensures calls { IfOk result (λ t. Calls (code_in self.old) (store_in self.old) func args.now steps.old.left (steps.new.used - steps.old.used) t (store_in self.new) (waits_in self.new)) }
+        ensures code { code_in self.new ≡ code_in self.old }
+        ensures sum { steps.new.left + steps.new.used ≡ steps.old.left + steps.old.used }
+        ensures grows { steps.old.used ≤ steps.new.used }
+    {
+        self.wait = Wait::Nothing;
+        let (turn, wait) = call_from_outside(&self.program, &mut self.store, func, args, steps)?;
+        self.wait = wait;
+        Ok(turn)
+    }
+
+    /// Calls a function on an empty stack, and leaves what waits as it is.
+    pub fn aside(
+        &mut self,
+        func: u32,
+        args: &[Value],
+        steps: &mut Steps,
+    ) -> Result<Turn, AllocError>
+        requires fits { steps.old.left + steps.old.used < 2 ^ 64 }
+        ensures calls { IfOk result (λ t. CallsAside (code_in self.old) (store_in self.old) func args.now steps.old.left (steps.new.used - steps.old.used) t (store_in self.new)) }
+        ensures waits { waits_in self.new ≡ waits_in self.old }
+        ensures code { code_in self.new ≡ code_in self.old }
+        ensures sum { steps.new.left + steps.new.used ≡ steps.old.left + steps.old.used }
+        ensures grows { steps.old.used ≤ steps.new.used }
+    {
+        let (turn, _wait) = call_from_outside(&self.program, &mut self.store, func, args, steps)?;
+        Ok(turn)
+    }
+
+    /// Gives what waits its answer, and goes on as `begin` does.
+    pub fn resume(&mut self, value: Option<Value>, steps: &mut Steps) -> Result<Turn, AllocError>
+        requires waits { waits_in self.old ≡ nothing → ⊥ }
+        requires fits { steps.old.left + steps.old.used < 2 ^ 64 }
+        ensures resumes { IfOk result (λ t. Resumes (code_in self.old) (store_in self.old) (waits_in self.old) value steps.old.left (steps.new.used - steps.old.used) t (store_in self.new) (waits_in self.new)) }
+        ensures code { code_in self.new ≡ code_in self.old }
+        ensures sum { steps.new.left + steps.new.used ≡ steps.old.left + steps.old.used }
+        ensures grows { steps.old.used ≤ steps.new.used }
+    {
+        match mem::replace(&mut self.wait, Wait::Nothing) {
+            Wait::Nothing => unreachable!(),
+            Wait::Outermost => Ok(Turn::Returned(value)),
+            Wait::Inside { mut stack, taken } => {
+                answer(&mut stack.here.operands, taken, value)?;
+                let (turn, wait) = go_on(&self.program, &mut self.store, stack, steps)?;
+                self.wait = wait;
+                Ok(turn)
+            }
+        }
+    }
+
+    /// All bytes of the memory, where the module has one.
+    pub fn memory(&self) -> Option<&[u8]>
+        ensures { option_copied result ≡ memory_of (code_in self.now) (store_in self.now) }
+    {
+        if self.has_memory {
+            return Some(self.store.memory.bytes());
+        }
+        None
+    }
+
+    /// Writes bytes into the memory. False exactly where there is no memory or they reach past it, and then nothing changes.
+    pub fn poke(&mut self, at: u64, bytes: &[u8]) -> bool
+        ensures store { Pokes (code_in self.old) (store_in self.old) at bytes.now result (store_in self.new) }
+        ensures waits { waits_in self.new ≡ waits_in self.old }
+        ensures code { code_in self.new ≡ code_in self.old }
+    {
+        self.has_memory && self.store.memory.write(at, bytes)
+    }
+
+    /// The values of all globals, in index order.
+    pub fn globals(&self) -> &[Value]
+        ensures { result.now ≡ (store_in self.now).globals }
+    {
+        self.store.globals.as_slice()
+    }
+}
+
+/// Takes off what the call took, and puts the answer in its place.
+#[tactic(auto, using(crate::proofs::OperandLemmas::answering))]
+fn answer(operands: &mut Vec<Value>, taken: usize, value: Option<Value>) -> Result<(), AllocError>
+    ensures { IfOk result (λ _. reverse operands.new.items ≡ option_to_list value ++ drop taken (reverse operands.old.items)) }
+{
+    operands.truncate(operands.len().saturating_sub(taken));
+    match value {
+        Some(v) => {
+            operands.push(v)?;
+            Ok(())
+        }
+        None => Ok(()),
+    }
+}
+
+#[cfg(test)]
+mod tests;

@@ -1,0 +1,45 @@
+//! The plain interpreter: a module's code as it is, exact in results, traps and cost (standard, section 4).
+//!
+//! An `Instance` stands for a store of the definitions of runs and for what waits in it (`specs/Host.antt`,
+//! `specs/Instance.antt`). The one law: each call goes by the definition of reductions, `step` of `wa_model`, up to
+//! the first return, trap, call of an import or reduction that costs more than is left, and pays exactly the cost.
+//! `make` is instantiation as `Blocking` has it before start.
+//!
+//! A `Stack` is viewed as the activations of a configuration (`specs/View.antt`). Code and labels are slices borrowed
+//! from the module's tree: nothing of it is copied. A call leaves what it took on the caller's operands and counts it,
+//! so that a stack that waits shows the operands just before the call. `reduce` does one reduction: its flow tells what
+//! came next, with what it costs past 1 (`specs/Told.antt`). It answers `Flow::Spent` also where no reduction is
+//! defined, as code that isn't valid may come to; the store is then as it was.
+//!
+//! Read in the order `activation`, `flow`, `operands`, `numeric`, `locals`, `memory`, `control`, `branches`, `calls`,
+//! `reduce`, `run`, `go_on`, `instance`, and for `make` `spaces`, `segments`, `make`.
+#![tactic(auto)]
+
+mod access;
+mod activation;
+mod branches;
+mod calls;
+mod control;
+mod flow;
+mod go_on;
+mod instance;
+mod laws;
+mod locals;
+mod make;
+mod memory;
+mod numeric;
+mod operands;
+mod program;
+mod reduce;
+mod run;
+mod segments;
+mod spaces;
+mod store;
+mod turns;
+mod values;
+
+pub use instance::Instance;
+pub use laws::ends_as_defined;
+pub use make::MakeFault;
+pub use run::Steps;
+pub use turns::Turn;

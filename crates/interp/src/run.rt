@@ -1,0 +1,84 @@
+ghost use Rattle.std.specs.Prelude.{◌≡◌, ◌<◌, ◌≤◌, ◌+◌, ◌-◌, ◌^◌, IfOk, OnOk};
+ghost use Rattle.wa_types.specs.View.{module_of};
+ghost use Rattle.wa_model.specs.Step.{memory_max};
+ghost use Rattle.interp.specs.Runs.{RunsTo};
+ghost use Rattle.interp.specs.View.{store_of, running_of};
+
+use crate::activation::Stack;
+use crate::flow::Flow;
+use crate::program::Program;
+use crate::reduce::reduce;
+use crate::store::Store;
+use std::alloc::AllocError;
+use wa_types::{Trap, Value};
+
+/// The steps that are left to pay with, and those that were used.
+#[derive(Clone, Copy, Debug, PartialEq, Eq)]
+pub struct Steps {
+    pub left: u64,
+    pub used: u64,
+}
+
+/// How a run came to stand.
+#[derive(Clone, Copy)]
+pub enum Stop {
+    Returned(Option<Value>),
+    Trapped(Trap),
+    Asked {
+        import: u32,
+        own: usize,
+        taken: usize,
+    },
+    Spent,
+}
+
+/// Pays for a reduction that costs `more` past 1.
+pub fn pay(steps: &mut Steps, more: u64)
+    requires enough { more < steps.old.left }
+    requires fits { steps.old.left + steps.old.used < 2 ^ 64 }
+    ensures left { steps.new.left + (more + 1) ≡ steps.old.left }
+    ensures used { steps.new.used ≡ steps.old.used + (more + 1) }
+{
+    steps.left -= more + 1;
+    steps.used += more + 1;
+}
+
+/// Goes on by reductions up to the first return, trap or call of an import, or to one that costs more than is left.
+pub fn run<'m>(
+    program: &Program<'m>,
+    store: &mut Store,
+    stack: &mut Stack<'m>,
+    steps: &mut Steps,
+) -> Result<Stop, AllocError>
+    requires most { store.old.memory.max ≡ memory_max (module_of program.now.source.now) }
+    requires fits { steps.old.left + steps.old.used < 2 ^ 64 }
+    ensures runs { IfOk result (λ t. RunsTo (module_of program.now.source.now) (running_of (store_of store.old) stack.old) steps.old.left (steps.new.used - steps.old.used) t (running_of (store_of store.new) stack.new)) }
+    ensures sum { steps.new.left + steps.new.used ≡ steps.old.left + steps.old.used }
+    ensures grows { steps.old.used ≤ steps.new.used }
+    ensures max { store.new.memory.max ≡ store.old.memory.max }
+{
+    while steps.left > 0 {
+        match reduce(program, store, stack, steps.left)? {
+            Flow::Moved { more } => pay(steps, more),
+            Flow::Returned { more, value } => {
+                pay(steps, more);
+                return Ok(Stop::Returned(value));
+            }
+            Flow::Trapped { more, trap } => {
+                pay(steps, more);
+                return Ok(Stop::Trapped(trap));
+            }
+            Flow::Asked {
+                more,
+                import,
+                own,
+                taken,
+            } => {
+                pay(steps, more);
+                return Ok(Stop::Asked { import, own, taken });
+            }
+            Flow::Spent => return Ok(Stop::Spent),
+        }
+    }
+    Ok(Stop::Spent)
+}
