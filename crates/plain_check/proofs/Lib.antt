@@ -1,3 +1,10 @@
+pub mod ContextLemmas
+pub mod FrameLemmas
 pub mod FrontLemmas
+pub mod LiveLemmas
+pub mod PointLemmas
 pub mod Searching
+pub mod SigLemmas
+pub mod SlotLemmas
 pub mod Stacks
+pub mod TreeLemmas

@@ -1,14 +1,25 @@
 //! Short programs that compute definitions on small inputs, slowly.
 //!
 //! Each answers exactly what a definition says, so a test of it on a worked example is a test of the definition.
-//! `is_begun` and `fault_place` say which bytes begin a file, and where others fail.
+//! `is_begun` and `fault_place` say which bytes begin a file, and where others fail. `room` and `saved` say how
+//! many bytes a suspended stack takes, and which locals a frame saves.
 #![tactic(auto)]
 
 mod beginnings;
+mod contexts;
+mod frames;
 mod fronts;
 mod goals;
+mod liveness;
+mod points;
+mod sigs;
+mod slots;
+mod trees;
 
 pub use beginnings::{fault_place, is_begun};
+pub use frames::{Place, Policy, Suspended, room, saved};
 
 #[cfg(test)]
 mod malformed_files;
+#[cfg(test)]
+mod worked_frames;
