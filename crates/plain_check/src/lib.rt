@@ -6,18 +6,22 @@
 #![tactic(auto)]
 
 mod beginnings;
+mod checks;
 mod contexts;
 mod frames;
 mod fronts;
 mod goals;
 mod liveness;
 mod points;
+mod rules;
 mod sigs;
 mod slots;
 mod trees;
+mod validity;
 
 pub use beginnings::{fault_place, is_begun};
 pub use frames::{Place, Policy, Suspended, room, saved};
+pub use validity::{Fault, first_fault};
 
 #[cfg(test)]
 mod malformed_files;

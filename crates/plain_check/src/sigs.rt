@@ -265,7 +265,7 @@ fn reversed(alloc: Global, types: &[ValType]) -> Result<Vec<ValType>, AllocError
 
 // The type of this index.
 #[tactic(auto, using(crate::proofs::SigLemmas::indexing))]
-fn type_at<'m>(types: &'m [FuncType], sort: u32) -> Option<&'m FuncType>
+pub fn type_at<'m>(types: &'m [FuncType], sort: u32) -> Option<&'m FuncType>
     ensures { MatchOption result (slice_get (map func_type_of types.now) sort ≡ None) (λ t. slice_get (map func_type_of types.now) sort ≡ Some (func_type_of t.now)) }
 {
     types.get(sort as usize)
