@@ -1,5 +1,5 @@
 -- Lists of a module's parts.
-use Rattle.std.proofs.Common.{◌≡◌, ℕ, ◌+◌, ◌<◌, ◌≤◌, length, get_or, take, List, [], ◌∷◌, ◌++◌, map, Option, Some, None, refl, ap, sym, ◌∙◌}
+use Rattle.std.proofs.Common.{◌≡◌, ℕ, ◌+◌, ◌<◌, ◌≤◌, length, get_or, take, List, [], ◌∷◌, ◌++◌, map, refl, ap, sym, ◌∙◌}
 use Rattle.std.proofs.lemmas.List.{take_more, take_all}
 use Rattle.std.specs.List.{cons_option, filter_map}
 use Rattle.wa_types.specs.declared.syntax.Import.{Import}
@@ -7,7 +7,7 @@ use Rattle.wa_types.specs.declared.syntax.ImportKind.{ImportKind}
 use Rattle.wa_types.specs.declared.syntax.ImportKind.TheVariants.{Func as a_func, Table as a_table, Memory as a_memory, Global as a_global}
 use Rattle.wa_types.specs.declared.syntax.Func.{Func as FuncValue}
 use Rattle.wa_types.specs.declared.syntax.GlobalDef.{GlobalDef as GlobalDefValue}
-use Rattle.wa_types.specs.Syntax.{Func, GlobalDef}
+use Rattle.wa_types.specs.Syntax.{Func}
 use Rattle.wa_types.specs.Typing.{GlobalType}
 use Rattle.wa_types.specs.Modules.{imported_global, global_type}
 use Rattle.wa_types.specs.View.{func_of, global_of as def_of}

@@ -5,9 +5,7 @@ use Rattle.std.proofs.lemmas.List.{append-nil}
 use Rattle.std.proofs.lemmas.List.Sums.{sum_by-cons}
 use Rattle.std.specs.List.{sum_by}
 use Rattle.wa_types.specs.declared.values.ValType.{ValType}
-use Rattle.wa_types.specs.declared.syntax.Func.{Func as FuncValue}
 use Rattle.wa_types.specs.Syntax.{Code, Func, Module}
-use Rattle.wa_types.specs.View.{func_of}
 use Rattle.wa_types.specs.Pruned.{pruned}
 use Rattle.wa_types.specs.Pausing.{Policy, save_all, save_live, is_told}
 use Rattle.wa_types.specs.Modules.{locals_of, func_imports, defined_at}
@@ -19,7 +17,7 @@ use Rattle.plain_check.specs.declared.frames.Place.{Place as PlaceValue}
 use Rattle.plain_check.specs.declared.frames.Suspended.{Suspended as SuspendedValue}
 use Rattle.plain_check.specs.Lives.{lives}
 use Rattle.plain_check.specs.Frames.{pair_of, pairs_of, place_of, places_of, suspended_of, keep_local, keep_slot}
-use Rattle.plain_check.proofs.SigLemmas.{split, none, get_map_none, get_map_some}
+use Rattle.plain_check.proofs.SigLemmas.{split, none}
 use Rattle.plain_check.proofs.LiveLemmas.{told_calls}
 
 pub places_more : (ps : List PlaceValue) (p : PlaceValue) → places_of (ps ++ p ∷ []) ≡ places_of ps ++ place_of p ∷ []

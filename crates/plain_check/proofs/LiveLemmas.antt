@@ -1,10 +1,9 @@
 -- Liveness, one instruction at a time, and at each call.
 use Rattle.std.proofs.Common.{◌≡◌, ℕ, List, [], ◌∷◌, ◌++◌, ◌||◌, map, Option, Some, None, Bool, true, false, is_some, refl, ap, sym, ◌∙◌, append_assoc, slice_get}
 use Rattle.wa_types.specs.declared.values.ValType.{ValType}
-use Rattle.wa_types.specs.Syntax.{Plain, Shape, a_block, a_loop, Code, done, plain, nest, branch, Func}
+use Rattle.wa_types.specs.Syntax.{Plain, Shape, a_block, a_loop, Code, done, plain, nest, branch}
 use Rattle.wa_types.specs.Pausing.{Callee, callee}
-use Rattle.wa_types.specs.Pruned.{pruned}
-use Rattle.wa_types.specs.Liveness.{Label, goes_behind, goes_again, Position, position, live, live_plain, shape_live, told, live_at, live_from, behind_calls, label_of, if_call_here, is_live_after}
+use Rattle.wa_types.specs.Liveness.{Label, goes_behind, goes_again, position, live, live_plain, shape_live, told, live_at, behind_calls, if_call_here}
 use Rattle.plain_check.specs.Lives.{label_live, lives, if_called}
 
 module _ (x : ℕ) (tos : List Bool) (out : Bool) where

@@ -3,23 +3,17 @@ use Rattle.std.proofs.Common.{◌≡◌, ℕ, zero, suc, ◌+◌, ◌-◌, ◌<�
 use Rattle.std.proofs.lemmas.Bool.{ne_eqb}
 use Rattle.std.proofs.lemmas.List.{append-nil, length-map}
 use Rattle.std.proofs.lemmas.Grind.{flat_map-append}
-use Rattle.std.specs.List.{list_all, list_any, flat_map}
+use Rattle.std.specs.List.{flat_map}
 use Rattle.wa_types.specs.declared.values.ValType.{ValType}
-use Rattle.wa_types.specs.declared.syntax.Elem.{Elem as ElemValue}
-use Rattle.wa_types.specs.declared.syntax.Segment.{Segment as SegmentValue}
-use Rattle.wa_types.specs.declared.syntax.GlobalDef.{GlobalDef as GlobalDefValue}
-use Rattle.wa_types.specs.declared.syntax.FuncType.{FuncType as FuncTypeValue}
-use Rattle.wa_types.specs.declared.syntax.Export.{Export}
 use Rattle.wa_types.specs.declared.syntax.Space.TheVariants.{Global as a_global}
-use Rattle.wa_types.specs.Syntax.{Basic, nop, drop as drop_operand, select, const, num, global_get, global_set, load, store, memory_size, memory_grow, Plain, basic, local_get, local_set, local_tee, br, br_if, br_table, return, unreachable, call, call_indirect, Code, done, plain, nest, branch, FuncType, GlobalDef, Elem, Segment, Module}
-use Rattle.wa_types.specs.View.{func_type_of, global_of as def_of, elem_of, segment_of}
+use Rattle.wa_types.specs.Syntax.{nop, drop as drop_operand, select, const, num, global_get, global_set, load, store, memory_size, memory_grow, basic, local_get, local_set, local_tee, br, br_if, br_table, return, unreachable, call, call_indirect, Code, done, plain, nest, branch, GlobalDef, Elem, Segment, Module}
 use Rattle.wa_types.specs.Typing.{GlobalType}
-use Rattle.wa_types.specs.Modules.{or_empty, all_globals}
-use Rattle.wa_types.specs.Validity.{all_below, exported, expressions, globals_there, got_global, is_constant, same_name, all_differ, unless}
+use Rattle.wa_types.specs.Modules.{all_globals}
+use Rattle.wa_types.specs.Validity.{all_below, exported, expressions, globals_there, got_global, is_constant, same_name, unless}
 use Rattle.plain_check.specs.declared.contexts.GlobalType.{GlobalType as GlobalTypeValue}
 use Rattle.plain_check.specs.declared.rules.Only.{Only}
 use Rattle.plain_check.specs.declared.rules.Only.TheVariants.{Value, Got, Other}
-use Rattle.plain_check.specs.Contexts.{global_of, globals_of, func_types_of}
+use Rattle.plain_check.specs.Contexts.{global_of, globals_of}
 use Rattle.plain_check.specs.Rules.{only_of, constant_only}
 use Rattle.plain_check.proofs.SigLemmas.{split, none, get_map_none, get_map_some}
 
@@ -266,10 +260,10 @@ globals_from m n gs xs first second third fourth a b c d e f g =
     let elems = map (λ (e : Elem). e.offset) m.elems in
     let segments = map (λ (s : Segment). s.offset) m.segments in
     let got : flat_map got_global (expressions m) ≡ flat_map got_global inits ++ flat_map got_global elems ++ flat_map got_global segments =
-        flat_map-append got_global (inits ++ elems) segments ∙ ap (λ z. z ++ flat_map got_global segments) (flat_map-append got_global inits elems) in
+    flat_map-append got_global (inits ++ elems) segments ∙ ap (λ z. z ++ flat_map got_global segments) (flat_map-append got_global inits elems) in
     let all : xs ≡ exported a_global m ++ flat_map got_global (expressions m) =
-        g ∙ f ∙ ap (λ z. z ++ flat_map got_global segments) (e ∙ ap (λ z. z ++ flat_map got_global elems) (d ∙ ap (λ z. z ++ flat_map got_global inits) c))
-        ∙ ap (λ z. z ++ flat_map got_global segments) (append_assoc (exported a_global m) (flat_map got_global inits) (flat_map got_global elems))
-        ∙ append_assoc (exported a_global m) (flat_map got_global inits ++ flat_map got_global elems) (flat_map got_global segments)
-        ∙ ap (λ z. exported a_global m ++ z) (sym got) in
+    g ∙ f ∙ ap (λ z. z ++ flat_map got_global segments) (e ∙ ap (λ z. z ++ flat_map got_global elems) (d ∙ ap (λ z. z ++ flat_map got_global inits) c))
+    ∙ ap (λ z. z ++ flat_map got_global segments) (append_assoc (exported a_global m) (flat_map got_global inits) (flat_map got_global elems))
+    ∙ append_assoc (exported a_global m) (flat_map got_global inits ++ flat_map got_global elems) (flat_map got_global segments)
+    ∙ ap (λ z. exported a_global m ++ z) (sym got) in
     ap (λ k. all_below k xs) (a ∙ sym (length-map gs global_of) ∙ ap length b) ∙ ap (all_below (length (all_globals m))) all

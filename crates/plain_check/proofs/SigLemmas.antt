@@ -1,5 +1,5 @@
 -- Lists that are given as slices, and tables of accesses.
-use Rattle.std.proofs.Common.{◌≡◌, ℕ, zero, suc, if◌then◌else◌, ◌+◌, ◌-◌, ◌<◌, ◌≤◌, ◌&&◌, List, [], ◌∷◌, map, Option, Some, None, Bool, true, refl, ap, sym, ◌∙◌, arith, length, take, drop, get_or, slice_get, nat_lt, nat_le}
+use Rattle.std.proofs.Common.{◌≡◌, ℕ, zero, suc, if◌then◌else◌, ◌-◌, ◌<◌, ◌≤◌, ◌&&◌, List, [], ◌∷◌, map, Option, Some, None, true, refl, ap, sym, ◌∙◌, arith, length, take, drop, get_or, slice_get, nat_lt, nat_le}
 use Rattle.std.proofs.Math.Seq.{take-length}
 use Rattle.wa_types.specs.declared.values.ValType.{ValType}
 use Rattle.wa_types.specs.declared.values.ValType.TheVariants.{I32}

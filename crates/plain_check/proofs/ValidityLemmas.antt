@@ -1,14 +1,14 @@
 -- The first fault of a module.
 use Rattle.std.proofs.Common.{◌≡◌, ℕ, suc, ◌+◌, ◌-◌, ◌<◌, ◌≤◌, List, [], ◌∷◌, map, Option, Some, None, refl, ap, sym, ◌∙◌, subst, arith, length, take, drop, get_or, slice_get, MatchOption}
 use Rattle.wa_types.specs.declared.syntax.Func.{Func as FuncValue}
-use Rattle.wa_types.specs.Syntax.{Code, Func, Module}
+use Rattle.wa_types.specs.Syntax.{Code, Module}
 use Rattle.wa_types.specs.View.{func_of}
 use Rattle.wa_types.specs.Typing.{Around}
 use Rattle.wa_types.specs.Modules.{around}
 use Rattle.wa_types.specs.Validity.{Valid}
 use Rattle.wa_types.specs.FirstFault.{FirstFault}
 use Rattle.definition_check.specs.Laws.{Says}
-use Rattle.definition_check.specs.Running.{Verdict, fine, fault, body_verdict, Answer, valid, invalid, func_answer, funcs_answer, outside_answer, module_answer}
+use Rattle.definition_check.specs.Running.{body_verdict, Answer, valid, invalid, func_answer, funcs_answer, outside_answer, module_answer}
 use Rattle.definition_check.proofs.Decided.{module_decided}
 use Rattle.plain_check.specs.declared.validity.Fault.{Fault}
 use Rattle.plain_check.specs.Rules.{answer_of}

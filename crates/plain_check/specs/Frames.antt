@@ -1,5 +1,5 @@
 -- Slots, places and frames, in the terms of the definitions.
-use Rattle.std.specs.Prelude.{ℕ, List, [], ◌∷◌, map, Option, Bool, true, false, slice_get}
+use Rattle.std.specs.Prelude.{ℕ, List, [], map, Option, Bool, true, false, slice_get}
 use Rattle.wa_types.specs.declared.values.ValType.{ValType}
 use Rattle.wa_types.specs.Syntax.{Code}
 use Rattle.wa_types.specs.Pausing.{Policy, save_all, save_live, is_told}

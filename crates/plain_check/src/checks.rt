@@ -201,20 +201,8 @@ fn pop(p: ValType, os: &[Option<ValType>], free: bool) -> Option<&[Option<ValTyp
     ensures { MatchOption result (pop1 p os.now free ≡ None) (λ left. pop1 p os.now free ≡ Some left.now) }
 {
     match os {
-        [] => {
-            if free {
-                Some(&[])
-            } else {
-                None
-            }
-        }
-        [o, rest @ ..] => {
-            if may_fit(*o, p) {
-                Some(rest)
-            } else {
-                None
-            }
-        }
+        [] => { if free { Some(&[]) } else { None } }
+        [o, rest @ ..] => { if may_fit(*o, p) { Some(rest) } else { None } }
     }
 }
 
@@ -284,12 +272,7 @@ fn put_known(
 }
 
 // What an instruction does to the operands.
-fn apply(
-    alloc: Global,
-    sig: &Sig,
-    os: &[Option<ValType>],
-    free: bool,
-) -> Result<Next, AllocError>
+fn apply(alloc: Global, sig: &Sig, os: &[Option<ValType>], free: bool) -> Result<Next, AllocError>
     ensures { IfOk result (λ n. next_of n ≡ next (sig_of sig.now) os.now free) }
 {
     match sig {

@@ -2,7 +2,8 @@
 //!
 //! Each answers exactly what a definition says, so a test of it on a worked example is a test of the definition.
 //! `is_begun` and `fault_place` say which bytes begin a file, and where others fail. `room` and `saved` say how
-//! many bytes a suspended stack takes, and which locals a frame saves.
+//! many bytes a suspended stack takes, and which locals a frame saves. `first_fault` says which rule of validity a
+//! module breaks first, and where.
 #![tactic(auto)]
 
 mod beginnings;
@@ -23,6 +24,8 @@ pub use beginnings::{fault_place, is_begun};
 pub use frames::{Place, Policy, Suspended, room, saved};
 pub use validity::{Fault, first_fault};
 
+#[cfg(test)]
+mod broken_rules;
 #[cfg(test)]
 mod malformed_files;
 #[cfg(test)]

@@ -14,9 +14,7 @@ use crate::contexts::{GlobalType, globals, imported_globals, memories, sorts, ta
 use crate::sigs::{same_types, type_at, value_type};
 use crate::trees::{Basic, Plain, Tree, body_tree};
 use std::alloc::{AllocError, Global};
-use wa_types::{
-    Elem, Export, FuncType, GlobalDef, Instr, Limits, Module, Segment, Space, ValType,
-};
+use wa_types::{Elem, Export, FuncType, GlobalDef, Instr, Limits, Module, Segment, Space, ValType};
 
 /// The smallest rule that the module breaks outside its bodies.
 #[tactic(auto, using(crate::proofs::RuleLemmas::breaking))]
@@ -181,11 +179,7 @@ fn memories_exist(alloc: Global, module: &Module) -> Result<bool, AllocError>
 }
 
 #[tactic(auto, using(crate::proofs::RuleLemmas::listing))]
-fn put_memories(
-    alloc: Global,
-    segments: &[Segment],
-    out: &mut Vec<u32>,
-) -> Result<(), AllocError>
+fn put_memories(alloc: Global, segments: &[Segment], out: &mut Vec<u32>) -> Result<(), AllocError>
     ensures { OnOk result (out.new.items ≡ out.old.items ++ map (λ (s : PlainSegment). s.memory) (map segment_of segments.now)) }
 {
     let [segment, rest @ ..] = segments else {

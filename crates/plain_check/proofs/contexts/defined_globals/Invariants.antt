@@ -1,5 +1,4 @@
 use Rattle.std.proofs.Common.{◌≡◌, map, take}
-use Rattle.wa_types.specs.declared.syntax.GlobalDef.{GlobalDef as GlobalDefValue}
 use Rattle.plain_check.specs.Contexts.{def_type}
 use Rattle.plain_check.proofs.contexts.defined_globals.Given as goal
 

@@ -1,4 +1,4 @@
-use Rattle.std.proofs.Common.{◌+◌, sym, ap, ◌∙◌}
+use Rattle.std.proofs.Common.{◌+◌, ap, ◌∙◌}
 use Rattle.wa_types.specs.View.{module_of, func_of}
 use Rattle.plain_check.specs.Frames.{policy_of, places_of}
 use Rattle.plain_check.proofs.FrameLemmas.{frame_none, frame_some}
