@@ -77,22 +77,13 @@ fn check(
         }
         Tree::Nest(shape, gives, body, rest) => {
             let inner = labels_in(alloc, construct_label(*shape, *gives), labels)?;
+            let results = listing(*gives);
             let begin = plus(k, 1)?;
-            let inside = check(
-                alloc,
-                context,
-                &inner,
-                body,
-                listing(*gives),
-                &[],
-                false,
-                begin,
-            )?;
-            match inside {
+            match check(alloc, context, &inner, body, results, &[], false, begin)? {
                 Verdict::Fault(rule, at) => return Ok(Verdict::Fault(rule, at)),
                 Verdict::Fine => {}
             }
-            let left = known(alloc, listing(*gives), os)?;
+            let left = known(alloc, results, os)?;
             let after = plus(begin, plus(tree_size(body)?, 1)?)?;
             check(alloc, context, labels, rest, outs, &left, free, after)
         }
@@ -101,37 +92,21 @@ fn check(
                 return Ok(Verdict::Fault(8, k));
             };
             let inner = labels_in(alloc, *gives, labels)?;
+            let results = listing(*gives);
             let begin = plus(k, 1)?;
-            let in_then = check(
-                alloc,
-                context,
-                &inner,
-                then_arm,
-                listing(*gives),
-                &[],
-                false,
-                begin,
-            )?;
+            let in_then = check(alloc, context, &inner, then_arm, results, &[], false, begin)?;
             match in_then {
                 Verdict::Fault(rule, at) => return Ok(Verdict::Fault(rule, at)),
                 Verdict::Fine => {}
             }
             let first = plus(tree_size(then_arm)?, middle(else_arm))?;
-            let in_else = check(
-                alloc,
-                context,
-                &inner,
-                else_arm,
-                listing(*gives),
-                &[],
-                false,
-                plus(begin, first)?,
-            )?;
+            let other = plus(begin, first)?;
+            let in_else = check(alloc, context, &inner, else_arm, results, &[], false, other)?;
             match in_else {
                 Verdict::Fault(rule, at) => return Ok(Verdict::Fault(rule, at)),
                 Verdict::Fine => {}
             }
-            let left = known(alloc, listing(*gives), below)?;
+            let left = known(alloc, results, below)?;
             let both = plus(plus(first, tree_size(else_arm)?)?, 1)?;
             let after = plus(begin, both)?;
             check(alloc, context, labels, rest, outs, &left, free, after)
