@@ -1,0 +1,13 @@
+pub mod CheckLemmas
+pub mod ContextLemmas
+pub mod FrameLemmas
+pub mod FrontLemmas
+pub mod LiveLemmas
+pub mod PointLemmas
+pub mod RuleLemmas
+pub mod Searching
+pub mod SigLemmas
+pub mod SlotLemmas
+pub mod Stacks
+pub mod TreeLemmas
+pub mod ValidityLemmas
