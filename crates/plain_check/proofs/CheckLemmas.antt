@@ -7,7 +7,7 @@ use Rattle.wa_types.specs.declared.values.ValType.TheVariants.{I32}
 use Rattle.wa_types.specs.Syntax.{Plain, Shape, Code, done, plain, nest, branch}
 use Rattle.wa_types.specs.Typing.{Around, listed, sig, label}
 use Rattle.wa_types.specs.FirstFault.{mid, size}
-use Rattle.definition_check.specs.Running.{may_be, pop1, pops, chain, knows, goes, stops, pushed, dropped, joined, two, next, ended, Verdict, fine, fault, both, onward, checks, body_verdict}
+use Rattle.wasm_validate.specs.Running.{may_be, pop1, pops, chain, knows, goes, stops, pushed, dropped, joined, two, next, ended, Verdict, fine, fault, both, onward, checks, body_verdict}
 use Rattle.plain_check.proofs.SigLemmas.{split, none}
 
 abbrev rest_of : {A : Type 0} → List A → List A

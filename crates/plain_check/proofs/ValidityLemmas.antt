@@ -7,9 +7,9 @@ use Rattle.wa_types.specs.Typing.{Around}
 use Rattle.wa_types.specs.Modules.{around}
 use Rattle.wa_types.specs.Validity.{Valid}
 use Rattle.wa_types.specs.FirstFault.{FirstFault}
-use Rattle.definition_check.specs.Laws.{Says}
-use Rattle.definition_check.specs.Running.{body_verdict, Answer, valid, invalid, func_answer, funcs_answer, outside_answer, module_answer}
-use Rattle.definition_check.proofs.Decided.{module_decided}
+use Rattle.wasm_validate.specs.Laws.{Says}
+use Rattle.wasm_validate.specs.Running.{body_verdict, Answer, valid, invalid, func_answer, funcs_answer, outside_answer, module_answer}
+use Rattle.wasm_validate.proofs.Decided.{module_decided}
 use Rattle.plain_check.specs.declared.validity.Fault.{Fault}
 use Rattle.plain_check.specs.Rules.{answer_of}
 use Rattle.plain_check.proofs.SigLemmas.{split, none}

@@ -1,5 +1,5 @@
 -- Verdicts, in the terms of the definitions.
-use Rattle.definition_check.specs.Running.{Next, goes, stops, Verdict, fine, fault}
+use Rattle.wasm_validate.specs.Running.{Next, goes, stops, Verdict, fine, fault}
 use Rattle.plain_check.specs.declared.checks.Next.{Next as NextValue}
 use Rattle.plain_check.specs.declared.checks.Next.TheVariants.{Goes, Stops}
 use Rattle.plain_check.specs.declared.checks.Verdict.{Verdict as VerdictValue}

@@ -6,7 +6,7 @@ use Rattle.wa_types.specs.Syntax.{Basic, const, global_get, Plain, basic, Code, 
 use Rattle.wa_types.specs.Typing.{GlobalType, type_of}
 use Rattle.wa_types.specs.Validity.{unless, all_limits_fit, one_each, all_constant, constant_of, names_differ, start_lawful, one_result}
 use Rattle.std.specs.List.{slice_get}
-use Rattle.definition_check.specs.Running.{Answer, valid, invalid}
+use Rattle.wasm_validate.specs.Running.{Answer, valid, invalid}
 use Rattle.plain_check.specs.declared.rules.Only.{Only}
 use Rattle.plain_check.specs.declared.rules.Only.TheVariants.{Value, Got, Other}
 use Rattle.plain_check.specs.declared.validity.Fault.{Fault}

@@ -2,7 +2,7 @@
 
 ghost use Rattle.std.specs.Prelude.{◌≡◌, ◌++◌, ◌+◌, ◌∷◌, [], IfOk, OnOk, MatchOption, None, Some, if◌then◌else◌};
 ghost use Rattle.wa_types.specs.FirstFault.{mid, size};
-ghost use Rattle.definition_check.specs.Running.{may_be, pop1, pops, pushed, gone, too_late, dropped, two, selected, next, ended, checks, knows, body_verdict, fine, fault, stops, goes};
+ghost use Rattle.wasm_validate.specs.Running.{may_be, pop1, pops, pushed, gone, too_late, dropped, two, selected, next, ended, checks, knows, body_verdict, fine, fault, stops, goes};
 ghost use Rattle.plain_check.specs.Contexts.{around_of};
 ghost use Rattle.plain_check.specs.Checks.{next_of, verdict_of};
 ghost use Rattle.plain_check.specs.Sigs.{sig_of};

@@ -5,7 +5,7 @@ ghost use Rattle.wa_types.specs.View.{module_of, func_of};
 ghost use Rattle.wa_types.specs.Modules.{around};
 ghost use Rattle.wa_types.specs.Validity.{Valid};
 ghost use Rattle.wa_types.specs.FirstFault.{FirstFault};
-ghost use Rattle.definition_check.specs.Running.{body_verdict, funcs_answer, module_answer};
+ghost use Rattle.wasm_validate.specs.Running.{body_verdict, funcs_answer, module_answer};
 ghost use Rattle.plain_check.specs.Checks.{verdict_of};
 ghost use Rattle.plain_check.specs.Rules.{answer_of};
 

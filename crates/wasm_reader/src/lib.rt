@@ -9,20 +9,13 @@
 //! against it (`specs/Answers.antt`).
 #![tactic(auto)]
 
-<<<<<<< HEAD
 mod build;
-mod read_fault;
-=======
-mod bodies;
-mod bounds;
-mod build;
-mod entries;
->>>>>>> 5515614549e29476aaf2ed80420254d8ca6d95b4
 mod front;
 mod grammar;
 mod locals;
 mod marks;
 mod opcodes;
+mod read_fault;
 mod reader;
 mod scan;
 

@@ -2,7 +2,7 @@ use Rattle.std.proofs.Common.{◌≡◌, ◌+◌, ◌++◌, arith, ap, ◌∙◌
 use Rattle.std.proofs.lemmas.Result.{IfOk-weaker}
 use Rattle.wa_types.specs.Typing.{listed}
 use Rattle.wa_types.specs.FirstFault.{mid, size}
-use Rattle.definition_check.specs.Running.{checks, knows}
+use Rattle.wasm_validate.specs.Running.{checks, knows}
 use Rattle.plain_check.specs.Contexts.{around_of}
 use Rattle.plain_check.specs.Trees.{code_of}
 use Rattle.plain_check.specs.Checks.{verdict_of}

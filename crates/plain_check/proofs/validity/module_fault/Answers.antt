@@ -2,7 +2,7 @@ use Rattle.std.proofs.Common.{sym, ◌∙◌}
 use Rattle.wa_types.specs.View.{module_of}
 use Rattle.wa_types.specs.Modules.{func_imports}
 use Rattle.wa_types.specs.Validity.{broken_outside}
-use Rattle.definition_check.specs.Running.{funcs_answer}
+use Rattle.wasm_validate.specs.Running.{funcs_answer}
 use Rattle.plain_check.proofs.ValidityLemmas.{broken_some}
 use Rattle.plain_check.proofs.validity.module_fault.Goals as goal
 
