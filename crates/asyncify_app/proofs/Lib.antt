@@ -1,3 +1,4 @@
+pub mod Accepted
 pub mod FreeNames
 pub mod Grown
 pub mod Printed

@@ -1,11 +1,11 @@
 -- What was printed, piece after piece.
-use Rattle.std.proofs.Common.{ℕ, ◌++◌, List, Option, Some, None, Result, Ok, Err, refl, sym, ap, ◌∙◌, take, length, inl, inr}
+use Rattle.std.proofs.Common.{ℕ, ◌++◌, List, Option, Some, None, Result, Ok, Err, refl, sym, ap, ◌∙◌, ◌≡◌, subst, take, length, inl, inr}
 use Rattle.std.specs.Prelude.{OnOk, OnErr}
 use Rattle.std.proofs.lemmas.List.{append-nil}
 use Rattle.vault_port.specs.Told.{Becomes}
 use Rattle.vault_port.specs.Taken.{Appends, AppendsLess}
 use Rattle.asyncify_app.specs.Lines.{memory_line, read_fault_line}
-use Rattle.asyncify_app.specs.Transforms.{EndsInMemory, PrintsMemory, RunsOutOfMemory}
+use Rattle.asyncify_app.specs.Transforms.{EndsInMemory, Prints, PrintsMemory, RunsOutOfMemory}
 use Rattle.vault_port.specs.Files.{Files}
 
 -- one way or the other
@@ -49,3 +49,10 @@ memory_any files input output None None h = tt
 memory_any files input output (Some x) (Some y) h = (read_fault_line input, inr (inl refl), memory_alone (read_fault_line input) (Some x) (Some y) h)
 memory_any files input output None (Some y) h = h
 memory_any files input output (Some x) None h = h
+
+-- another name of a line that was printed
+pub told_line : (line text : List ℕ) (faults faults' : ℕ) (old new : Option (List ℕ)) → line ≡ text → Becomes old new (Prints text faults faults') → Becomes old new (Prints line faults faults')
+told_line line text faults faults' old new e h = subst (λ l. Becomes old new (Prints l faults faults')) (sym e) h
+
+pub told_memory : (line text : List ℕ) (old new : Option (List ℕ)) → line ≡ text → Becomes old new (PrintsMemory text) → Becomes old new (PrintsMemory line)
+told_memory line text old new e h = subst (λ l. Becomes old new (PrintsMemory l)) (sym e) h

@@ -1,7 +1,7 @@
 -- The file that was read, and the one that is written.
 use Rattle.std.proofs.Common.{◌≡◌, inl, inr, ℕ, ◌≤◌, List, Option, Some, None, refl, sym, ap, ◌∙◌, subst, take, length, arith}
 use Rattle.std.proofs.lemmas.List.{take_all, length-take}
-use Rattle.std.proofs.Common.{length-take-le, ◌<◌}
+use Rattle.std.proofs.Common.{◌<◌}
 use Rattle.vault_port.specs.Files.{Files, bytes_of, ChangesOnly, HoldsFrontAtMost}
 use Rattle.vault_port.specs.Told.{WhereTold, Becomes}
 use Rattle.wa_types.specs.Syntax.{Module}
@@ -42,7 +42,7 @@ refused_whole bytes Memory h = h
 refused_whole bytes (Malformed at) h = within_whole bytes (λ s. IsRefused source_bounds s (Malformed at)) h.0 h
 refused_whole bytes (Float at) h = within_whole bytes (λ s. IsRefused source_bounds s (Float at)) h.1.few h
 refused_whole bytes (Deep at) h = within_whole bytes (λ s. IsRefused source_bounds s (Deep at)) h.1.before.before.before.file.few h
-refused_whole bytes (Limit File n) h = (omega (arith, h.0, length-take-le 8388609 bytes), h.1)
+refused_whole bytes (Limit File n) h = (omega (arith, h.0, length-take 8388609 bytes), h.1)
 refused_whole bytes (Limit Functions n) h = within_whole bytes (λ s. IsRefused source_bounds s (Limit Functions n)) h.1.file.few h
 refused_whole bytes (Limit Parameters n) h = within_whole bytes (λ s. IsRefused source_bounds s (Limit Parameters n)) h.1.before.file.few h
 refused_whole bytes (Limit Body n) h = within_whole bytes (λ s. IsRefused source_bounds s (Limit Body n)) h.1.before.before.file.few h
@@ -118,6 +118,7 @@ refused_for input bytes (Some a) cause read h = cause_whole (bytes_of a input) c
 
 -- an accepted source is in the file
 pub held : (input bytes text : List ℕ) (functions : ℕ) (old : Option Files) → WhereTold old (λ all. bytes ≡ take 8388609 (bytes_of all input)) → IsRewritten bytes functions text → WhereTold old (λ all. HoldsSource (bytes_of all input))
+unfolding HoldsSource
 held input bytes text functions None read w = tt
 held input bytes text functions (Some a) read w = (w.0, source_of bytes (bytes_of a input) w.0 read w.1)
 

@@ -58,11 +58,6 @@ limit_word Output = codes "output"
 limit_word Script = codes "script"
 limit_word Programs = codes "programs"
 
--- where a fault of validity is
-abbrev pub fault_place : Option ℕ → ℕ → List ℕ
-fault_place None at = codes "module"
-fault_place (Some func) at = codes "function " ++ decimal func ++ codes " at " ++ decimal at
-
 -- what is printed of each cause
 unfoldable pub line_of : Cause → List ℕ
 line_of (malformed at) = codes "malformed at " ++ decimal at ++ line_end
@@ -70,5 +65,7 @@ line_of (float at) = codes "float at " ++ decimal at ++ line_end
 line_of (deep at) = codes "limit nesting at " ++ decimal at ++ line_end
 line_of (limit what found) = codes "limit " ++ limit_word what ++ codes " " ++ decimal found ++ line_end
 line_of (reserved name) = codes "reserved " ++ printed_name name ++ line_end
-line_of (invalid func rule at) = codes "invalid rule " ++ decimal rule ++ codes " " ++ fault_place func at ++ line_end
+line_of (invalid None rule at) = codes "invalid rule " ++ decimal rule ++ codes " module" ++ line_end
+line_of (invalid (Some func) rule at) =
+    codes "invalid rule " ++ decimal rule ++ codes " function " ++ decimal func ++ codes " at " ++ decimal at ++ line_end
 line_of not_small = not_built_line

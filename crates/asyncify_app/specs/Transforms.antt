@@ -46,7 +46,7 @@ IsDoneLine files input line =
     (functions : ℕ) × (bytes : ℕ) × (line ≡ done_line functions 0 bytes) × WhereTold files (λ all. IsCount (bytes_of all input) functions bytes)
 
 -- there is an accepted source in IN
-abbrev pub HoldsSource : List ℕ → Type 0
+unfoldable pub HoldsSource : List ℕ → Type 0
 HoldsSource bytes = (m : Module) × IsSource bytes m
 
 -- a cause of this status; where the files are told, IN is refused for it

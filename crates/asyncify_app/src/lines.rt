@@ -1,9 +1,8 @@
 // The lines that the program prints.
-ghost use Rattle.std.specs.Prelude.{◌≡◌, ◌++◌, IfOk, OnOk, ◌<◌};
+ghost use Rattle.std.specs.Prelude.{◌≡◌, ◌++◌, ℕ, Some, None, IfOk, OnOk, ◌<◌};
 ghost use Rattle.std.specs.String.{string_bytes};
-ghost use Rattle.std.specs.Fmt.{decimal};
 ghost use Rattle.asyncify_app.specs.Lines.{done_line, hex_digit, is_plain_byte, limit_word, line_end, line_of, name_byte, printed_name};
-ghost use Rattle.asyncify_app.specs.Sources.{invalid, limit};
+ghost use Rattle.asyncify_app.specs.Sources.{deep, float, invalid, limit, malformed};
 
 use std::alloc::{AllocError, Global};
 use wa_types::LimitKind;
@@ -64,11 +63,25 @@ fn hex_digit(digit: u8) -> u8
     }
 }
 
-/// What is printed of a place: these words, and a number.
-pub fn placed_line(alloc: Global, words: &str, at: u64) -> Result<String, AllocError>
-    ensures { IfOk result (λ line. string_bytes line ≡ words.now ++ decimal at ++ line_end) }
+/// What is printed of bytes that spell no module.
+pub fn malformed_line(alloc: Global, at: u64) -> Result<String, AllocError>
+    ensures { IfOk result (λ line. string_bytes line ≡ line_of (malformed at)) }
 {
-    format!(in alloc; "{words}{at}\n")
+    format!(in alloc; "malformed at {at}\n")
+}
+
+/// What is printed of a float.
+pub fn float_line(alloc: Global, at: u64) -> Result<String, AllocError>
+    ensures { IfOk result (λ line. string_bytes line ≡ line_of (float at)) }
+{
+    format!(in alloc; "float at {at}\n")
+}
+
+/// What is printed of too many levels of constructs.
+pub fn deep_line(alloc: Global, at: u64) -> Result<String, AllocError>
+    ensures { IfOk result (λ line. string_bytes line ≡ line_of (deep at)) }
+{
+    format!(in alloc; "limit nesting at {at}\n")
 }
 
 /// What is printed of a fault of validity.
@@ -81,9 +94,23 @@ pub fn invalid_line(
     ensures { IfOk result (λ line. string_bytes line ≡ line_of (invalid func rule at)) }
 {
     match func {
-        Some(func) => format!(in alloc; "invalid rule {rule} function {func} at {at}\n"),
-        None => format!(in alloc; "invalid rule {rule} module\n"),
+        Some(func) => invalid_body_line(alloc, func, rule, at),
+        None => invalid_module_line(alloc, rule),
     }
+}
+
+// What is printed of a fault of validity in the body of a function.
+fn invalid_body_line(alloc: Global, func: u32, rule: u8, at: u64) -> Result<String, AllocError>
+    ensures { IfOk result (λ line. string_bytes line ≡ line_of (invalid (Some func) rule at)) }
+{
+    format!(in alloc; "invalid rule {rule} function {func} at {at}\n")
+}
+
+// What is printed of a fault of validity outside the bodies.
+fn invalid_module_line(alloc: Global, rule: u8) -> Result<String, AllocError>
+    ensures { (at : ℕ) → IfOk result (λ line. string_bytes line ≡ line_of (invalid None rule at)) }
+{
+    format!(in alloc; "invalid rule {rule} module\n")
 }
 
 /// What is printed of a limit.

@@ -9,7 +9,9 @@ ghost use Rattle.asyncify_app.specs.Refusals.{cause_of};
 ghost use Rattle.asyncify_app.specs.Sources.{status_of};
 ghost use Rattle.asyncify_app.specs.Transforms.{EndsInMemory, Prints, PrintsMemory};
 
-use crate::lines::{done_line, invalid_line, limit_line, line_with_name, placed_line};
+use crate::lines::{
+    deep_line, done_line, float_line, invalid_line, limit_line, line_with_name, malformed_line,
+};
 use crate::refusals::Refusal;
 use std::alloc::{AllocError, Global};
 use vault_port::{PutFault, Sink, put_whole};
@@ -105,9 +107,9 @@ pub fn refuse_source<S: Sink>(alloc: Global, out: &mut S, refusal: &Refusal) -> 
     ensures faults { S.faults out.old ≤ S.faults out.new }
 {
     match refusal {
-        Refusal::Malformed { at } => refuse_text(out, MALFORMED, placed_line(alloc, "malformed at ", *at)),
-        Refusal::Float { at } => refuse_text(out, FLOAT, placed_line(alloc, "float at ", *at)),
-        Refusal::Deep { at } => refuse_text(out, LIMIT, placed_line(alloc, "limit nesting at ", *at)),
+        Refusal::Malformed { at } => refuse_text(out, MALFORMED, malformed_line(alloc, *at)),
+        Refusal::Float { at } => refuse_text(out, FLOAT, float_line(alloc, *at)),
+        Refusal::Deep { at } => refuse_text(out, LIMIT, deep_line(alloc, *at)),
         Refusal::Limit { what, found } => refuse_text(out, LIMIT, limit_line(alloc, *what, *found)),
         Refusal::Reserved { name } => refuse_name(alloc, out, RESERVED, "reserved ", name.as_str()),
         Refusal::Invalid { func, rule, at } => {

@@ -7,19 +7,30 @@ use wa_types::LimitKind;
 pub enum Refusal {
     /// The bytes spell no module; the place of the fault.
     #[error("malformed at {at}")]
-    Malformed { at: u64 },
+    Malformed {
+        at: u64,
+    },
     /// A float type or opcode; the offset of the first.
     #[error("float at {at}")]
-    Float { at: u64 },
+    Float {
+        at: u64,
+    },
     /// Too many levels of constructs; the offset of the first opcode past the bound.
     #[error("limit nesting at {at}")]
-    Deep { at: u64 },
+    Deep {
+        at: u64,
+    },
     /// Another limit, and the number found.
     #[error("limit passed with {found}")]
-    Limit { what: LimitKind, found: u64 },
+    Limit {
+        what: LimitKind,
+        found: u64,
+    },
     /// An import from the module `asyncify`, or an export under one of the five names.
     #[error("reserved {name}")]
-    Reserved { name: String },
+    Reserved {
+        name: String,
+    },
     /// A fault of validity.
     #[error("invalid rule {rule}")]
     Invalid {

@@ -164,11 +164,7 @@ fn sources_are_refused_for_their_cause(rt: HostRuntime) -> Result<(), Fail> {
             "reserved asyncify_get_state\n",
         ),
         // a memory
-        (
-            b"\0asm\x01\0\0\0\x05\x03\x01\0\x01",
-            14,
-            "not yet built\n",
-        ),
+        (b"\0asm\x01\0\0\0\x05\x03\x01\0\x01", 14, "not yet built\n"),
     ];
     for (bytes, status, line) in rows {
         let (told, out) = transformed(alloc, bytes)?;
@@ -181,12 +177,12 @@ fn sources_are_refused_for_their_cause(rt: HostRuntime) -> Result<(), Fail> {
 #[test]
 fn padded_numbers_are_read(rt: HostRuntime) -> Result<(), Fail> {
     let alloc = rt.alloc();
-    let (status, out) = transformed(
-        alloc,
-        b"\0asm\x01\0\0\0\x01\x84\x80\x80\x80\0\x01\x60\0\0",
-    )?;
+    let (status, out) = transformed(alloc, b"\0asm\x01\0\0\0\x01\x84\x80\x80\x80\0\x01\x60\0\0")?;
     assert_eq!(rt; status, 0);
-    assert_eq!(rt; out.bytes(), b"ok functions 0 instrumented 0 bytes 274\n".as_slice());
+    assert_eq!(rt;
+        out.bytes(),
+        b"ok functions 0 instrumented 0 bytes 274\n".as_slice()
+    );
     Ok(())
 }
 

@@ -190,7 +190,7 @@ body_made n sort x s e =
     let d1 = length_split s.bytes h.0 h.1 h.2 in
     let d2 = length_split h.1 g.0 g.1 g.2 in
     let ls = each_made (Seen m RunOf) (λ (r : RawRun). float_type r.ty) IsRun (run_made m) x.locals (seen_vector m RunOf x.locals (s.place + length h.0) g.0 g.3 (omega (arith, d1, d2)))
-        (front_clear (flat_map (λ (r : RawRun). float_type r.ty) x.locals) (code_floats x.code) e) in
+    (front_clear (flat_map (λ (r : RawRun). float_type r.ty) x.locals) (code_floats x.code) e) in
     let c = expression_made x.code (s.place + length h.0 + length g.0) g.1 g.4 (back_clear (flat_map (λ (r : RawRun). float_type r.ty) x.locals) (code_floats x.code) e) in
     (record { sort = sort; locals = ls.0; body = c.0 }, record { locals = ls.1; body = c.1 }, refl)
 
@@ -272,30 +272,32 @@ module_made bytes ss s e =
     let es = each_made (Seen n ElementOf) (λ (x : RawElem). code_floats x.offset) IsElem (elem_made n) (flat_map elements_in ss) (held_seen n ElementOf elements_in (elements_seen n) ss at p.1 p.4 l) (held_clear elements_in (λ (x : RawElem). code_floats x.offset) elements_clear ss e) in
     let ds = each_made (Seen n SegmentOf) (λ (x : RawSegment). code_floats x.offset) IsSegment (segment_made n) (flat_map segments_in ss) (held_seen n SegmentOf segments_in (segments_seen n) ss at p.1 p.4 l) (held_clear segments_in (λ (x : RawSegment). code_floats x.offset) segments_clear ss e) in
     let fs = funcs_made n (flat_map sorts_in ss) (flat_map bodies_in ss) s.counts (held_seen n BodyOf bodies_in (bodies_seen n) ss at p.1 p.4 l) (held_clear bodies_in body_floats bodies_clear ss e) in
-    let o = start_made 0 ss s.order in
-    (record {
-      types = ts.0;
-      imports = is.0;
-      funcs = fs.0;
-      tables = flat_map tables_in ss;
-      memories = flat_map memories_in ss;
-      globals = gs.0;
-      exports = flat_map exports_in ss;
-      start = o.0;
-      elems = es.0;
-      segments = ds.0;
-      customs = customs_of 0 ss;
-    }, record {
-      types = ts.1;
-      imports = is.1;
-      sorts = fs.2;
-      funcs = fs.1;
-      tables = refl;
-      memories = refl;
-      globals = gs.1;
-      exports = refl;
-      start = o.1;
-      elems = es.1;
-      segments = ds.1;
-      customs = refl;
-    })
+    let o = start_made 0 ss s.order in (
+      record {
+        types = ts.0;
+        imports = is.0;
+        funcs = fs.0;
+        tables = flat_map tables_in ss;
+        memories = flat_map memories_in ss;
+        globals = gs.0;
+        exports = flat_map exports_in ss;
+        start = o.0;
+        elems = es.0;
+        segments = ds.0;
+        customs = customs_of 0 ss;
+      },
+      record {
+        types = ts.1;
+        imports = is.1;
+        sorts = fs.2;
+        funcs = fs.1;
+        tables = refl;
+        memories = refl;
+        globals = gs.1;
+        exports = refl;
+        start = o.1;
+        elems = es.1;
+        segments = ds.1;
+        customs = refl;
+      },
+    )

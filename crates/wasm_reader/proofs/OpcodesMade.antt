@@ -60,7 +60,7 @@ none_follows op h =
       ne_eqb op 0x42 (λ e. omega (arith, h, e)),
       ne_eqb op 0x43 (λ e. omega (arith, h, e)),
       ne_eqb op 0x44 (λ e. omega (arith, h, e)),
-      within_above 0x45 0xBF op (omega (arith, h))
+      within_above 0x45 0xBF op (omega (arith, h)),
     ) refl
 
 low : (op : ℕ) (f : Follows) → follows op ≡ Some f → op < 192

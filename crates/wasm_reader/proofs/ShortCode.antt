@@ -25,8 +25,12 @@ pub vector_short : {X Y : Type 0} (f : X → ℕ → List ℕ → Type 0) (entry
     → (xs : List X) (ys : List Y) (at : ℕ) (a : List ℕ) → Vector f xs at a → Each R xs ys → length (vector entry ys) ≤ length a
 vector_short f entry R w xs ys at a h e =
     omega (
-      arith, length_split a h.0 h.1 h.2, length-append (shortest (length ys)) (flat_map entry ys), number_short (length xs) h.0 h.3,
-      ap (λ n. length (shortest n)) (each_length R xs ys e), items_short f entry R w xs ys (at + length h.0) h.1 h.4 e
+      arith,
+      length_split a h.0 h.1 h.2,
+      length-append (shortest (length ys)) (flat_map entry ys),
+      number_short (length xs) h.0 h.3,
+      ap (λ n. length (shortest n)) (each_length R xs ys e),
+      items_short f entry R w xs ys (at + length h.0) h.1 h.4 e,
     )
 
 -- the same thing on both sides
@@ -98,9 +102,13 @@ code_short (instr op o x) (plain p c) e first_arm at a h i =
     let t = h.1 in
     let u = t.4 in
     omega (
-      arith, length_split a t.0 t.1 t.2, ap length t.3.1, length_split t.1 u.0 u.1 u.2, length-append (plain_bytes p) (code_bytes c),
+      arith,
+      length_split a t.0 t.1 t.2,
+      ap length t.3.1,
+      length_split t.1 u.0 u.1 u.2,
+      length-append (plain_bytes p) (code_bytes c),
       operands_short p (at + length t.0) u.0 (subst (λ z. OperandsOf z (at + length t.0) u.0) i.0.follows u.3),
-      code_short x c e first_arm (at + length t.0 + length u.0) u.1 u.4 i.1
+      code_short x c e first_arm (at + length t.0 + length u.0) u.1 u.4 i.1,
     )
 code_short (instr op o x) done e first_arm at a h i = absurd i
 code_short (instr op o x) (nest s r y z) e first_arm at a h i = absurd i
@@ -110,9 +118,15 @@ code_short (nested op t x y) (nest s r c d) e first_arm at a h i =
     let g = p.4 in
     let j = g.4 in
     omega (
-      arith, length_split a p.0 p.1 p.2, ap length p.3.1, length_split p.1 g.0 g.1 g.2, ap length g.3.1.1, length_split g.1 j.0 j.1 j.2,
+      arith,
+      length_split a p.0 p.1 p.2,
+      ap length p.3.1,
+      length_split p.1 g.0 g.1 g.2,
+      ap length g.3.1.1,
+      length_split g.1 j.0 j.1 j.2,
       length-append (code_bytes c) (0x0B ∷ code_bytes d),
-      code_short x c done false (at + length p.0 + length g.0) j.0 j.3 i.2, code_short y d e first_arm (at + length p.0 + length g.0 + length j.0) j.1 j.4 i.3
+      code_short x c done false (at + length p.0 + length g.0) j.0 j.3 i.2,
+      code_short y d e first_arm (at + length p.0 + length g.0 + length j.0) j.1 j.4 i.3,
     )
 code_short (nested op t x y) done e first_arm at a h i = absurd i
 code_short (nested op t x y) (plain p r) e first_arm at a h i = absurd i
@@ -122,9 +136,16 @@ code_short (branched op t x y) (branch r c d z) e first_arm at a h i =
     let g = p.4 in
     let j = g.4 in
     omega (
-      arith, length_split a p.0 p.1 p.2, ap length p.3.1, length_split p.1 g.0 g.1 g.2, ap length g.3.1.1, length_split g.1 j.0 j.1 j.2,
-      length-append (code_bytes c) (else_bytes d (code_bytes d)), length-append (code_bytes c ++ else_bytes d (code_bytes d)) (0x0B ∷ code_bytes z),
-      code_short x c d true (at + length p.0 + length g.0) j.0 j.3 i.1, code_short y z e first_arm (at + length p.0 + length g.0 + length j.0) j.1 j.4 i.2
+      arith,
+      length_split a p.0 p.1 p.2,
+      ap length p.3.1,
+      length_split p.1 g.0 g.1 g.2,
+      ap length g.3.1.1,
+      length_split g.1 j.0 j.1 j.2,
+      length-append (code_bytes c) (else_bytes d (code_bytes d)),
+      length-append (code_bytes c ++ else_bytes d (code_bytes d)) (0x0B ∷ code_bytes z),
+      code_short x c d true (at + length p.0 + length g.0) j.0 j.3 i.1,
+      code_short y z e first_arm (at + length p.0 + length g.0 + length j.0) j.1 j.4 i.2,
     )
 code_short (branched op t x y) done e first_arm at a h i = absurd i
 code_short (branched op t x y) (plain p r) e first_arm at a h i = absurd i

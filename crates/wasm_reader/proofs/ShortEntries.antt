@@ -25,10 +25,13 @@ pub type_short : (x : RawType) (t : FuncType) (at : ℕ) (a : List ℕ) → Func
 type_short x t at a h i =
     let g = h.4 in
     omega (
-      arith, length_split a h.0 h.1 h.2, ap length h.3, length_split h.1 g.0 g.1 g.2,
+      arith,
+      length_split a h.0 h.1 h.2,
+      ap length h.3,
+      length_split h.1 g.0 g.1 g.2,
       length-append (vector (λ p. type_byte p ∷ []) t.params) (vector (λ r. type_byte r ∷ []) t.results),
       vector_short ValueType (λ p. type_byte p ∷ []) IsValueType value_type_short x.params t.params (at + length h.0) g.0 g.3 i.params,
-      vector_short ValueType (λ r. type_byte r ∷ []) IsValueType value_type_short x.results t.results (at + length h.0 + length g.0) g.1 g.4 i.results
+      vector_short ValueType (λ r. type_byte r ∷ []) IsValueType value_type_short x.results t.results (at + length h.0 + length g.0) g.1 g.4 i.results,
     )
 
 maximum_short : (low : ℕ) (high : Option ℕ) (at : ℕ) (a : List ℕ) → Maximum low high at a → length (max_bytes low high) ≤ length a
@@ -61,18 +64,29 @@ pub import_short : (x : RawImport) (y : Import) (at : ℕ) (a : List ℕ) → Im
 import_short x y at a h i =
     let g = h.4 in
     omega (
-      arith, length_split a h.0 h.1 h.2, length_split h.1 g.0 g.1 g.2,
-      length-append (name_bytes y.«module» ++ name_bytes y.base) (import_kind_bytes y.kind), length-append (name_bytes y.«module») (name_bytes y.base),
-      ap (λ z. length (name_bytes z)) i.module_name, ap (λ z. length (name_bytes z)) i.base,
-      text_short x.module_name at h.0 h.3, text_short x.base (at + length h.0) g.0 g.3, kind_short x.kind y.kind (at + length h.0 + length g.0) g.1 g.4 i.kind
+      arith,
+      length_split a h.0 h.1 h.2,
+      length_split h.1 g.0 g.1 g.2,
+      length-append (name_bytes y.«module» ++ name_bytes y.base) (import_kind_bytes y.kind),
+      length-append (name_bytes y.«module») (name_bytes y.base),
+      ap (λ z. length (name_bytes z)) i.module_name,
+      ap (λ z. length (name_bytes z)) i.base,
+      text_short x.module_name at h.0 h.3,
+      text_short x.base (at + length h.0) g.0 g.3,
+      kind_short x.kind y.kind (at + length h.0 + length g.0) g.1 g.4 i.kind,
     )
 
 pub global_short : (x : RawGlobal) (y : GlobalDef) (at : ℕ) (a : List ℕ) → GlobalOf x at a → IsGlobal x y → length (global_bytes y) ≤ length a
 global_short x y at a h i =
     let t = h.3 in
     omega (
-      arith, length_split a h.0 h.1 h.2, length_split h.0 t.0 t.1 t.2, ap length t.3.1.1, ap length t.4,
-      length-append (global_type_bytes y.ty y.mutable) (expression_bytes y.init), expression_short x.init y.init (at + length h.0) h.1 h.4 i.init
+      arith,
+      length_split a h.0 h.1 h.2,
+      length_split h.0 t.0 t.1 t.2,
+      ap length t.3.1.1,
+      ap length t.4,
+      length-append (global_type_bytes y.ty y.mutable) (expression_bytes y.init),
+      expression_short x.init y.init (at + length h.0) h.1 h.4 i.init,
     )
 
 pub export_short : (x y : Export) (at : ℕ) (a : List ℕ) → ExportOf x at a → Same x y → length (export_bytes y) ≤ length a
@@ -80,18 +94,29 @@ export_short x y at a h e =
     let g = h.4 in
     subst (λ (z : Export). length (export_bytes z) ≤ length a) (sym e)
     (omega (
-      arith, length_split a h.0 h.1 h.2, length_split h.1 g.0 g.1 g.2, ap length g.3,
-      length-append (name_bytes x.name) (space_byte x.space ∷ shortest x.index), text_short x.name at h.0 h.3, number_short x.index g.1 g.4
+      arith,
+      length_split a h.0 h.1 h.2,
+      length_split h.1 g.0 g.1 g.2,
+      ap length g.3,
+      length-append (name_bytes x.name) (space_byte x.space ∷ shortest x.index),
+      text_short x.name at h.0 h.3,
+      number_short x.index g.1 g.4,
     ))
 
 pub elem_short : (x : RawElem) (y : Elem) (at : ℕ) (a : List ℕ) → ElementOf x at a → IsElem x y → length (elem_bytes y) ≤ length a
 elem_short x y at a h i =
     let g = h.4 in
     omega (
-      arith, length_split a h.0 h.1 h.2, length_split h.1 g.0 g.1 g.2,
-      length-append (shortest y.table ++ expression_bytes y.offset) (vector shortest y.funcs), length-append (shortest y.table) (expression_bytes y.offset),
-      ap (λ z. length (shortest z)) i.table, ap (λ z. length (vector shortest z)) i.funcs,
-      number_short x.table h.0 h.3, expression_short x.offset y.offset (at + length h.0) g.0 g.3 i.offset, indices_short x.funcs (at + length h.0 + length g.0) g.1 g.4
+      arith,
+      length_split a h.0 h.1 h.2,
+      length_split h.1 g.0 g.1 g.2,
+      length-append (shortest y.table ++ expression_bytes y.offset) (vector shortest y.funcs),
+      length-append (shortest y.table) (expression_bytes y.offset),
+      ap (λ z. length (shortest z)) i.table,
+      ap (λ z. length (vector shortest z)) i.funcs,
+      number_short x.table h.0 h.3,
+      expression_short x.offset y.offset (at + length h.0) g.0 g.3 i.offset,
+      indices_short x.funcs (at + length h.0 + length g.0) g.1 g.4,
     )
 
 pub segment_short : (x : RawSegment) (y : Segment) (at : ℕ) (a : List ℕ) → SegmentOf x at a → IsSegment x y → length (segment_bytes y) ≤ length a
@@ -99,10 +124,20 @@ segment_short x y at a h i =
     let g = h.4 in
     let k = g.4 in
     omega (
-      arith, length_split a h.0 h.1 h.2, length_split h.1 g.0 g.1 g.2, length_split g.1 k.0 k.1 k.2, ap length k.4,
-      length-append (shortest y.memory ++ expression_bytes y.offset) (sized y.bytes), length-append (shortest y.memory) (expression_bytes y.offset),
-      length-append (shortest (length y.bytes)) y.bytes, ap (λ z. length (shortest z)) i.memory, ap length i.bytes, ap (λ z. length (shortest (length z))) i.bytes,
-      number_short x.memory h.0 h.3, expression_short x.offset y.offset (at + length h.0) g.0 g.3 i.offset, number_short (length x.bytes) k.0 k.3
+      arith,
+      length_split a h.0 h.1 h.2,
+      length_split h.1 g.0 g.1 g.2,
+      length_split g.1 k.0 k.1 k.2,
+      ap length k.4,
+      length-append (shortest y.memory ++ expression_bytes y.offset) (sized y.bytes),
+      length-append (shortest y.memory) (expression_bytes y.offset),
+      length-append (shortest (length y.bytes)) y.bytes,
+      ap (λ z. length (shortest z)) i.memory,
+      ap length i.bytes,
+      ap (λ z. length (shortest (length z))) i.bytes,
+      number_short x.memory h.0 h.3,
+      expression_short x.offset y.offset (at + length h.0) g.0 g.3 i.offset,
+      number_short (length x.bytes) k.0 k.3,
     )
 
 -- the shortest spelling of a sum
@@ -139,6 +174,7 @@ onto_short r (s ∷ rest) = by_type (same_type r.ty s.ty)
   where
     both : Run
     both = record { count = r.count + s.count; ty = r.ty }
+
     by_type : (t : Bool) → (runs_length (cond t (both ∷ rest) (r ∷ s ∷ rest)) ≤ length (run_bytes r) + runs_length (s ∷ rest)) × (length (cond t (both ∷ rest) (r ∷ s ∷ rest)) ≤ suc (length (s ∷ rest)))
     by_type true =
         (omega (arith, length-append (run_bytes both) (flat_map run_bytes rest), length-append (run_bytes s) (flat_map run_bytes rest), run_length both, run_length r, run_length s, sum_short r.count s.count), omega arith)
@@ -163,9 +199,14 @@ unfolding runs_length
 locals_short xs ys at a h e =
     let m = merged_short ys in
     omega (
-      arith, length_split a h.0 h.1 h.2, length-append (shortest (length (merged ys))) (flat_map run_bytes (merged ys)), m.0,
-      shortest_rises (length (merged ys)) (length ys) m.1, number_short (length xs) h.0 h.3, ap (λ n. length (shortest n)) (each_length IsRun xs ys e),
-      items_short RunOf run_bytes IsRun run_short xs ys (at + length h.0) h.1 h.4 e
+      arith,
+      length_split a h.0 h.1 h.2,
+      length-append (shortest (length (merged ys))) (flat_map run_bytes (merged ys)),
+      m.0,
+      shortest_rises (length (merged ys)) (length ys) m.1,
+      number_short (length xs) h.0 h.3,
+      ap (λ n. length (shortest n)) (each_length IsRun xs ys e),
+      items_short RunOf run_bytes IsRun run_short xs ys (at + length h.0) h.1 h.4 e,
     )
 
 -- a body, without its size
@@ -173,8 +214,12 @@ pub content_short : (x : RawBody) (f : Func) (at : ℕ) (a : List ℕ) → BodyO
 content_short x f at a h i =
     let g = h.4.1 in
     omega (
-      arith, h.4.0, length_split h.1 g.0 g.1 g.2, length-append (vector run_bytes (merged f.locals)) (expression_bytes f.body),
-      locals_short x.locals f.locals (at + length h.0) g.0 g.3 i.locals, expression_short x.code f.body (at + length h.0 + length g.0) g.1 g.4 i.body
+      arith,
+      h.4.0,
+      length_split h.1 g.0 g.1 g.2,
+      length-append (vector run_bytes (merged f.locals)) (expression_bytes f.body),
+      locals_short x.locals f.locals (at + length h.0) g.0 g.3 i.locals,
+      expression_short x.code f.body (at + length h.0 + length g.0) g.1 g.4 i.body,
     )
 
 pub body_short : (x : RawBody) (f : Func) (at : ℕ) (a : List ℕ) → BodyOf x at a → IsBody x f → length (sized (body_bytes f)) ≤ length a

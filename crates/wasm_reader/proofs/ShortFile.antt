@@ -46,7 +46,6 @@ rises last (elements xs) ss r = inr r
 rises last (bodies xs) ss r = inr r
 rises last (segments xs) ss r = inr r
 
-
 onward : (last : ℕ) (s : Section) (ss : List Section) → Rising last (s ∷ ss) → (next : ℕ) × Rising next ss
 onward last s ss r = elim (rises last s ss r) [ inl c ↦ (last, c.1) | inr k ↦ (section_id s, k.1) ]
 
@@ -360,8 +359,10 @@ enc_length : (m : Module) → length (Enc m) ≡ 8 + total (sections m) + behind
 unfolding Enc total between behind_below
 enc_length m =
     omega (
-      arith, length-append (preamble ++ customs_behind 0 m.customs) (with_customs 1 (sections m) m.customs), length-append preamble (customs_behind 0 m.customs),
-      with_customs_length 1 (sections m) m.customs
+      arith,
+      length-append (preamble ++ customs_behind 0 m.customs) (with_customs 1 (sections m) m.customs),
+      length-append preamble (customs_behind 0 m.customs),
+      with_customs_length 1 (sections m) m.customs,
     )
 
 length_map : (fs : List Func) → length (map (λ (f : Func). f.sort) fs) ≡ length fs
@@ -395,8 +396,14 @@ written_short bytes m s =
     let i = s.is_module in
     let r = s.spells.order in
     omega (
-      arith, length_split bytes p.0 p.1 p.2, ap length p.3, all_lengths ss at p.1 p.4, enc_length m, behind_short 12 m.customs,
-      customs_short 0 ss at p.1 p.4, ap customs_length i.customs,
+      arith,
+      length_split bytes p.0 p.1 p.2,
+      ap length p.3,
+      all_lengths ss at p.1 p.4,
+      enc_length m,
+      behind_short 12 m.customs,
+      customs_short 0 ss at p.1 p.4,
+      ap customs_length i.customs,
       kind_short types_in 1 IsFuncType (section 1 func_type_bytes) types_kind 0 ss at p.1 p.4 m.types r i.types,
       kind_short imports_in 2 IsImport (section 2 import_bytes) imports_kind 0 ss at p.1 p.4 m.imports r i.imports,
       kind_short sorts_in 3 Same (section 3 shortest) functions_kind 0 ss at p.1 p.4 (map (λ (f : Func). f.sort) m.funcs) r (same_as (flat_map sorts_in ss) (map (λ (f : Func). f.sort) m.funcs) i.sorts),
@@ -409,5 +416,5 @@ written_short bytes m s =
       ap length (start_is m.start),
       kind_short elements_in 9 IsElem (section 9 elem_bytes) elements_kind 0 ss at p.1 p.4 m.elems r i.elems,
       kind_short bodies_in 10 IsBody (section 10 (λ (f : Func). sized (body_bytes f))) bodies_kind 0 ss at p.1 p.4 m.funcs r i.funcs,
-      kind_short segments_in 11 IsSegment (section 11 segment_bytes) segments_kind 0 ss at p.1 p.4 m.segments r i.segments
+      kind_short segments_in 11 IsSegment (section 11 segment_bytes) segments_kind 0 ss at p.1 p.4 m.segments r i.segments,
     )

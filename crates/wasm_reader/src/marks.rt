@@ -4,8 +4,8 @@ ghost use Rattle.wa_types.specs.Opcodes.{is_float_op, is_float_type};
 ghost use Rattle.wasm_reader.specs.Scanning.{Noted, floats_seen, opens_seen, functions_seen, parameters_seen, size_seen};
 ghost use Rattle.wa_types.specs.ModuleBounds.{ModuleBounds};
 
-use wa_types::Bounds;
 use crate::opcodes::{is_float_op, is_float_type};
+use wa_types::Bounds;
 
 /// What a file is judged by besides its spelling.
 #[derive(Clone, Copy, Debug, PartialEq, Eq, Drop)]

@@ -11,10 +11,10 @@ ghost use Rattle.wasm_reader.specs.Found.{MarksOf};
 ghost use Rattle.wasm_reader.specs.Marking.{IsJudged};
 
 use crate::build::{BuildFault, build};
-use crate::read_fault::ReadFault;
-use crate::locals::locals_above;
 use crate::grammar::{CheckFault, check};
+use crate::locals::locals_above;
 use crate::marks::Marks;
+use crate::read_fault::ReadFault;
 use crate::scan::scan;
 use std::alloc::Global;
 use wa_types::{Bounds, LimitKind, Module};
@@ -105,4 +105,3 @@ fn judge(marks: &Marks, bounds: &Bounds) -> Option<ReadFault>
     }
     None
 }
-

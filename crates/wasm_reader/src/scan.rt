@@ -13,11 +13,11 @@ ghost use Rattle.wasm_reader.specs.Places.{Onward};
 ghost use Rattle.wasm_reader.specs.Scanning.{Scans, functions_seen, seen_section};
 ghost use Rattle.wa_types.specs.ModuleBounds.{ModuleBounds};
 
-use wa_types::Bounds;
 use crate::front::{Cursor, NotSpelled};
 use crate::marks::Marks;
 use entries::{EntryKind, entries};
 use skips::skip_bytes;
+use wa_types::Bounds;
 
 /// The bytes of the preamble (standard, section 5.5.15).
 const PREAMBLE: u32 = 8;

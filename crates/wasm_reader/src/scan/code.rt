@@ -7,10 +7,10 @@ ghost use Rattle.wasm_reader.specs.Places.{Onward};
 ghost use Rattle.wasm_reader.specs.Scanning.{Skips, Scans, Turns, seen_placed, seen_code};
 
 use super::skips::{skip_byte, skip_bytes, skip_number, skip_numbers};
-use wa_types::Bounds;
 use crate::front::{Cursor, NotSpelled};
 use crate::marks::Marks;
 use crate::opcodes::{Shape, operand_shape};
+use wa_types::Bounds;
 
 /// A value type, or the result of a construct (standard, sections 5.3.1 and 5.3.2).
 pub(crate) fn value_type(

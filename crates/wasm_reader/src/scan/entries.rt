@@ -8,9 +8,9 @@ ghost use Rattle.wasm_reader.specs.Scanning.{Scans, EntryOf, EntryIs, floats_see
 
 use super::code::{expression, value_type};
 use super::skips::{skip_byte, skip_bytes, skip_counted, skip_limits, skip_number, skip_numbers};
-use wa_types::Bounds;
 use crate::front::{Cursor, NotSpelled};
 use crate::marks::Marks;
+use wa_types::Bounds;
 
 /// The entries that are scanned one by one.
 #[derive(Clone, Copy, Debug, PartialEq, Eq, Drop)]

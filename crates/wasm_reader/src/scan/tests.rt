@@ -1,8 +1,8 @@
 use super::scan;
-use wa_types::Bounds;
 use crate::marks::Marks;
 use std::alloc::{AllocError, Global};
 use std::test::Fail;
+use wa_types::Bounds;
 
 /// The marks of a file of fewer than 4 GiB.
 fn marks_of(bytes: &[u8], bounds: &Bounds) -> Marks {

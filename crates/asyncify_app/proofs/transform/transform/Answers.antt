@@ -1,12 +1,12 @@
 -- What the two files have to do with the module that was read.
-use Rattle.std.proofs.Common.{ℕ, List, subst}
-use Rattle.asyncify_app.specs.Transforms.{HoldsSmall}
-use Rattle.asyncify_app.proofs.Transforming.{transformed, cut_short, counted, none_held, held}
+use Rattle.std.proofs.Common.{subst}
+use Rattle.asyncify_app.specs.Refusals.{cause_of, IsFaultOf}
+use Rattle.asyncify_app.proofs.Transforming.{transformed, cut_short, counted, refused_for, held}
 use Rattle.asyncify_app.proofs.transform.transform.Goals as goal
 
-pub returns-in-Err-NotBuilt-clause-refused : goal.returns-in-Err-NotBuilt-clause-refused
-returns-in-Err-NotBuilt-clause-refused g c = λ h.
-    none_held c.args.input.now c.in-Ok.bytes.items _ c.in-Ok.ensures.whole (subst (λ (s : List ℕ). HoldsSmall s → ⊥) c.deref.ensures.value (c.in-Err-NotBuilt.ensures.refused (cc)))
+pub returns-in-Err-Refused-clause-refused : goal.returns-in-Err-Refused-clause-refused
+returns-in-Err-Refused-clause-refused g c =
+    refused_for c.args.input.now c.in-Ok.bytes.items _ (cause_of c.in-Err-Refused.refusal) c.in-Ok.ensures.whole (subst (IsFaultOf c.in-Ok.bytes.items) c.in-Err-Refused.field-0-is (rw c.deref.ensures.value at c.in-Err-Refused.ensures.refused))
 
 pub returns-in-Ok-save_whole-clause-done : goal.returns-in-Ok-save_whole-clause-done
 returns-in-Ok-save_whole-clause-done g c =

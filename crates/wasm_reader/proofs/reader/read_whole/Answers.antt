@@ -24,18 +24,17 @@ unreachable-requires-in-Err-NotSpelled c =
 pub locals_above-requires : goal.locals_above-requires
 locals_above-requires c =
     let s = stands c.args.bounds.now c.args.bytes.now (module_of c.in-Ok-build.module) c.requires.few c.requires.whole
-        (λ ss f. c.in_default-judge.ensures c.args.bytes.now ss f (c.in-Ok.ensures ss f.spells)) c.in-Ok-build.ensures in
+    (λ ss f. c.in_default-judge.ensures c.args.bytes.now ss f (c.in-Ok.ensures ss f.spells)) c.in-Ok-build.ensures in
     few_runs c.args.bounds.now c.args.bytes.now c.in-Ok-build.module s (few_bytes c.args.bounds.now c.args.bytes.now c.requires.columns c.requires.few)
 
 pub returns-in-Some-locals_above-clause-refused : goal.returns-in-Some-locals_above-clause-refused
 returns-in-Some-locals_above-clause-refused c =
     let s = stands c.args.bounds.now c.args.bytes.now (module_of c.in-Ok-build.module) c.requires.few c.requires.whole
-        (λ ss f. c.in_default-judge.ensures c.args.bytes.now ss f (c.in-Ok.ensures ss f.spells)) c.in-Ok-build.ensures in
+    (λ ss f. c.in_default-judge.ensures c.args.bytes.now ss f (c.in-Ok.ensures ss f.spells)) c.in-Ok-build.ensures in
     (s.sections, s.shallow, too_many c.args.bounds.now c.args.bytes.now (module_of c.in-Ok-build.module) c.locals.result c.in-Some-locals_above.found s c.locals.ensures c.in-Some-locals_above.ensures)
 
 pub returns-clause-ok : goal.returns-clause-ok
 returns-clause-ok c =
     let s = stands c.args.bounds.now c.args.bytes.now (module_of c.in-Ok-build.module) c.requires.few c.requires.whole
-        (λ ss f. c.in_default-judge.ensures c.args.bytes.now ss f (c.in-Ok.ensures ss f.spells)) c.in-Ok-build.ensures in
+    (λ ss f. c.in_default-judge.ensures c.args.bytes.now ss f (c.in-Ok.ensures ss f.spells)) c.in-Ok-build.ensures in
     accepted c.args.bounds.now c.args.bytes.now (module_of c.in-Ok-build.module) c.locals.result s c.locals.ensures c.in_default-locals_above.ensures
-

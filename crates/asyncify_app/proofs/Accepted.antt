@@ -1,0 +1,82 @@
+-- What an accepted source is: few locals, and few bytes with the runtime's parts behind it.
+use Rattle.std.proofs.Common.{◌≡◌, ℕ, suc, ◌+◌, ◌≤◌, ◌<◌, ◌^◌, List, [], ◌∷◌, map, refl, ap, sym, ◌∙◌, subst, length, arith, None}
+use Rattle.std.specs.List.{All}
+use Rattle.std.proofs.lemmas.List.Elements.{All-nil, All-cons, All-weaker, All-append}
+use Rattle.wa_types.specs.declared.syntax.Run.{Run}
+use Rattle.wa_types.specs.declared.syntax.Module.{Module as ModuleValue}
+use Rattle.wa_types.specs.ModuleBounds.{source_bounds}
+use Rattle.wa_types.specs.Marks.{first_above, local_counts}
+use Rattle.wa_types.specs.Syntax.{Code, Func, Module}
+use Rattle.wa_types.specs.Encoding.{Enc}
+use Rattle.wa_types.specs.Runtime.{with_runtime, runtime_func, runtime_funcs, global_space, start_code, stop_code, state_code}
+use Rattle.wa_types.specs.Sizes.{StrictSizeRule}
+use Rattle.wa_types.specs.Validity.{Valid}
+use Rattle.wa_types.specs.View.{module_of}
+use Rattle.wasm_encode.specs.Locals.{local_count}
+use Rattle.wasm_encode.specs.Modules.{FewLocals}
+use Rattle.wasm_reader.specs.declared.read_fault.ReadFault.{ReadFault}
+use Rattle.wasm_reader.specs.declared.read_fault.ReadFault.TheVariants.{Memory, Malformed, Float, Deep, Limit}
+use Rattle.wasm_reader.specs.Answers.{IsAccepted, IsRefused}
+use Rattle.wasm_reader.specs.Locals.{func_locals}
+use Rattle.wasm_reader.proofs.Accepting.{accepted_spelled, accepted_strictly}
+use Rattle.wasm_reader.proofs.ShortFile.{written_short}
+use Rattle.wasm_reader.proofs.SpelledSizes.{none_above, spelled_locals}
+use Rattle.asyncify_runtime.specs.Reserved.{reserved_at}
+use Rattle.asyncify_app.specs.declared.source.SourceFault.{SourceFault}
+use Rattle.asyncify_app.specs.declared.source.SourceFault.TheVariants.{Memory as no_memory, Refused}
+use Rattle.asyncify_app.specs.Small.{IsSmall}
+use Rattle.asyncify_app.specs.Sources.{IsSource}
+use Rattle.asyncify_app.specs.Refusals.{IsFaultOf, IsOfRead}
+use Rattle.asyncify_app.proofs.Grown.{with_runtime_length}
+
+-- the parts of an accepted source
+pub made_source : (bytes : List ℕ) (m v w n : ModuleValue) → n ≡ v → v ≡ m → w ≡ v → IsAccepted source_bounds bytes (module_of m) → reserved_at (module_of m) ≡ None → Valid (module_of m) → IsSmall (module_of w) → IsSource bytes (module_of n)
+made_source bytes m v w n e f g a r d s =
+    let same : m ≡ n = sym (e ∙ f) in
+    subst (λ (z : ModuleValue). IsSource bytes (module_of z)) same
+    (record { accepted = record { unreserved = record { read = a; free = r }; valid = d }; small = subst (λ (z : ModuleValue). IsSmall (module_of z)) (g ∙ f) s })
+
+pub strict : (bytes : List ℕ) (m : Module) → IsSource bytes m → StrictSizeRule m
+strict bytes m s = accepted_strictly source_bounds bytes m refl s.accepted.unreserved.read
+
+-- a source grows little
+pub grown_short : (bytes : List ℕ) (m : Module) → IsSource bytes m → length (Enc (with_runtime m)) ≤ 8390608
+grown_short bytes m s =
+    let a = s.accepted.unreserved.read in
+    omega (arith, with_runtime_length m, written_short bytes m (accepted_spelled source_bounds bytes m a), a.within.before.before.before.before.before.file.few)
+
+-- its functions declare few locals
+pub few_locals : (bytes : List ℕ) (m : Module) → IsSource bytes m → FewLocals m
+few_locals bytes m s =
+    let a = s.accepted.unreserved.read in
+    let e : first_above 50000 (map (func_locals m.types) m.funcs) ≡ None = subst (λ ns. first_above 50000 ns ≡ None) (spelled_locals a.sections m a.is_module) a.within.locals in
+    All-weaker (λ (f : Func). func_locals m.types f ≤ 50000) (λ (f : Func). local_count f.locals < 2 ^ 32) (λ f h. omega (arith, h)) m.funcs (none_above (func_locals m.types) 50000 m.funcs e)
+
+-- what reading refuses
+pub read_refused : (bytes : List ℕ) (fault : ReadFault) (r : SourceFault) → IsRefused source_bounds bytes fault → IsOfRead fault r → IsFaultOf bytes r
+read_refused bytes Memory r h e = subst (IsFaultOf bytes) (sym e) tt
+read_refused bytes (Malformed at) r h e = subst (IsFaultOf bytes) (sym e) h
+read_refused bytes (Float at) r h e = subst (IsFaultOf bytes) (sym e) h
+read_refused bytes (Deep at) r h e = subst (IsFaultOf bytes) (sym e) h
+read_refused bytes (Limit what n) r h e = subst (IsFaultOf bytes) (sym e) h
+
+bare : (sort : ℕ) (body : Code) → local_count (runtime_func sort body).locals < 2 ^ 32
+bare sort body = omega arith
+
+-- The runtime's functions declare no locals.
+pub grown_locals : (m : Module) → FewLocals m → FewLocals (with_runtime m)
+unfolding with_runtime
+grown_locals m h =
+    let P : Func → Type 0 = λ f. local_count f.locals < 2 ^ 32 in
+    let first = length m.types in
+    let state = global_space m in
+    let a = runtime_func first (start_code 1 state (state + 1)) in
+    let b = runtime_func (first + 1) (stop_code state (state + 1)) in
+    let c = runtime_func first (start_code 2 state (state + 1)) in
+    let d = runtime_func (first + 2) (state_code state) in
+    All-append P m.funcs (runtime_funcs first state (state + 1)) h
+    (All-cons P a (b ∷ c ∷ b ∷ d ∷ []) (bare first (start_code 1 state (state + 1)))
+    (All-cons P b (c ∷ b ∷ d ∷ []) (bare (first + 1) (stop_code state (state + 1)))
+    (All-cons P c (b ∷ d ∷ []) (bare first (start_code 2 state (state + 1)))
+    (All-cons P b (d ∷ []) (bare (first + 1) (stop_code state (state + 1)))
+    (All-cons P d [] (bare (first + 2) (state_code state)) (All-nil P))))))
