@@ -36,6 +36,23 @@ fn with_parameters(alloc: Global, head: &[u8], count: u32) -> Result<Vec<u8>, Al
     Ok(bytes)
 }
 
+/// A file of two functions whose bodies have 1,048,577 bytes and one more.
+fn long_bodies(alloc: Global) -> Result<Vec<u8>, AllocError> {
+    let mut bytes = Vec::from_slice(
+        alloc,
+        b"\0asm\x01\0\0\0\x01\x04\x01\x60\0\0\x03\x03\x02\0\0\x0A\x8A\x80\x80\x01\x02\x81\x80\x40\0",
+    )?;
+    for _index in 0..1_048_575u32 {
+        bytes.push(0x01)?;
+    }
+    bytes.extend_from_slice(b"\x0B\x82\x80\x40\0")?;
+    for _index in 0..1_048_576u32 {
+        bytes.push(0x01)?;
+    }
+    bytes.push(0x0B)?;
+    Ok(bytes)
+}
+
 #[test]
 fn floats_are_found(rt: HostRuntime) -> Result<(), Fail> {
     let files = [
@@ -111,14 +128,11 @@ fn numbers_above_a_bound_are_found(rt: HostRuntime) -> Result<(), Fail> {
     // bodies of two, four and five bytes, behind an imported function
     let bodies =
         b"\0asm\x01\0\0\0\x01\x04\x01\x60\0\0\x02\x07\x01\x01a\x01b\0\0\x03\x04\x03\0\0\0\x0A\x0F\x03\x02\0\x0B\x04\0\x01\x01\x0B\x05\0\x01\x01\x01\x0B";
-    let small = Bounds {
-        body: 3,
-        ..Bounds::source()
-    };
-    let marks = marks_of(bodies, &small);
-    assert_eq!(rt; marks.functions, 4);
-    assert_eq!(rt; marks.body, Some(4));
+    assert_eq!(rt; marks_of(bodies, &Bounds::source()).functions, 4);
     assert_eq!(rt; marks_of(bodies, &Bounds::source()).body, None);
+    let long = long_bodies(alloc)?;
+    assert_eq!(rt; marks_of(&long, &Bounds::source()).body, Some(1_048_577));
+    assert_eq!(rt; marks_of(&long, &Bounds::prepared()).body, None);
     Ok(())
 }
 
