@@ -3,6 +3,7 @@ pub mod Behaves
 pub mod Blocking
 pub mod Configuration
 pub mod Expected
+pub mod Fitting
 pub mod Flat
 pub mod FlatView
 pub mod Growth

@@ -1,0 +1,112 @@
+-- Configurations that fit a valid module: each value has its type, and all code that stands has its type over the operands
+-- there (standard, section 7.5, soundness). From such a configuration there is always a reduction.
+use Rattle.std.specs.Prelude.{◌≡◌, ◌<◌, ℕ, List, [], ◌∷◌, ◌++◌, length, map, Option, Some, None, slice_get, Unit, ⊥}
+use Rattle.wa_types.specs.declared.values.ValType.{ValType}
+use Rattle.wa_types.specs.declared.values.Value.{Value}
+use Rattle.wa_types.specs.Syntax.{Code, Func, Module}
+use Rattle.wa_types.specs.Typing.{GlobalType, Around, listed, type_of, Types}
+use Rattle.wa_types.specs.Modules.{imported, imported_global, func_sorts, func_imports, all_globals, func_type_at, defined_at, locals_of, around}
+use Rattle.wa_types.specs.Validity.{Valid}
+use Rattle.wa_model.specs.Store.{Store}
+use Rattle.wa_model.specs.Configuration.{Label, block_label, loop_label, Activation, Configuration}
+use Rattle.wa_model.specs.Step.{Next, steps, asks, returns, traps, stuck, arity_of, entered, step}
+use Rattle.wa_model.specs.Instantiation.{opening, opens}
+use Rattle.wa_model.specs.Blocking.{resumed}
+use Rattle.wa_model.specs.Alone.{Goes}
+use Rattle.wa_model.specs.Growth.{Each, EntryNamed}
+
+-- the types of values
+abbrev pub types_of : List Value → List ValType
+types_of values = map type_of values
+
+-- the types of globals
+abbrev pub global_types : List GlobalType → List ValType
+global_types gs = map (λ (g : GlobalType). g.ty) gs
+
+-- the result of the function of this index, as a list
+abbrev pub results_of : Module → ℕ → List ValType
+results_of m fn = listed (slice_get (func_type_at m fn).results 0)
+
+-- A store: globals have their types, and each element of the table that is initialised names a function (7.5.2).
+pub record StoreFits (m : Module) (s : Store) : Type 0 where
+  pub globals : types_of s.globals ≡ global_types (all_globals m)
+  pub table : Each (EntryNamed (length (func_sorts m))) s.table
+
+-- What a construct has below it: its operands stand above those of what is around it, so many as its label tells.
+pub record Inside (r : Option ValType) (height : ℕ) (results outer : List (Option ValType)) (taken : Option ValType) (types own below : List ValType) : Type 0 where
+  pub labels_are : results ≡ taken ∷ outer
+  pub types_are : types ≡ own ++ below
+  pub height_is : height ≡ length below
+
+-- Code inside labels over operands of these types: it takes its own operands to the result of its construct, and what
+-- stands behind the construct goes on from there. `results` are what branches to the labels take, the function's own last.
+unfoldable pub Stands : Around → (results : List (Option ValType)) → List Label → Code → (types : List ValType) → Type 0
+Stands c results [] code types = (results ≡ c.result ∷ []) × Types c results code (listed c.result) types
+Stands c results (block_label height arity rest skipped ∷ labels) code types =
+    (r : Option ValType) × (outer : List (Option ValType)) × (own : List ValType) × (below : List ValType)
+    × Inside r height results outer r types own below × (arity ≡ arity_of r)
+    × Types c results code (listed r) own × Stands c outer labels rest (listed r ++ below)
+Stands c results (loop_label height body rest ∷ labels) code types =
+    (r : Option ValType) × (outer : List (Option ValType)) × (own : List ValType) × (below : List ValType)
+    × Inside r height results outer None types own below × Types c results body (listed r) []
+    × Types c results code (listed r) own × Stands c outer labels rest (listed r ++ below)
+
+-- An activation of a defined function, with its code inside its labels over operands of these types (7.5.2).
+pub record ActFits (m : Module) (fn : ℕ) (locals : List Value) (code : Code) (labels : List Label) (types : List ValType) : Type 0 where
+  pub func : Func
+  pub func_is : defined_at m fn ≡ Some func
+  pub locals_fit : types_of locals ≡ locals_of m func
+  pub results : List (Option ValType)
+  pub stands : Stands (around m func) results labels code types
+
+-- Activations that wait, the innermost first, which gets operands of these types from what it waits for.
+abbrev pub WaitFit : Module → (types : List ValType) → List Activation → Type 0
+WaitFit m types [] = Unit {0}
+WaitFit m types (a ∷ under) = ActFits m a.func a.locals a.code a.labels (types ++ types_of a.operands) × WaitFit m (results_of m a.func) under
+
+-- A configuration whose innermost activation runs.
+pub record Fits (m : Module) (c : Configuration) : Type 0 where
+  pub store : StoreFits m c.store
+  pub here : ActFits m c.here.func c.here.locals c.here.code c.here.labels (types_of c.here.operands)
+  pub under : WaitFit m (results_of m c.here.func) c.under
+
+-- A configuration that waits for the results of the function of this index.
+pub record WaitsFit (m : Module) (fn : ℕ) (c : Configuration) : Type 0 where
+  pub store : StoreFits m c.store
+  pub waits : WaitFit m (results_of m fn) (c.here ∷ c.under)
+
+-- There is a reduction, and what comes next fits again; a call of an import has arguments of its types.
+abbrev pub NextFits : Module → Next → Type 0
+NextFits m (steps k d) = Fits m d
+NextFits m (asks k import args d) = (import < func_imports m) × (types_of args ≡ (func_type_at m import).params) × WaitsFit m import d
+NextFits m (returns k values s) = StoreFits m s
+NextFits m (traps k trap s) = StoreFits m s
+NextFits m stuck = ⊥
+
+-- ---- laws
+
+-- An instance of a valid module whose imported globals have values of their types fits.
+abbrev pub OpeningsFit : Type 0
+OpeningsFit =
+    (m : Module) (imports : List Value) (s : Store)
+    → Valid m → types_of imports ≡ global_types (imported imported_global m) → opening m imports ≡ opens s → StoreFits m s
+
+-- So does a call of a defined function with arguments of its types,
+abbrev pub CallsFit : Type 0
+CallsFit =
+    (m : Module) (s : Store) (args : List Value) (x : ℕ) (f : Func)
+    → Valid m → StoreFits m s → defined_at m x ≡ Some f → types_of args ≡ (func_type_at m x).params → Fits m (entered s [] args x f)
+
+-- and what waits, with a value of the type that it waits for, in any store that fits.
+abbrev pub AnswersFit : Type 0
+AnswersFit =
+    (m : Module) (x : ℕ) (c : Configuration) (s : Store) (values : List Value)
+    → WaitsFit m x c → StoreFits m s → types_of values ≡ results_of m x → Fits m (resumed c s values)
+
+-- From a configuration that fits there is a reduction, to one that fits again.
+abbrev pub StepsFit : Type 0
+StepsFit = (m : Module) (c : Configuration) → Valid m → Fits m c → NextFits m (step m c)
+
+-- All that is reached fits.
+abbrev pub StretchesFit : Type 0
+StretchesFit = (m : Module) (c d : Configuration) (cost : ℕ) → Valid m → Fits m c → Goes m c cost d → Fits m d
