@@ -32,24 +32,19 @@ pub record StoreFits (m : Module) (s : Store) : Type 0 where
   pub globals : types_of s.globals ≡ global_types (all_globals m)
   pub table : Each (EntryNamed (length (func_sorts m))) s.table
 
--- What a construct has below it: its operands stand above those of what is around it, so many as its label tells.
-pub record Inside (r : Option ValType) (height : ℕ) (results outer : List (Option ValType)) (taken : Option ValType) (types own below : List ValType) : Type 0 where
-  pub labels_are : results ≡ taken ∷ outer
-  pub types_are : types ≡ own ++ below
-  pub height_is : height ≡ length below
-
--- Code inside labels over operands of these types: it takes its own operands to the result of its construct, and what
--- stands behind the construct goes on from there. `results` are what branches to the labels take, the function's own last.
-unfoldable pub Stands : Around → (results : List (Option ValType)) → List Label → Code → (types : List ValType) → Type 0
-Stands c results [] code types = (results ≡ c.result ∷ []) × Types c results code (listed c.result) types
-Stands c results (block_label height arity rest skipped ∷ labels) code types =
-    (r : Option ValType) × (outer : List (Option ValType)) × (own : List ValType) × (below : List ValType)
-    × Inside r height results outer r types own below × (arity ≡ arity_of r)
-    × Types c results code (listed r) own × Stands c outer labels rest (listed r ++ below)
-Stands c results (loop_label height body rest ∷ labels) code types =
-    (r : Option ValType) × (outer : List (Option ValType)) × (own : List ValType) × (below : List ValType)
-    × Inside r height results outer None types own below × Types c results body (listed r) []
-    × Types c results code (listed r) own × Stands c outer labels rest (listed r ++ below)
+-- Code inside labels. It takes its own operands, of the types `own`, to the result of its construct; what stands behind the
+-- construct goes on from that result above its own operands, and so on outwards. `below` are the types of all operands below
+-- `own`: a label's height counts them. `results` are what branches to the labels take, the function's own last.
+unfoldable pub Stands : Around → (results : List (Option ValType)) → List Label → Code → (own below : List ValType) → Type 0
+Stands c results [] code own below = (results ≡ c.result ∷ []) × (below ≡ []) × Types c results code (listed c.result) own
+Stands c results (block_label height arity rest skipped ∷ labels) code own below =
+    (r : Option ValType) × (outer : List (Option ValType)) × (outer_own : List ValType) × (outer_below : List ValType)
+    × (results ≡ r ∷ outer) × (below ≡ outer_own ++ outer_below) × (height ≡ length below) × (arity ≡ arity_of r)
+    × Types c results code (listed r) own × Stands c outer labels rest (listed r ++ outer_own) outer_below
+Stands c results (loop_label height body rest ∷ labels) code own below =
+    (r : Option ValType) × (outer : List (Option ValType)) × (outer_own : List ValType) × (outer_below : List ValType)
+    × (results ≡ None ∷ outer) × (below ≡ outer_own ++ outer_below) × (height ≡ length below) × Types c results body (listed r) []
+    × Types c results code (listed r) own × Stands c outer labels rest (listed r ++ outer_own) outer_below
 
 -- An activation of a defined function, with its code inside its labels over operands of these types (7.5.2).
 pub record ActFits (m : Module) (fn : ℕ) (locals : List Value) (code : Code) (labels : List Label) (types : List ValType) : Type 0 where
@@ -57,7 +52,10 @@ pub record ActFits (m : Module) (fn : ℕ) (locals : List Value) (code : Code) (
   pub func_is : defined_at m fn ≡ Some func
   pub locals_fit : types_of locals ≡ locals_of m func
   pub results : List (Option ValType)
-  pub stands : Stands (around m func) results labels code types
+  pub own : List ValType
+  pub below : List ValType
+  pub types_are : types ≡ own ++ below
+  pub stands : Stands (around m func) results labels code own below
 
 -- Activations that wait, the innermost first, which gets operands of these types from what it waits for.
 abbrev pub WaitFit : Module → (types : List ValType) → List Activation → Type 0
