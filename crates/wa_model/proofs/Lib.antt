@@ -3,6 +3,9 @@ pub mod BaseValid
 pub mod Cases
 pub mod Compose
 pub mod Ends
+pub mod FittingActs
+pub mod FittingNames
+pub mod FittingSteps
 pub mod Follow
 pub mod FromMoves
 pub mod GrownInstances
