@@ -4,7 +4,7 @@ use Rattle.std.specs.Prelude.{nat_lt, nat_le, ◌&&◌, if◌then◌else◌, sli
 use Rattle.std.specs.Option.{option_map}
 use Rattle.std.specs.List.{list_all}
 use Rattle.std.proofs.lemmas.Bool.{ltb-true, ltb-false, leb-true, and_parts}
-use Rattle.std.proofs.lemmas.List.{length-map, map-append, take-map, drop-map, length-reverse}
+use Rattle.std.proofs.lemmas.List.{length-map, map-append, take-map, drop-map, reverse-append}
 use Rattle.std.proofs.lemmas.Option.{slice_get-map, slice_get_within, slice_get_past}
 use Rattle.std.proofs.Math.Seq.{take-append_seam, drop-append_seam}
 use Rattle.wa_types.specs.declared.values.ValType.{ValType}
@@ -51,7 +51,9 @@ carried_types r more front below h arity ops e f eh ea =
 
 pub reversed_types : (xs : List Value) → types_of (reverse xs) ≡ reverse (types_of xs)
 reversed_types [] = refl
-reversed_types (x ∷ xs) = map-append type_of (reverse xs) (x ∷ []) ∙ ap (λ ys. ys ++ type_of x ∷ []) (reversed_types xs)
+reversed_types (x ∷ xs) =
+    ap types_of (reverse-append (x ∷ []) xs) ∙ map-append type_of (reverse xs) (x ∷ []) ∙ ap (λ ys. ys ++ type_of x ∷ []) (reversed_types xs)
+    ∙ sym (reverse-append (type_of x ∷ []) (types_of xs))
 
 pub value_typed : (ls : List Value) (x : ℕ) (t : ValType) → slice_get (types_of ls) x ≡ Some t → type_of (value_at ls x) ≡ t
 value_typed [] x t e = cc
@@ -130,13 +132,18 @@ module _ (m : Module) (v : Valid m) where
 
 -- ---- functions by index
 
-sorts_of : List Func → List ℕ
+abbrev sorts_of : List Func → List ℕ
 sorts_of fs = map (λ (f : Func). f.sort) fs
 
 behind : (xs ys : List ℕ) (i : ℕ) → length xs ≤ i → slice_get (xs ++ ys) i ≡ slice_get ys (i - length xs)
-behind [] ys i h = refl
+behind [] ys i h = let e : i ≡ i - 0 = omega arith in ap (slice_get ys) e
 behind (x ∷ xs) ys zero h = absurd (omega arith)
 behind (x ∷ xs) ys (suc i) h = behind xs ys i (omega arith)
+
+there : {X : Type 0} (xs : List X) (i : ℕ) → i < length xs → slice_get xs i ≡ None → ⊥
+there [] i h e = absurd (omega arith)
+there (x ∷ xs) zero h e = cc
+there (x ∷ xs) (suc i) h e = there xs i (omega arith) e
 
 module _ (m : Module) where
   -- the type of a defined function
@@ -161,11 +168,6 @@ module _ (m : Module) where
           let le = ltb-false x (func_imports m) z in
           let n : length (func_sorts m) ≡ func_imports m + length m.funcs = length-append (imported imported_func m) (sorts_of m.funcs) ∙ ap (λ k. func_imports m + k) (length-map m.funcs (λ (f : Func). f.sort)) in
           absurd (there m.funcs (x - func_imports m) (omega arith) e)
-
-      there : {X : Type 0} (xs : List X) (i : ℕ) → i < length xs → slice_get xs i ≡ None → ⊥
-      there [] i h e = absurd (omega arith)
-      there (x ∷ xs) zero h e = cc
-      there (x ∷ xs) (suc i) h e = there xs i (omega arith) e
 
   -- a function that is found is there
   pub func_found : (x : ℕ) (t : FuncType) → slice_get (func_types m) x ≡ Some t → (x < length (func_sorts m)) × (func_type_at m x ≡ t)
