@@ -3,6 +3,8 @@ pub mod BaseValid
 pub mod Cases
 pub mod Compose
 pub mod Ends
+pub mod FittingActs
+pub mod FittingOpenings
 pub mod Follow
 pub mod FromMoves
 pub mod GrownInstances
