@@ -138,7 +138,7 @@ sorts_of fs = map (λ (f : Func). f.sort) fs
 behind : (xs ys : List ℕ) (i : ℕ) → length xs ≤ i → slice_get (xs ++ ys) i ≡ slice_get ys (i - length xs)
 behind [] ys i h = let e : i ≡ i - 0 = omega arith in ap (slice_get ys) e
 behind (x ∷ xs) ys zero h = absurd (omega arith)
-behind (x ∷ xs) ys (suc i) h = behind xs ys i (omega arith)
+behind (x ∷ xs) ys (suc i) h = let e : i - length xs ≡ suc i - suc (length xs) = omega arith in behind xs ys i (omega arith) ∙ ap (slice_get ys) e
 
 there : {X : Type 0} (xs : List X) (i : ℕ) → i < length xs → slice_get xs i ≡ None → ⊥
 there [] i h e = absurd (omega arith)

@@ -5,6 +5,7 @@ pub mod Compose
 pub mod Ends
 pub mod FittingActs
 pub mod FittingNames
+pub mod FittingOpenings
 pub mod FittingSteps
 pub mod Follow
 pub mod FromMoves
