@@ -2,9 +2,7 @@
 use Rattle.std.proofs.Common.{◌≡◌, ℕ, zero, suc, ◌+◌, ◌++◌, List, [], ◌∷◌, Option, Some, None, Result, Ok, Err, Bool, true, false, refl, sym, ap, ◌∙◌, subst, length, take, drop}
 use Rattle.std.specs.Prelude.{IsSome, nat_le, if◌then◌else◌, slice_get, slice_set}
 use Rattle.std.specs.Option.{option_map}
-use Rattle.std.proofs.lemmas.List.{take-map, drop-map}
 use Rattle.std.proofs.lemmas.Option.{slice_get-map}
-use Rattle.std.proofs.Math.Seq.{take-append_seam, drop-append_seam}
 use Rattle.wa_types.specs.declared.values.ValType.{ValType}
 use Rattle.wa_types.specs.declared.values.ValType.TheVariants.{I32, I64}
 use Rattle.wa_types.specs.declared.values.Value.{Value}
@@ -21,27 +19,9 @@ use Rattle.wa_ops.specs.Operate.{operate, value_of, number_of}
 use Rattle.wa_ops.proofs.OperateLemmas.{operate-typed, type_of-operate}
 use Rattle.wa_model.specs.Store.{Store, value_at, Did, works, fails, lacks, takes, chosen, act, computed, extended, loaded, load_at, stored, store_at, width_of, grew}
 use Rattle.wa_model.specs.Fitting.{types_of, global_types, StoreFits}
+use Rattle.wa_model.proofs.FittingNames.{split_types, value_typed, set_typed}
 
 -- ---- values and their types
-
--- operands of joined types are split where the types are joined
-split_types : (ps below : List ValType) (ops : List Value) → types_of ops ≡ ps ++ below → (types_of (take (length ps) ops) ≡ ps) × (types_of (drop (length ps) ops) ≡ below)
-split_types ps below ops e = (
-  sym (take-map type_of (length ps) ops) ∙ ap (take (length ps)) e ∙ take-append_seam ps below,
-  sym (drop-map type_of (length ps) ops) ∙ ap (drop (length ps)) e ∙ drop-append_seam ps below,
-)
-
--- the value at a place has the type there
-pub value_typed : (ls : List Value) (x : ℕ) (t : ValType) → slice_get (types_of ls) x ≡ Some t → type_of (value_at ls x) ≡ t
-value_typed [] x t e = cc
-value_typed (v ∷ ls) zero t e = cc
-value_typed (v ∷ ls) (suc x) t e = value_typed ls x t e
-
--- a new value of the type there leaves the types as they were
-set_typed : (ls : List Value) (x : ℕ) (v : Value) → slice_get (types_of ls) x ≡ Some (type_of v) → types_of (slice_set ls x v) ≡ types_of ls
-set_typed [] x v e = cc
-set_typed (w ∷ ls) zero v e = let z : type_of w ≡ type_of v = cc in ap (λ t. t ∷ types_of ls) (sym z)
-set_typed (w ∷ ls) (suc x) v e = ap (λ ts. type_of w ∷ ts) (set_typed ls x v e)
 
 -- a type is the same as itself
 pub same_itself : (t : ValType) → same_type t t ≡ true

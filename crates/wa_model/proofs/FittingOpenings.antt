@@ -5,7 +5,7 @@ use Rattle.std.specs.List.{list_all}
 use Rattle.std.proofs.lemmas.Bool.{and_parts}
 use Rattle.std.proofs.lemmas.List.{map-append}
 use Rattle.wa_types.specs.declared.values.ValType.{ValType}
-use Rattle.wa_types.specs.declared.values.ValType.TheVariants.{I32, I64}
+use Rattle.wa_types.specs.declared.values.ValType.TheVariants.{I32}
 use Rattle.wa_types.specs.declared.values.Value.{Value}
 use Rattle.wa_types.specs.Encoding.{same_type}
 use Rattle.wa_types.specs.Memory.{page_size}
@@ -20,19 +20,13 @@ use Rattle.wa_model.specs.Growth.{spaces_of, grown_module}
 use Rattle.wa_model.specs.Fitting.{types_of, global_types, OpeningsFit}
 use Rattle.wa_model.proofs.NamedModules.{valid_instance}
 use Rattle.wa_model.proofs.GrownInstances.{OpeningStays, more_values, opening_stays}
-use Rattle.wa_model.proofs.FittingActs.{value_typed, same_itself, global_at}
+use Rattle.wa_model.proofs.FittingActs.{same_itself, global_at}
+use Rattle.wa_model.proofs.FittingNames.{value_typed, same_true}
 
 -- values have their types
 are_of_types : (values : List Value) → are_of (types_of values) values ≡ true
 are_of_types [] = refl
 are_of_types (v ∷ values) = ap (λ b. b && are_of (types_of values) values) (same_itself (type_of v)) ∙ are_of_types values
-
--- types that pass the test are the same
-same_true : (t u : ValType) → same_type t u ≡ true → t ≡ u
-same_true I32 I32 h = refl
-same_true I64 I64 h = refl
-same_true I32 I64 h = cc
-same_true I64 I32 h = cc
 
 -- ---- initialisers
 

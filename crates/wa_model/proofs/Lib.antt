@@ -6,6 +6,7 @@ pub mod Ends
 pub mod FittingActs
 pub mod FittingNames
 pub mod FittingOpenings
+pub mod FittingRuns
 pub mod FittingSteps
 pub mod Follow
 pub mod FromMoves

@@ -12,7 +12,7 @@ use Rattle.wa_model.specs.Configuration.{Label, block_label, loop_label, Activat
 use Rattle.wa_model.specs.Step.{Next, steps, asks, returns, traps, stuck, arity_of, entered, step}
 use Rattle.wa_model.specs.Instantiation.{opening, opens}
 use Rattle.wa_model.specs.Blocking.{resumed}
-use Rattle.wa_model.specs.Alone.{Goes}
+use Rattle.wa_model.specs.Alone.{Goes, Finish, it_returned, it_trapped, it_asks, it_spent, EndsAs}
 use Rattle.wa_model.specs.Growth.{Each, EntryNamed}
 
 -- the types of values
@@ -81,6 +81,13 @@ NextFits m (returns k values s) = StoreFits m s
 NextFits m (traps k trap s) = StoreFits m s
 NextFits m stuck = ⊥
 
+-- So does each end of reductions.
+abbrev pub EndFits : Module → Finish → Type 0
+EndFits m (it_returned values s) = StoreFits m s
+EndFits m (it_trapped trap s) = StoreFits m s
+EndFits m (it_asks import args d) = (import < func_imports m) × (types_of args ≡ (func_type_at m import).params) × WaitsFit m import d
+EndFits m (it_spent d) = Fits m d
+
 -- ---- laws
 
 -- An instance of a valid module whose imported globals have values of their types fits.
@@ -108,3 +115,7 @@ StepsFit = (m : Module) (c : Configuration) → Valid m → Fits m c → NextFit
 -- All that is reached fits.
 abbrev pub StretchesFit : Type 0
 StretchesFit = (m : Module) (c d : Configuration) (cost : ℕ) → Valid m → Fits m c → Goes m c cost d → Fits m d
+
+-- And so do the ends.
+abbrev pub EndsFit : Type 0
+EndsFit = (m : Module) (c : Configuration) (left used : ℕ) (end : Finish) → Valid m → Fits m c → EndsAs m c left used end → EndFits m end

@@ -10,7 +10,8 @@
 //!
 //! The laws of `laws` hold of every module: a configuration has one next one, runs are determined and grow with
 //! the cost that they may take, and code that can't be reached changes no run. Those of `growth_laws` hold of valid
-//! modules: parts behind a module's own leave its reductions as they were. Those of `quiet_laws` say the headline for
+//! modules: parts behind a module's own leave its reductions as they were. Those of `fitting_laws` are the soundness of
+//! types: no configuration of a valid module is stuck (`specs/Fitting.antt`). Those of `quiet_laws` say the headline for
 //! modules of which nothing may pause. Read in the order `Machine`,
 //! `Store`, `Configuration`, `Step`, `Plan`, `Instantiation`, `Blocking`, `Untouched`, `Protocol`, `Expected`,
 //! `Behaves`, `Rewrites`. `proofs/Cases.antt` has small runs that these definitions compute.
@@ -26,7 +27,7 @@ mod quiet_laws;
 
 pub use answers::{Answer, AnswerLine, Area, Detach, Poke};
 pub use events::{Call, End, Event, Line};
-pub use fitting_laws::{calls_fit, reductions_fit};
+pub use fitting_laws::{calls_fit, openings_fit, reductions_fit};
 pub use flat::{FlatFunc, FlatModule, Operand, Stmt};
 pub use growth_laws::{base_is_valid, calls_are_named, instances_stay, reductions_stay};
 pub use laws::{
