@@ -1,5 +1,5 @@
 -- All that is reached from a configuration that fits fits too.
-use Rattle.std.proofs.Common.{◌≡◌, ℕ, List, [], ◌++◌, Some, true, refl, sym, ap, ◌∙◌, subst}
+use Rattle.std.proofs.Common.{◌≡◌, ℕ, List, [], ◌∷◌, ◌++◌, Some, true, refl, sym, ap, ◌∙◌, subst}
 use Rattle.std.proofs.lemmas.List.{map-append}
 use Rattle.wa_types.specs.Syntax.{Func, Module}
 use Rattle.wa_types.specs.Validity.{Valid}
@@ -12,7 +12,7 @@ use Rattle.wa_model.specs.Configuration.{Activation, Configuration}
 use Rattle.wa_model.specs.Step.{Next, steps, asks, returns, traps, stuck, entered, step}
 use Rattle.wa_model.specs.Blocking.{Note, resumed}
 use Rattle.wa_model.specs.Alone.{alone, alone_next, Goes, Finish, it_returned, it_trapped, it_asks, it_spent, FinishesAt, EndsAs, by_finish, by_steps}
-use Rattle.wa_model.specs.Fitting.{types_of, results_of, StoreFits, ActFits, WaitFit, Fits, WaitsFit, NextFits, EndFits}
+use Rattle.wa_model.specs.Fitting.{types_of, StoreFits, ActFits, WaitFit, Fits, NextFits, EndFits}
 use Rattle.wa_model.proofs.FittingSteps.{entered_fits, steps_fit}
 
 module _ (m : Module) (v : Valid m) where
@@ -41,8 +41,10 @@ module _ (m : Module) (v : Valid m) where
 pub calls_fit : (m : Module) (s : Store) (args : List Value) (x : ℕ) (f : Func) → Valid m → StoreFits m s → defined_at m x ≡ Some f → types_of args ≡ (func_type_at m x).params → Fits m (entered s [] args x f)
 calls_fit m s args x f v so is e = entered_fits m v s so [] args x f is e tt
 
-pub answers_fit : (m : Module) (x : ℕ) (c : Configuration) (s : Store) (values : List Value) → WaitsFit m x c → StoreFits m s → types_of values ≡ results_of m x → Fits m (resumed c s values)
-answers_fit m x c s values w so e =
-    let a = c.here in
-    let types : types_of (values ++ a.operands) ≡ results_of m x ++ types_of a.operands = map-append type_of values a.operands ∙ ap (λ ts. ts ++ types_of a.operands) e in
-    record { store = so; here = subst (ActFits m a.func a.locals a.code a.labels) (sym types) w.waits.0; under = w.waits.1 }
+pub answers_fit : (m : Module) (c : Configuration) (s : Store) (values : List Value) → StoreFits m s → WaitFit m (types_of values) (c.here ∷ c.under) → Fits m (resumed c s values)
+answers_fit m c s values so w =
+    let a = c.here in record {
+      store = so;
+      here = subst (ActFits m a.func a.locals a.code a.labels) (sym (map-append type_of values a.operands)) w.0;
+      under = w.1;
+    }

@@ -102,11 +102,11 @@ CallsFit =
     (m : Module) (s : Store) (args : List Value) (x : ℕ) (f : Func)
     → Valid m → StoreFits m s → defined_at m x ≡ Some f → types_of args ≡ (func_type_at m x).params → Fits m (entered s [] args x f)
 
--- and what waits, with a value of the type that it waits for, in any store that fits.
+-- and what waits, with values of the types that it waits for, in any store that fits.
 abbrev pub AnswersFit : Type 0
 AnswersFit =
-    (m : Module) (x : ℕ) (c : Configuration) (s : Store) (values : List Value)
-    → WaitsFit m x c → StoreFits m s → types_of values ≡ results_of m x → Fits m (resumed c s values)
+    (m : Module) (c : Configuration) (s : Store) (values : List Value)
+    → StoreFits m s → WaitFit m (types_of values) (c.here ∷ c.under) → Fits m (resumed c s values)
 
 -- From a configuration that fits there is a reduction, to one that fits again.
 abbrev pub StepsFit : Type 0
