@@ -1,4 +1,5 @@
 pub mod CallLemmas
+pub mod FittingTurns
 pub mod Fronts
 pub mod JumpLemmas
 pub mod LoadLemmas

@@ -1,14 +1,17 @@
 -- A run goes on, and stops.
 use Rattle.std.proofs.Common.{arith, ◌≡◌, ℕ, ◌+◌, ◌≤◌, [], true, refl, ap, sym, subst}
 use Rattle.wa_types.specs.Syntax.{Module}
+use Rattle.wa_types.specs.Validity.{Valid}
 use Rattle.wa_model.specs.Machine.{Leads, stays, moves}
 use Rattle.wa_model.specs.Configuration.{Configuration}
 use Rattle.wa_model.specs.Step.{Next, steps, asks, returns, traps, stuck, step}
 use Rattle.wa_model.specs.Blocking.{Note}
-use Rattle.wa_model.specs.Alone.{alone, alone_next, Goes, Finish, it_spent, FinishesAt, CostsAbove, by_finish, by_steps}
+use Rattle.wa_model.specs.Alone.{alone, alone_next, Goes, Finish, it_spent, FinishesAt, CostsAbove, EndsAs, by_finish, by_steps}
+use Rattle.wa_model.specs.Fitting.{Fits, NextFits}
 use Rattle.wa_model.proofs.Runs.{leads_on}
+use Rattle.wa_model.proofs.FittingSteps.{steps_fit}
+use Rattle.wa_model.proofs.FittingRuns.{leads_fit}
 use Rattle.interp.specs.Told.{IsUnpaid}
-use Rattle.interp.specs.Runs.{Ends, by_ending, by_stuck}
 
 module _ (m : Module) (c : Configuration) where
   pub no_step : (n : ℕ) → n ≡ 0 → Goes m c n c
@@ -20,20 +23,20 @@ module _ (m : Module) (c : Configuration) where
       subst (λ k. Goes m c k e) (sym en) (leads_on Configuration Note (alone (λ x. true) m) c d e n (more + 1) [] [] g last)
 
   -- it stops where what comes next is no reduction
-  pub ends_by : (left n more used : ℕ) (d : Configuration) (next : Next) (end : Finish) → Goes m c n d → step m d ≡ next → FinishesAt next (more + 1) end → used ≡ n + (more + 1) → used ≤ left → Ends m c left used end
+  pub ends_by : (left n more used : ℕ) (d : Configuration) (next : Next) (end : Finish) → Goes m c n d → step m d ≡ next → FinishesAt next (more + 1) end → used ≡ n + (more + 1) → used ≤ left → EndsAs m c left used end
   ends_by left n more used d next end g en fin eu le =
-      by_ending (by_finish n (more + 1) d g (subst (λ x. FinishesAt x (more + 1) end) (sym en) fin) eu le)
+      by_finish n (more + 1) d g (subst (λ x. FinishesAt x (more + 1) end) (sym en) fin) eu le
 
-  by_cost : (left used more : ℕ) (d : Configuration) (next : Next) → Goes m c used d → step m d ≡ next → left ≡ used + more → IsUnpaid next more → Ends m c left used (it_spent d)
-  by_cost left used more d (steps k e) g en el h = by_ending (by_steps more d g refl el (subst (λ x. CostsAbove x more) (sym en) h))
-  by_cost left used more d (asks k import args e) g en el h = by_ending (by_steps more d g refl el (subst (λ x. CostsAbove x more) (sym en) h))
-  by_cost left used more d (returns k values s) g en el h = by_ending (by_steps more d g refl el (subst (λ x. CostsAbove x more) (sym en) h))
-  by_cost left used more d (traps k trap s) g en el h = by_ending (by_steps more d g refl el (subst (λ x. CostsAbove x more) (sym en) h))
-  by_cost left used more d stuck g en el h = by_stuck d g en (omega arith) refl
+  costs_above : (next : Next) (more : ℕ) → NextFits m next → IsUnpaid next more → CostsAbove next more
+  costs_above (steps k e) more ok h = h
+  costs_above (asks k import args e) more ok h = h
+  costs_above (returns k values s) more ok h = h
+  costs_above (traps k trap s) more ok h = h
+  costs_above stuck more ok h = absurd ok
 
   -- or where none can be paid
-  pub ends_spent : (left used more : ℕ) (d : Configuration) → Goes m c used d → left ≡ used + more → IsUnpaid (step m d) more → Ends m c left used (it_spent d)
-  ends_spent left used more d g el h = by_cost left used more d (step m d) g refl el h
+  pub ends_spent : (left used more : ℕ) (d : Configuration) → Valid m → Fits m c → Goes m c used d → left ≡ used + more → IsUnpaid (step m d) more → EndsAs m c left used (it_spent d)
+  ends_spent left used more d v ok g el h = by_steps more d g refl el (costs_above (step m d) more (steps_fit m d v (leads_fit m v c d used [] ok g)) h)
 
 unpaid_by : (next : Next) → IsUnpaid next 0
 unpaid_by (steps k e) = omega arith

@@ -1,21 +1,23 @@
 -- An instance as plain data, and how its calls turn out.
-use Rattle.std.specs.Prelude.{◌≡◌, ℕ, suc, ◌+◌, ◌-◌, nat_le, List, [], length, map, reverse, take, drop, Option, Some, None, Bool, true, false}
+use Rattle.std.specs.Prelude.{◌≡◌, ◌<◌, ℕ, suc, ◌+◌, ◌-◌, nat_le, List, [], ◌∷◌, length, map, reverse, take, drop, Option, Some, None, Bool, true, false}
 use Rattle.std.specs.Option.{option_to_list}
+use Rattle.wa_types.specs.declared.values.ValType.{ValType}
 use Rattle.wa_types.specs.declared.values.Value.{Value}
 use Rattle.wa_types.specs.Syntax.{Func, Module}
-use Rattle.wa_types.specs.Modules.{defined_at}
+use Rattle.wa_types.specs.Modules.{func_imports, func_type_at, defined_at}
 use Rattle.wa_types.specs.View.{code}
 use Rattle.wa_model.specs.Store.{Store}
 use Rattle.wa_model.specs.Configuration.{Activation, Configuration, waiting}
 use Rattle.wa_model.specs.Step.{entered}
 use Rattle.wa_model.specs.Blocking.{resumed}
-use Rattle.wa_model.specs.Alone.{it_trapped, it_asks, it_spent}
+use Rattle.wa_model.specs.Alone.{it_trapped, it_asks, it_spent, EndsAs}
+use Rattle.wa_model.specs.Fitting.{types_of, results_of, StoreFits, WaitFit}
 use Rattle.interp.specs.declared.turns.Turn.{Turn}
 use Rattle.interp.specs.declared.turns.Turn.TheVariants.{Returned, Trapped, Waiting, StepsSpent}
 use Rattle.interp.specs.declared.turns.Wait as W
 use Rattle.interp.specs.declared.turns.Wait.TheVariants as WV
 use Rattle.interp.specs.View.{label_of, waiting_of}
-use Rattle.interp.specs.Runs.{Ends, EndsReturned}
+use Rattle.interp.specs.Runs.{EndsReturned}
 
 -- What waits for the answer of an import: nothing, the host, which called it itself, or an activation with those below it.
 pub data Waits : Type 0 where
@@ -34,19 +36,19 @@ waits_of (WV.Inside k taken) =
 pub record TurnsSpent (m : Module) (c : Configuration) (left used : ℕ) (s : Store) : Type 0 where
   pub at : Configuration
   pub store_is : at.store ≡ s
-  pub ends : Ends m c left used (it_spent at)
+  pub ends : EndsAs m c left used (it_spent at)
 
 -- it waits in the activations that are told
 pub record TurnsWaiting (m : Module) (c : Configuration) (left used import : ℕ) (args : List Value) (s : Store) (w : Waits) : Type 0 where
   pub at : Configuration
   pub store_is : at.store ≡ s
   pub waits : w ≡ inside at.here at.under
-  pub ends : Ends m c left used (it_asks import args at)
+  pub ends : EndsAs m c left used (it_asks import args at)
 
 -- How a run from c turned out, where it might pay so much and paid so much, with the store and what waits behind it.
 abbrev pub Turns : Module → Configuration → (left used : ℕ) → Turn → Store → Waits → Type 0
 Turns m c left used (Returned value) s w = EndsReturned m c left used value s × (w ≡ nothing)
-Turns m c left used (Trapped trap) s w = Ends m c left used (it_trapped trap s) × (w ≡ nothing)
+Turns m c left used (Trapped trap) s w = EndsAs m c left used (it_trapped trap s) × (w ≡ nothing)
 Turns m c left used (Waiting call) s w = TurnsWaiting m c left used call.import call.args.items s w
 Turns m c left used StepsSpent s w = TurnsSpent m c left used s × (w ≡ nothing)
 
@@ -91,3 +93,20 @@ Resumes m s nothing value left used turn s' w = ⊥
 Resumes m s outermost value left used turn s' w = (used ≡ 0) × (turn ≡ Returned value) × (s' ≡ s) × (w ≡ nothing)
 Resumes m s (inside here under) value left used turn s' w =
     Turns m (resumed (record { store = s; here = here; under = under }) s (option_to_list value)) left used turn s' w
+
+-- ---- what fits
+
+-- what waits goes on with values of these types
+abbrev pub Awaits : Module → List ValType → Waits → Type 0
+Awaits m types nothing = ⊥
+Awaits m types outermost = Unit {0}
+Awaits m types (inside here under) = WaitFit m types (here ∷ under)
+
+-- a call of an import has arguments of its types, and its result is awaited
+abbrev pub TurnFits : Module → Turn → Waits → Type 0
+TurnFits m (Waiting call) w = (call.import < func_imports m) × (types_of call.args.items ≡ (func_type_at m call.import).params) × Awaits m (results_of m call.import) w
+TurnFits m _ w = Unit {0}
+
+-- behind a turn an instance of a valid module fits again
+abbrev pub FitsAgain : Module → Turn → Store → Waits → Type 0
+FitsAgain m turn s w = StoreFits m s × TurnFits m turn w

@@ -4,7 +4,6 @@ pub mod Stacks
 pub mod Faults
 pub mod Host
 pub mod Instance
-pub mod Laws
 pub mod Making
 pub mod Runs
 pub mod Told

@@ -1,6 +1,9 @@
 ghost use Rattle.std.specs.Prelude.{◌≡◌, ◌<◌, ◌≤◌, ◌+◌, ◌-◌, ◌^◌, IfOk};
+ghost use Rattle.wa_types.specs.Modules.{func_type_at};
+ghost use Rattle.wa_types.specs.Validity.{Valid};
 ghost use Rattle.wa_types.specs.View.{module_of};
 ghost use Rattle.wa_model.specs.Step.{memory_max};
+ghost use Rattle.wa_model.specs.Fitting.{types_of, Fits, StoreFits};
 ghost use Rattle.interp.specs.Instance.{Calls, Turns, waits_of};
 ghost use Rattle.interp.specs.View.{store_of, running_of};
 
@@ -21,6 +24,8 @@ pub fn go_on<'m>(
     mut stack: Stack<'m>,
     steps: &mut Steps,
 ) -> Result<(Turn, Wait<'m>), AllocError>
+    requires valid { Valid (module_of program.now.source.now) }
+    requires sound { Fits (module_of program.now.source.now) (running_of (store_of store.old) stack) }
     requires most { store.old.memory.max ≡ memory_max (module_of program.now.source.now) }
     requires fits { steps.old.left + steps.old.used < 2 ^ 64 }
     ensures turns { IfOk result (λ t. Turns (module_of program.now.source.now) (running_of (store_of store.old) stack.entry) steps.old.left (steps.new.used - steps.old.used) t.0 (store_of store.new) (waits_of t.1)) }
@@ -49,6 +54,9 @@ pub fn call_from_outside<'m>(
     args: &[Value],
     steps: &mut Steps,
 ) -> Result<(Turn, Wait<'m>), AllocError>
+    requires valid { Valid (module_of program.now.source.now) }
+    requires fitting { StoreFits (module_of program.now.source.now) (store_of store.old) }
+    requires typed { types_of args.now ≡ (func_type_at (module_of program.now.source.now) func).params }
     requires most { store.old.memory.max ≡ memory_max (module_of program.now.source.now) }
     requires fits { steps.old.left + steps.old.used < 2 ^ 64 }
     ensures calls { IfOk result (λ t. Calls (module_of program.now.source.now) (store_of store.old) func args.now steps.old.left (steps.new.used - steps.old.used) t.0 (store_of store.new) (waits_of t.1)) }

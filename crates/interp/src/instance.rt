@@ -1,7 +1,10 @@
 ghost use Rattle.std.specs.Prelude.{◌≡◌, ◌<◌, ◌≤◌, ◌+◌, ◌-◌, ◌^◌, ◌++◌, IfOk, IfErr, nat_lt, length, drop, reverse};
+ghost use Rattle.std.specs.Coded.{codes};
 ghost use Rattle.std.specs.Option.{option_copied, option_to_list};
 ghost use Rattle.wa_types.specs.Modules.{all_memories};
+ghost use Rattle.wa_types.specs.Validity.{Valid as IsValid};
 ghost use Rattle.wa_types.specs.View.{module_of};
+ghost use Rattle.wa_types.specs.contracts.instrs.Instr as instr;
 ghost use Rattle.wa_model.specs.Step.{memory_max};
 
 use crate::go_on::{call_from_outside, go_on};
@@ -13,53 +16,50 @@ use crate::store::Store;
 use crate::turns::{Turn, Wait};
 use std::alloc::{AllocError, Global};
 use std::mem;
-use wa_types::{Module, Value};
+use wa_types::Value;
 use wasm_validate::Valid;
 
-/// An instance of a module: its store, and what waits for an import's answer.
+/// An instance of a valid module: its store, and what waits for an import's answer.
 #[derive(Drop)]
 pub struct Instance<'m> {
+    valid: &'m Valid,
     program: Program<'m>,
     store: Store,
     has_memory: bool,
     wait: Wait<'m>,
+    ghost source_is: { program.source.now ≡ valid.now } by { Prim.hlevel (codes, instr.the_row.coded) },
     ghost most_is: { store.memory.max ≡ memory_max (module_of program.source.now) },
     ghost has_is: { has_memory ≡ nat_lt 0 (length (all_memories (module_of program.source.now))) },
 }
 
 impl<'m> Instance<'m> {
-    ghost use Rattle.interp.specs.Instance.{Calls, Resumes, nothing, waits_of};
+    ghost use Rattle.interp.specs.Instance.{Awaits, Calls, FitsAgain, Resumes, nothing, waits_of};
     ghost use Rattle.interp.specs.Faults.{FailsAs};
+    ghost use Rattle.wa_types.specs.Modules.{func_sorts, func_type_at, imported, imported_global};
+    ghost use Rattle.wa_model.specs.Fitting.{types_of, global_types, StoreFits};
     ghost use Rattle.wa_model.specs.Instantiation.{opening, opens};
     ghost use Rattle.interp.specs.Host.{code_in, store_in, waits_in, memory_of, CallsAside, Pokes};
 
-    /// An instance of a module whose imported globals have these values, before its start function runs.
+    /// An instance of a module whose imported globals have these values, one each of its type, before its start function
+    /// runs (standard, section 4.5.4).
     pub fn make(
         alloc: Global,
         valid: &'m Valid,
         globals: &[Value],
     ) -> Result<Instance<'m>, MakeFault>
+        requires globals { types_of globals.now ≡ global_types (imported imported_global (module_of valid.now)) }
         ensures code { IfOk result (λ i. code_in i ≡ module_of valid.now) }
         ensures store { IfOk result (λ i. opening (module_of valid.now) globals.now ≡ opens (store_in i)) }
+        ensures fits { IfOk result (λ i. StoreFits (code_in i) (store_in i)) }
         ensures waits { IfOk result (λ i. waits_in i ≡ nothing) }
         ensures err { IfErr result (FailsAs (opening (module_of valid.now) globals.now)) }
     {
-        Instance::of(alloc, valid.module(), globals)
-    }
-
-    /// The same, of a module that may be invalid.
-    fn of(alloc: Global, source: &'m Module, globals: &[Value]) -> Result<Instance<'m>, MakeFault>
-        requires elems { length source.now.elems.items < 2 ^ 32 }
-        requires segments { length source.now.segments.items < 2 ^ 32 }
-        ensures code { IfOk result (λ i. code_in i ≡ module_of source.now) }
-        ensures store { IfOk result (λ i. opening (module_of source.now) globals.now ≡ opens (store_in i)) }
-        ensures waits { IfOk result (λ i. waits_in i ≡ nothing) }
-        ensures err { IfErr result (FailsAs (opening (module_of source.now) globals.now)) }
-    {
+        let source = valid.module();
         let store = open(alloc, source, globals)?;
         let has_memory = all_memories(alloc, source)?.len() > 0;
         let program = make_program(alloc, source)?;
         Ok(Instance {
+            valid,
             program,
             store,
             has_memory,
@@ -67,21 +67,33 @@ impl<'m> Instance<'m> {
         })
     }
 
-    /// Calls a function on an empty stack, in place of what waits. It goes on to the first return, trap or call of an
-    /// import, or up to a reduction that costs more than is left.
+    // The code is valid.
+    fn valid_code(&self)
+        ensures { IsValid (code_in self.now) }
+    {
+        self.valid.module();
+    }
+
+    /// Calls a function of the module on an empty stack, in place of what waits, with arguments of its types. It goes on to
+    /// the first return, trap or call of an import, or up to a reduction that costs more than is left.
     pub fn begin(
         &mut self,
         func: u32,
         args: &[Value],
         steps: &mut Steps,
     ) -> Result<Turn, AllocError>
+        requires func { func < length (func_sorts (code_in self.old)) }
+        requires args { types_of args.now ≡ (func_type_at (code_in self.old) func).params }
+        requires store { StoreFits (code_in self.old) (store_in self.old) }
         requires fits { steps.old.left + steps.old.used < 2 ^ 64 }
         ensures calls { IfOk result (λ t. Calls (code_in self.old) (store_in self.old) func args.now steps.old.left (steps.new.used - steps.old.used) t (store_in self.new) (waits_in self.new)) }
+        ensures again { IfOk result (λ t. FitsAgain (code_in self.old) t (store_in self.new) (waits_in self.new)) }
         ensures code { code_in self.new ≡ code_in self.old }
         ensures sum { steps.new.left + steps.new.used ≡ steps.old.left + steps.old.used }
         ensures grows { steps.old.used ≤ steps.new.used }
     {
         self.wait = Wait::Nothing;
+        self.valid_code();
         let (turn, wait) = call_from_outside(&self.program, &mut self.store, func, args, steps)?;
         self.wait = wait;
         Ok(turn)
@@ -94,26 +106,34 @@ impl<'m> Instance<'m> {
         args: &[Value],
         steps: &mut Steps,
     ) -> Result<Turn, AllocError>
+        requires func { func < length (func_sorts (code_in self.old)) }
+        requires args { types_of args.now ≡ (func_type_at (code_in self.old) func).params }
+        requires store { StoreFits (code_in self.old) (store_in self.old) }
         requires fits { steps.old.left + steps.old.used < 2 ^ 64 }
         ensures calls { IfOk result (λ t. CallsAside (code_in self.old) (store_in self.old) func args.now steps.old.left (steps.new.used - steps.old.used) t (store_in self.new)) }
+        ensures again { IfOk result (λ _. StoreFits (code_in self.old) (store_in self.new)) }
         ensures waits { waits_in self.new ≡ waits_in self.old }
         ensures code { code_in self.new ≡ code_in self.old }
         ensures sum { steps.new.left + steps.new.used ≡ steps.old.left + steps.old.used }
         ensures grows { steps.old.used ≤ steps.new.used }
     {
+        self.valid_code();
         let (turn, _wait) = call_from_outside(&self.program, &mut self.store, func, args, steps)?;
         Ok(turn)
     }
 
-    /// Gives what waits its answer, and goes on as `begin` does.
+    /// Gives what waits its answer, of the type of the import's result, and goes on as `begin` does.
     pub fn resume(&mut self, value: Option<Value>, steps: &mut Steps) -> Result<Turn, AllocError>
-        requires waits { waits_in self.old ≡ nothing → ⊥ }
+        requires waits { Awaits (code_in self.old) (types_of (option_to_list value)) (waits_in self.old) }
+        requires store { StoreFits (code_in self.old) (store_in self.old) }
         requires fits { steps.old.left + steps.old.used < 2 ^ 64 }
         ensures resumes { IfOk result (λ t. Resumes (code_in self.old) (store_in self.old) (waits_in self.old) value steps.old.left (steps.new.used - steps.old.used) t (store_in self.new) (waits_in self.new)) }
+        ensures again { IfOk result (λ t. FitsAgain (code_in self.old) t (store_in self.new) (waits_in self.new)) }
         ensures code { code_in self.new ≡ code_in self.old }
         ensures sum { steps.new.left + steps.new.used ≡ steps.old.left + steps.old.used }
         ensures grows { steps.old.used ≤ steps.new.used }
     {
+        self.valid_code();
         match mem::replace(&mut self.wait, Wait::Nothing) {
             Wait::Nothing => unreachable!(),
             Wait::Outermost => Ok(Turn::Returned(value)),
@@ -139,6 +159,7 @@ impl<'m> Instance<'m> {
     /// Writes bytes into the memory. False exactly where there is no memory or they reach past it, and then nothing changes.
     pub fn poke(&mut self, at: u64, bytes: &[u8]) -> bool
         ensures store { Pokes (code_in self.old) (store_in self.old) at bytes.now result (store_in self.new) }
+        ensures again { StoreFits (code_in self.old) (store_in self.old) → StoreFits (code_in self.old) (store_in self.new) }
         ensures waits { waits_in self.new ≡ waits_in self.old }
         ensures code { code_in self.new ≡ code_in self.old }
     {

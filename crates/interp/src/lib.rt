@@ -9,7 +9,9 @@
 //! from the module's tree: nothing of it is copied. A call leaves what it took on the caller's operands and counts it,
 //! so that a stack that waits shows the operands just before the call. `reduce` does one reduction: its flow tells what
 //! came next, with what it costs past 1 (`specs/Told.antt`). It answers `Flow::Spent` also where no reduction is
-//! defined, as code that isn't valid may come to; the store is then as it was.
+//! defined; no configuration of a valid module comes there (`reductions_fit` of `wa_model`), which is why `run` ends
+//! exactly as the definition says. So each call asks that the store and what waits fit the module, as `make` and every
+//! turn leave them, and that arguments and answers have their types (`specs/Instance.antt`).
 //!
 //! Read in the order `activation`, `flow`, `operands`, `numeric`, `locals`, `memory`, `control`, `branches`, `calls`,
 //! `reduce`, `run`, `go_on`, `instance`, and for `make` `spaces`, `segments`, `make`.
@@ -23,7 +25,6 @@ mod control;
 mod flow;
 mod go_on;
 mod instance;
-mod laws;
 mod locals;
 mod make;
 mod memory;
@@ -39,7 +40,6 @@ mod turns;
 mod values;
 
 pub use instance::Instance;
-pub use laws::ends_as_defined;
 pub use make::MakeFault;
 pub use run::Steps;
 pub use turns::Turn;

@@ -1,6 +1,8 @@
 ghost use Rattle.std.specs.Prelude.{◌≡◌, ◌<◌, ◌≤◌, ◌+◌, ◌-◌, ◌^◌, IfOk, OnOk};
+ghost use Rattle.wa_types.specs.Validity.{Valid};
 ghost use Rattle.wa_types.specs.View.{module_of};
 ghost use Rattle.wa_model.specs.Step.{memory_max};
+ghost use Rattle.wa_model.specs.Fitting.{Fits};
 ghost use Rattle.interp.specs.Runs.{RunsTo};
 ghost use Rattle.interp.specs.View.{store_of, running_of};
 
@@ -50,6 +52,8 @@ pub fn run<'m>(
     stack: &mut Stack<'m>,
     steps: &mut Steps,
 ) -> Result<Stop, AllocError>
+    requires valid { Valid (module_of program.now.source.now) }
+    requires sound { Fits (module_of program.now.source.now) (running_of (store_of store.old) stack.old) }
     requires most { store.old.memory.max ≡ memory_max (module_of program.now.source.now) }
     requires fits { steps.old.left + steps.old.used < 2 ^ 64 }
     ensures runs { IfOk result (λ t. RunsTo (module_of program.now.source.now) (running_of (store_of store.old) stack.old) steps.old.left (steps.new.used - steps.old.used) t (running_of (store_of store.new) stack.new)) }

@@ -5,10 +5,25 @@ use Rattle.wa_types.specs.Modules.{defined_at}
 use Rattle.wa_types.specs.View.{code, func_of, module_of}
 use Rattle.wa_model.specs.Configuration.{running}
 use Rattle.wa_model.specs.Step.{entered}
+use Rattle.wa_model.specs.Fitting.{Fits}
+use Rattle.wa_model.proofs.FittingRuns.{calls_fit}
 use Rattle.interp.specs.Instance.{CallsAs, Turns, waits_of}
 use Rattle.interp.specs.View.{store_of, label_of, waiting_of}
 use Rattle.interp.proofs.CallLemmas.{entered_runs}
 use Rattle.interp.proofs.go_on.call_from_outside.Goals as goal
+
+pub go_on-requires-clause-sound : goal.go_on-requires-clause-sound
+go_on-requires-clause-sound c =
+    let m = module_of c.args.program.now.source.now in
+    let s = store_of c.args.store.now in
+    let x = c.args.func in
+    let args = c.args.args.now in
+    let f = func_of c.in-Some.callee.now in
+    let here = c.in_ok-here.here in
+    let entered_is =
+    ap (λ v. running s here.func (map waiting_of (reverse v)) here.locals.items (reverse here.operands.items) (code here.code.now) (map label_of (reverse here.labels.items))) c.new-under.ensures.items
+    ∙ entered_runs s here x args f [] c.in_ok-here.ensures in
+    subst (Fits m) (sym entered_is) (calls_fit m s args x f c.requires.valid c.requires.fitting c.in-Some.ensures c.requires.typed)
 
 pub returns-clause-calls : goal.returns-clause-calls
 returns-clause-calls c =

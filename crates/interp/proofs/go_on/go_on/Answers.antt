@@ -1,7 +1,7 @@
 use Rattle.std.proofs.Common.{◌-◌, reverse, take, drop, refl, ap, sym, ◌∙◌, subst}
 use Rattle.wa_types.specs.View.{module_of}
-use Rattle.wa_model.specs.Alone.{it_asks}
-use Rattle.interp.specs.Runs.{Ends, RunsTo}
+use Rattle.wa_model.specs.Alone.{it_asks, EndsAs}
+use Rattle.interp.specs.Runs.{RunsTo}
 use Rattle.interp.specs.View.{store_of, running_of, taking}
 use Rattle.interp.proofs.go_on.go_on.Goals as goal
 
@@ -27,7 +27,7 @@ returns-in-Asked-clause-turns c =
       at = taking c.in-Asked.taken to;
       store_is = refl;
       waits = refl;
-      ends = subst (λ a. Ends m from c.args.steps.now.left used (it_asks c.in-Asked.import a (taking c.in-Asked.taken to))) (sym args) told;
+      ends = subst (λ a. EndsAs m from c.args.steps.now.left used (it_asks c.in-Asked.import a (taking c.in-Asked.taken to))) (sym args) told;
     }
 
 pub returns-clause-turns : goal.returns-clause-turns

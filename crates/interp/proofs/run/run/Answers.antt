@@ -79,7 +79,7 @@ returns-in-Spent-clause-runs c =
     let n = c.loop-steps.steps.used - c.args.steps.now.used in
     let told = subst (λ f. Tells at.store (step m at) c.loop-steps.steps.left f to) c.in-Spent.is c.in_ok-more.ensures.tells in
     let left : c.args.steps.now.left ≡ n + c.loop-steps.steps.left = omega (arith, c.loop-steps.invariant.grows, c.loop-steps.invariant.sum) in
-    record { at = at; store_is = sym told.1; ends = ends_spent m from c.args.steps.now.left n c.loop-steps.steps.left at c.loop-steps.invariant.goes left told.0 }
+    record { at = at; store_is = sym told.1; ends = ends_spent m from c.args.steps.now.left n c.loop-steps.steps.left at c.requires.valid c.requires.sound c.loop-steps.invariant.goes left told.0 }
 
 pub returns-clause-runs : goal.returns-clause-runs
 returns-clause-runs c =
@@ -88,4 +88,4 @@ returns-clause-runs c =
     let at = running_of (store_of c.loop-steps.store) c.loop-steps.stack in
     let n = c.loop-steps.steps.used - c.args.steps.now.used in
     let left : c.args.steps.now.left ≡ n + c.loop-steps.steps.left = omega (arith, c.loop-steps.invariant.grows, c.loop-steps.invariant.sum) in
-    record { at = at; store_is = refl; ends = ends_spent m from c.args.steps.now.left n c.loop-steps.steps.left at c.loop-steps.invariant.goes left (nothing_left (step m at) c.loop-steps.steps.left c.loop-steps-test.false) }
+    record { at = at; store_is = refl; ends = ends_spent m from c.args.steps.now.left n c.loop-steps.steps.left at c.requires.valid c.requires.sound c.loop-steps.invariant.goes left (nothing_left (step m at) c.loop-steps.steps.left c.loop-steps-test.false) }
