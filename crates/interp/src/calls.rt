@@ -29,21 +29,24 @@ fn make_locals(alloc: Global, args: &[Value], runs: &[Run]) -> Result<Vec<Value>
     Ok(locals)
 }
 
-/// A new activation of a function, with these arguments (standard, section 4.4.7.1).
+/// A new activation of a function, with these arguments (standard, section 4.4.7.1). It has room for all operands and
+/// labels that it will hold.
 pub fn enter<'m>(
-    alloc: Global,
+    program: &Program<'m>,
     func: u32,
     callee: &'m Func,
     args: &[Value],
 ) -> Result<Activation<'m>, AllocError>
     ensures { IfOk result (λ a. IsEntered a func args.now (func_of callee.now)) }
 {
+    let alloc = program.alloc;
+    let room = program.room(func);
     Ok(Activation {
         func,
         locals: make_locals(alloc, args, &callee.locals)?,
-        operands: Vec::new(alloc),
+        operands: Vec::with_capacity(alloc, room.operands)?,
         code: callee.body.as_slice(),
-        labels: Vec::new(alloc),
+        labels: Vec::with_capacity(alloc, room.labels)?,
     })
 }
 
@@ -99,7 +102,7 @@ fn invoke<'m>(
         return Ok(Flow::Trapped { more, trap });
     }
     let args = args_of(&stack.here.operands, own, params);
-    let entered = enter(program.alloc, func, callee, args)?;
+    let entered = enter(program, func, callee, args)?;
     let caller = mem::replace(&mut stack.here, entered);
     stack.under.push(Waiting {
         activation: caller,

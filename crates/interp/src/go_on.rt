@@ -65,7 +65,7 @@ pub fn call_from_outside<'m>(
         pay(steps, more);
         return Ok((Turn::Waiting(Call { import: func, args }), Wait::Outermost));
     };
-    let here = enter(program.alloc, func, callee, args)?;
+    let here = enter(program, func, callee, args)?;
     let under = Vec::new(program.alloc);
     pay(steps, more);
     go_on(program, store, Stack { here, under }, steps)

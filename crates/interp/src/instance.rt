@@ -1,4 +1,5 @@
 ghost use Rattle.std.specs.Prelude.{◌≡◌, ◌<◌, ◌≤◌, ◌+◌, ◌-◌, ◌^◌, ◌++◌, IfOk, IfErr, nat_lt, length, drop, reverse};
+ghost use Rattle.std.specs.Bool.{OnTrue, OnFalse};
 ghost use Rattle.std.specs.Option.{option_copied, option_to_list};
 ghost use Rattle.wa_types.specs.Modules.{all_memories};
 ghost use Rattle.wa_types.specs.View.{module_of};
@@ -126,6 +127,14 @@ impl<'m> Instance<'m> {
         }
     }
 
+    /// Whether something waits for an import's answer, so that `resume` may be called.
+    pub fn is_waiting(&self) -> bool
+        ensures waits { OnTrue result (waits_in self.now ≡ nothing → ⊥) }
+        ensures idle { OnFalse result (waits_in self.now ≡ nothing) }
+    {
+        !matches!(self.wait, Wait::Nothing)
+    }
+
     /// All bytes of the memory, where the module has one.
     pub fn memory(&self) -> Option<&[u8]>
         ensures { option_copied result ≡ memory_of (code_in self.now) (store_in self.now) }
@@ -167,6 +176,3 @@ fn answer(operands: &mut Vec<Value>, taken: usize, value: Option<Value>) -> Resu
         None => Ok(()),
     }
 }
-
-#[cfg(test)]
-mod tests;

@@ -31,6 +31,7 @@ mod numeric;
 mod operands;
 mod program;
 mod reduce;
+mod rooms;
 mod run;
 mod segments;
 mod spaces;

@@ -3,18 +3,20 @@ ghost use Rattle.wa_types.specs.Modules.{func_sorts, func_imports, empty_type, t
 ghost use Rattle.wa_types.specs.View.{func_type_of, func_of, module_of};
 ghost use Rattle.wa_model.specs.Step.{result_count, same_types, same_func_type};
 
+use crate::rooms::{Room, all_rooms};
 use crate::spaces::{all_sorts, imported_sorts};
 use std::alloc::{AllocError, Global};
 use wa_types::{Func, FuncType, Module, ValType};
 
-/// A module with what is looked up at calls: the index of each function's type, imports first, and how many functions are
-/// imported (standard, section 2.5.1).
+/// A module with what is looked up at calls: the index of each function's type, imports first, how many functions are
+/// imported (standard, section 2.5.1), and what the activations of each defined one reserve.
 #[derive(Drop)]
 pub struct Program<'m> {
     pub alloc: Global,
     pub source: &'m Module,
     pub sorts: Vec<u32>,
     pub imports: usize,
+    pub rooms: Vec<Room>,
     ghost sorts_are: { sorts.items ≡ func_sorts (module_of source.now) },
     ghost imports_are: { imports ≡ func_imports (module_of source.now) },
 }
@@ -44,6 +46,16 @@ impl<'m> Program<'m> {
     {
         match self.sort(sort) {
             Some(ty) => ty.params.len(),
+            None => 0,
+        }
+    }
+
+    /// How many results the type of this index has.
+    pub fn sort_results(&self, sort: u32) -> usize
+        ensures { result ≡ length (type_at (module_of self.now.source.now) sort).results }
+    {
+        match self.sort(sort) {
+            Some(ty) => ty.results.len(),
             None => 0,
         }
     }
@@ -78,6 +90,15 @@ impl<'m> Program<'m> {
         self.source.funcs.get(place)
     }
 
+    /// What the activations of a function reserve.
+    pub fn room(&self, func: u32) -> Room {
+        let place = (func as usize).saturating_sub(self.imports);
+        match self.rooms.get(place) {
+            Some(room) => *room,
+            None => Room::NONE,
+        }
+    }
+
     /// Whether a function has the type of this index.
     pub fn has_type(&self, func: u32, sort: u32) -> bool
         ensures { result ≡ same_func_type (func_type_at (module_of self.now.source.now) func) (type_at (module_of self.now.source.now) sort) }
@@ -98,12 +119,15 @@ pub fn make_program<'m>(alloc: Global, source: &'m Module) -> Result<Program<'m>
 {
     let sorts = all_sorts(alloc, source)?;
     let imports = imported_sorts(alloc, source)?.len();
-    Ok(Program {
+    let mut program = Program {
         alloc,
         source,
         sorts,
         imports,
-    })
+        rooms: Vec::new(alloc),
+    };
+    program.rooms = all_rooms(&program)?;
+    Ok(program)
 }
 
 /// Whether two lists of types are the same.
