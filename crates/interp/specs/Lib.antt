@@ -6,6 +6,7 @@ pub mod Host
 pub mod Instance
 pub mod Laws
 pub mod Making
+pub mod Rooms
 pub mod Runs
 pub mod Told
 pub mod View

@@ -1,9 +1,10 @@
-ghost use Rattle.std.specs.Prelude.{◌≡◌, ◌<◌, ◌+◌, ◌^◌, ◌++◌, ℕ, IfOk, MatchOption, map, slice_get, reverse, take, drop};
-ghost use Rattle.wa_types.specs.Modules.{declared_locals};
+ghost use Rattle.std.specs.Prelude.{◌≡◌, ◌<◌, ◌+◌, ◌^◌, ◌++◌, ℕ, Some, IfOk, MatchOption, map, slice_get, reverse, take, drop};
+ghost use Rattle.wa_types.specs.Modules.{declared_locals, defined_at};
 ghost use Rattle.wa_types.specs.Syntax.{call, call_indirect};
 ghost use Rattle.wa_types.specs.View.{func_of, module_of};
 ghost use Rattle.wa_model.specs.Store.{Store};
 ghost use Rattle.wa_model.specs.Step.{zero_of};
+ghost use Rattle.interp.specs.Rooms.{room_of, Reserves};
 ghost use Rattle.interp.specs.Stacks.{IsEntered, HasNumber, LacksNumber, invoke_of, plain_of};
 ghost use Rattle.interp.specs.Told.{Tells};
 ghost use Rattle.interp.specs.View.{running_of, store_of};
@@ -37,7 +38,9 @@ pub fn enter<'m>(
     callee: &'m Func,
     args: &[Value],
 ) -> Result<Activation<'m>, AllocError>
-    ensures { IfOk result (λ a. IsEntered a func args.now (func_of callee.now)) }
+    requires { defined_at (module_of program.now.source.now) func ≡ Some (func_of callee.now) }
+    ensures entered { IfOk result (λ a. IsEntered a func args.now (func_of callee.now)) }
+    ensures reserves { IfOk result (λ a. Reserves a (room_of (module_of program.now.source.now) (func_of callee.now))) }
 {
     let alloc = program.alloc;
     let room = program.room(func);

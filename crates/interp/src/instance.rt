@@ -1,4 +1,4 @@
-ghost use Rattle.std.specs.Prelude.{◌≡◌, ◌<◌, ◌≤◌, ◌+◌, ◌-◌, ◌^◌, ◌++◌, IfOk, IfErr, nat_lt, length, drop, reverse};
+ghost use Rattle.std.specs.Prelude.{◌≡◌, ◌<◌, ◌≤◌, ◌+◌, ◌-◌, ◌^◌, ◌++◌, All, IfOk, IfErr, nat_lt, length, drop, reverse};
 ghost use Rattle.std.specs.Bool.{OnTrue, OnFalse};
 ghost use Rattle.std.specs.Option.{option_copied, option_to_list};
 ghost use Rattle.wa_types.specs.Modules.{all_memories};
@@ -32,6 +32,7 @@ impl<'m> Instance<'m> {
     ghost use Rattle.interp.specs.Instance.{Calls, Resumes, nothing, waits_of};
     ghost use Rattle.interp.specs.Faults.{FailsAs};
     ghost use Rattle.wa_model.specs.Instantiation.{opening, opens};
+    ghost use Rattle.interp.specs.Rooms.{HasFewInstrs};
     ghost use Rattle.interp.specs.Host.{code_in, store_in, waits_in, memory_of, CallsAside, Pokes};
 
     /// An instance of a module whose imported globals have these values, before its start function runs.
@@ -52,6 +53,7 @@ impl<'m> Instance<'m> {
     fn of(alloc: Global, source: &'m Module, globals: &[Value]) -> Result<Instance<'m>, MakeFault>
         requires elems { length source.now.elems.items < 2 ^ 32 }
         requires segments { length source.now.segments.items < 2 ^ 32 }
+        requires few { All HasFewInstrs source.now.funcs.items }
         ensures code { IfOk result (λ i. code_in i ≡ module_of source.now) }
         ensures store { IfOk result (λ i. opening (module_of source.now) globals.now ≡ opens (store_in i)) }
         ensures waits { IfOk result (λ i. waits_in i ≡ nothing) }

@@ -37,6 +37,7 @@ mod segments;
 mod spaces;
 mod store;
 mod turns;
+mod types;
 mod values;
 
 pub use instance::Instance;
