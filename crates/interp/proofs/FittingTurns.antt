@@ -21,7 +21,7 @@ use Rattle.interp.specs.Instance.{Waits, nothing, outermost, inside, Turns, IsCa
 use Rattle.interp.specs.Host.{memory_of, poked_in, PokesTo, Pokes}
 
 module _ (m : Module) (v : Valid m) where
-  turns_fit : (c : Configuration) (left used : ℕ) (turn : Turn) (s : Store) (w : Waits) → Fits m c → Turns m c left used turn s w → FitsAgain m turn s w
+  pub turns_fit : (c : Configuration) (left used : ℕ) (turn : Turn) (s : Store) (w : Waits) → Fits m c → Turns m c left used turn s w → FitsAgain m turn s w
   turns_fit c left used (Returned value) s w ok t = (ends_fit m v c left used (it_returned t.0.values s) ok t.0.ends, tt)
   turns_fit c left used (Trapped trap) s w ok t = (ends_fit m v c left used (it_trapped trap s) ok t.0, tt)
   turns_fit c left used (Waiting call) s w ok t =

@@ -8,5 +8,6 @@ pub mod NumberLemmas
 pub mod OperandLemmas
 pub mod ProgramLemmas
 pub mod ReduceLemmas
+pub mod RoomLemmas
 pub mod RunLemmas
 pub mod TypeLemmas

@@ -5,6 +5,7 @@ pub mod Faults
 pub mod Host
 pub mod Instance
 pub mod Making
+pub mod Rooms
 pub mod Runs
 pub mod Told
 pub mod View

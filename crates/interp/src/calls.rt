@@ -1,9 +1,10 @@
-ghost use Rattle.std.specs.Prelude.{◌≡◌, ◌<◌, ◌+◌, ◌^◌, ◌++◌, ℕ, IfOk, MatchOption, map, slice_get, reverse, take, drop};
-ghost use Rattle.wa_types.specs.Modules.{declared_locals};
+ghost use Rattle.std.specs.Prelude.{◌≡◌, ◌<◌, ◌+◌, ◌^◌, ◌++◌, ℕ, Some, IfOk, MatchOption, map, slice_get, reverse, take, drop};
+ghost use Rattle.wa_types.specs.Modules.{declared_locals, defined_at};
 ghost use Rattle.wa_types.specs.Syntax.{call, call_indirect};
 ghost use Rattle.wa_types.specs.View.{func_of, module_of};
 ghost use Rattle.wa_model.specs.Store.{Store};
 ghost use Rattle.wa_model.specs.Step.{zero_of};
+ghost use Rattle.interp.specs.Rooms.{room_of, Reserves};
 ghost use Rattle.interp.specs.Stacks.{IsEntered, HasNumber, LacksNumber, invoke_of, plain_of};
 ghost use Rattle.interp.specs.Told.{Tells};
 ghost use Rattle.interp.specs.View.{running_of, store_of};
@@ -29,21 +30,26 @@ fn make_locals(alloc: Global, args: &[Value], runs: &[Run]) -> Result<Vec<Value>
     Ok(locals)
 }
 
-/// A new activation of a function, with these arguments (standard, section 4.4.7.1).
+/// A new activation of a function, with these arguments (standard, section 4.4.7.1). It has room for all operands and
+/// labels that it will hold.
 pub fn enter<'m>(
-    alloc: Global,
+    program: &Program<'m>,
     func: u32,
     callee: &'m Func,
     args: &[Value],
 ) -> Result<Activation<'m>, AllocError>
-    ensures { IfOk result (λ a. IsEntered a func args.now (func_of callee.now)) }
+    requires { defined_at (module_of program.now.source.now) func ≡ Some (func_of callee.now) }
+    ensures entered { IfOk result (λ a. IsEntered a func args.now (func_of callee.now)) }
+    ensures reserves { IfOk result (λ a. Reserves a (room_of (module_of program.now.source.now) (func_of callee.now))) }
 {
+    let alloc = program.alloc;
+    let room = program.room(func);
     Ok(Activation {
         func,
         locals: make_locals(alloc, args, &callee.locals)?,
-        operands: Vec::new(alloc),
+        operands: Vec::with_capacity(alloc, room.operands)?,
         code: callee.body.as_slice(),
-        labels: Vec::new(alloc),
+        labels: Vec::with_capacity(alloc, room.labels)?,
     })
 }
 
@@ -99,7 +105,7 @@ fn invoke<'m>(
         return Ok(Flow::Trapped { more, trap });
     }
     let args = args_of(&stack.here.operands, own, params);
-    let entered = enter(program.alloc, func, callee, args)?;
+    let entered = enter(program, func, callee, args)?;
     let caller = mem::replace(&mut stack.here, entered);
     stack.under.push(Waiting {
         activation: caller,

@@ -28,6 +28,7 @@ pub fn go_on<'m>(
     requires sound { Fits (module_of program.now.source.now) (running_of (store_of store.old) stack) }
     requires most { store.old.memory.max ≡ memory_max (module_of program.now.source.now) }
     requires fits { steps.old.left + steps.old.used < 2 ^ 64 }
+    ensures from { Fits (module_of program.now.source.now) (running_of (store_of store.old) stack.entry) }
     ensures turns { IfOk result (λ t. Turns (module_of program.now.source.now) (running_of (store_of store.old) stack.entry) steps.old.left (steps.new.used - steps.old.used) t.0 (store_of store.new) (waits_of t.1)) }
     ensures sum { steps.new.left + steps.new.used ≡ steps.old.left + steps.old.used }
     ensures grows { steps.old.used ≤ steps.new.used }
@@ -73,7 +74,7 @@ pub fn call_from_outside<'m>(
         pay(steps, more);
         return Ok((Turn::Waiting(Call { import: func, args }), Wait::Outermost));
     };
-    let here = enter(program.alloc, func, callee, args)?;
+    let here = enter(program, func, callee, args)?;
     let under = Vec::new(program.alloc);
     pay(steps, more);
     go_on(program, store, Stack { here, under }, steps)

@@ -1,4 +1,5 @@
-ghost use Rattle.std.specs.Prelude.{◌≡◌, ◌<◌, ◌≤◌, ◌+◌, ◌-◌, ◌^◌, ◌++◌, IfOk, IfErr, nat_lt, length, drop, reverse};
+ghost use Rattle.std.specs.Prelude.{◌≡◌, ◌<◌, ◌≤◌, ◌+◌, ◌-◌, ◌^◌, ◌++◌, All, IfOk, IfErr, nat_lt, length, drop, reverse};
+ghost use Rattle.std.specs.Bool.{OnTrue, OnFalse};
 ghost use Rattle.std.specs.Coded.{codes};
 ghost use Rattle.std.specs.Option.{option_copied, option_to_list};
 ghost use Rattle.wa_types.specs.Modules.{all_memories};
@@ -16,7 +17,7 @@ use crate::store::Store;
 use crate::turns::{Turn, Wait};
 use std::alloc::{AllocError, Global};
 use std::mem;
-use wa_types::Value;
+use wa_types::{Module, Value};
 use wasm_validate::Valid;
 
 /// An instance of a valid module: its store, and what waits for an import's answer.
@@ -38,6 +39,7 @@ impl<'m> Instance<'m> {
     ghost use Rattle.wa_types.specs.Modules.{func_sorts, func_type_at, imported, imported_global};
     ghost use Rattle.wa_model.specs.Fitting.{types_of, global_types, StoreFits};
     ghost use Rattle.wa_model.specs.Instantiation.{opening, opens};
+    ghost use Rattle.interp.specs.Rooms.{HasFewInstrs};
     ghost use Rattle.interp.specs.Host.{code_in, store_in, waits_in, memory_of, CallsAside, Pokes};
 
     /// An instance of a module whose imported globals have these values, one each of its type, before its start function
@@ -54,7 +56,25 @@ impl<'m> Instance<'m> {
         ensures waits { IfOk result (λ i. waits_in i ≡ nothing) }
         ensures err { IfErr result (FailsAs (opening (module_of valid.now) globals.now)) }
     {
-        let source = valid.module();
+        Instance::of(alloc, valid, valid.module(), globals)
+    }
+
+    // The same, with the module that the valid one holds.
+    fn of(
+        alloc: Global,
+        valid: &'m Valid,
+        source: &'m Module,
+        globals: &[Value],
+    ) -> Result<Instance<'m>, MakeFault>
+        requires same { source.now ≡ valid.now }
+        requires elems { length source.now.elems.items < 2 ^ 32 }
+        requires segments { length source.now.segments.items < 2 ^ 32 }
+        requires few { All HasFewInstrs source.now.funcs.items }
+        ensures code { IfOk result (λ i. code_in i ≡ module_of source.now) }
+        ensures store { IfOk result (λ i. opening (module_of source.now) globals.now ≡ opens (store_in i)) }
+        ensures waits { IfOk result (λ i. waits_in i ≡ nothing) }
+        ensures err { IfErr result (FailsAs (opening (module_of source.now) globals.now)) }
+    {
         let store = open(alloc, source, globals)?;
         let has_memory = all_memories(alloc, source)?.len() > 0;
         let program = make_program(alloc, source)?;
@@ -146,6 +166,14 @@ impl<'m> Instance<'m> {
         }
     }
 
+    /// Whether something waits for an import's answer, so that `resume` may be called.
+    pub fn is_waiting(&self) -> bool
+        ensures waits { OnTrue result (waits_in self.now ≡ nothing → ⊥) }
+        ensures idle { OnFalse result (waits_in self.now ≡ nothing) }
+    {
+        !matches!(self.wait, Wait::Nothing)
+    }
+
     /// All bytes of the memory, where the module has one.
     pub fn memory(&self) -> Option<&[u8]>
         ensures { option_copied result ≡ memory_of (code_in self.now) (store_in self.now) }
@@ -188,6 +216,3 @@ fn answer(operands: &mut Vec<Value>, taken: usize, value: Option<Value>) -> Resu
         None => Ok(()),
     }
 }
-
-#[cfg(test)]
-mod tests;

@@ -32,11 +32,13 @@ mod numeric;
 mod operands;
 mod program;
 mod reduce;
+mod rooms;
 mod run;
 mod segments;
 mod spaces;
 mod store;
 mod turns;
+mod types;
 mod values;
 
 pub use instance::Instance;

@@ -1,4 +1,4 @@
-ghost use Rattle.std.specs.Prelude.{ℕ, ◌≡◌, List, [], ◌∷◌, Option, IfOk, reverse};
+ghost use Rattle.std.specs.Prelude.{ℕ, ◌≡◌, List, [], ◌∷◌, Option, IfOk, length, reverse};
 ghost use Rattle.wa_types.specs.Operators.{operand_types};
 ghost use Rattle.wa_types.specs.Typing.{type_of};
 ghost use Rattle.wa_types.specs.Syntax.{num};
@@ -100,6 +100,19 @@ fn type_of(v: Value) -> ValType
     match v {
         Value::I32(_) => ValType::I32,
         Value::I64(_) => ValType::I64,
+    }
+}
+
+/// How many operands an operator takes (standard, section 2.4.1).
+pub fn operand_count(op: NumOp) -> usize
+    ensures { result ≡ length (operand_types op) }
+{
+    let _all = operand_type(op);
+    match OperatorClass::of(op) {
+        OperatorClass::Unary => 1,
+        OperatorClass::Conversion => 1,
+        OperatorClass::Comparison => 2,
+        OperatorClass::Binary => 2,
     }
 }
 

@@ -45,7 +45,7 @@ returns c =
     ap (λ u. here c.replace-caller.new.dest (map waiting_of u)) pushed
     ∙ ap (λ a. here c.replace-caller.new.dest (waiting_of (record { activation = a; taken = n }) ∷ under)) c.replace-caller.ensures.value
     ∙ ap (λ h. here h (w ∷ under)) c.replace-caller.ensures.after
-    ∙ entered_runs s c.in_ok-entered.entered c.args.func args f (w ∷ under) c.in_ok-entered.ensures in (
+    ∙ entered_runs s c.in_ok-entered.entered c.args.func args f (w ∷ under) c.in_ok-entered.ensures.entered in (
       entered_at m s k.here.func under k.here.locals.items ops rest labels c.args.own c.args.params c.args.func f ls c.in-Some.ensures room locals
           ∙ ap (steps c.args.params) (sym after),
       omega arith,

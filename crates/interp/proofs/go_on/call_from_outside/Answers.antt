@@ -42,7 +42,7 @@ returns-clause-calls c =
     let cost : used ≡ suc (length args) + more = omega (arith, c.pay-2.ensures.used, c.go_on.ensures.grows) in
     let entered_is =
     ap (λ v. running s here.func (map waiting_of (reverse v)) here.locals.items (reverse here.operands.items) (code here.code.now) (map label_of (reverse here.labels.items))) c.new-under.ensures.items
-    ∙ entered_runs s here x args f [] c.in_ok-here.ensures in
+    ∙ entered_runs s here x args f [] c.in_ok-here.ensures.entered in
     IfOk-weaker c.go_on.result _ _
     (λ t told.
     subst (λ b. CallsAs m s x args b (defined_at m x) left used t.0 s' (waits_of t.1)) (sym affordable)
