@@ -1,5 +1,5 @@
 -- Behind a turn an instance of a valid module fits again.
-use Rattle.std.proofs.Common.{◌≡◌, ◌<◌, ℕ, suc, ◌+◌, ◌-◌, List, [], ◌∷◌, map, Option, Some, None, Bool, true, false, length, refl, sym, ap, ◌∙◌, subst}
+use Rattle.std.proofs.Common.{◌≡◌, ◌<◌, ℕ, suc, ◌+◌, ◌-◌, List, [], ◌∷◌, map, Option, Some, None, Result, Ok, Err, IfOk, Bool, true, false, length, refl, sym, ap, ◌∙◌, subst}
 use Rattle.std.specs.Prelude.{nat_le}
 use Rattle.std.specs.Option.{option_to_list}
 use Rattle.wa_types.specs.declared.values.Value.{Value}
@@ -65,3 +65,8 @@ pokes_fit m s at bytes done s' h ok = by_piece (poked_in (memory_of m s) at byte
     by_piece : (o : Option (List ℕ)) → PokesTo o s done s' → StoreFits m s'
     by_piece None p = subst (StoreFits m) (sym p.1) ok
     by_piece (Some memory) p = subst (StoreFits m) (sym p.1) (record { globals = ok.globals; table = ok.table })
+
+-- two facts of what is answered give a third
+pub both_ok : {X E : Type 0} (r : Result X E) (P Q R : X → Type 0) → ((x : X) → P x → Q x → R x) → IfOk r P → IfOk r Q → IfOk r R
+both_ok (Ok x) P Q R f p q = f x p q
+both_ok (Err e) P Q R f p q = tt

@@ -1,7 +1,12 @@
-use Rattle.std.proofs.Common.{IfErr, subst}
+use Rattle.std.proofs.Common.{◌≡◌, IfErr, sym, subst}
+use Rattle.wa_types.specs.Modules.{imported, imported_global}
 use Rattle.wa_types.specs.View.{module_of}
-use Rattle.wa_model.specs.Instantiation.{opening}
+use Rattle.wa_model.specs.Instantiation.{opening, opens}
+use Rattle.wa_model.specs.Fitting.{types_of, global_types, StoreFits}
+use Rattle.wa_model.proofs.FittingOpenings.{openings_fit}
 use Rattle.interp.specs.Faults.{FailsAs}
+use Rattle.interp.specs.Host.{code_in, store_in}
+use Rattle.interp.proofs.FittingTurns.{both_ok}
 use Rattle.interp.proofs.RoomLemmas.{all_few}
 use Rattle.interp.proofs.instance.Instance.make.Goals as goal
 
@@ -11,3 +16,12 @@ returns-clause-err c =
 
 pub of-requires-clause-few : goal.of-requires-clause-few
 of-requires-clause-few c = all_few (module_of c.module.result.now) c.module.result.now.funcs.items c.module.ensures.sizes.each_func
+
+pub returns-clause-fits : goal.returns-clause-fits
+returns-clause-fits c =
+    let m = module_of c.module.result.now in
+    let globals = c.args.globals.now in
+    let typed = subst (λ v. types_of globals ≡ global_types (imported imported_global (module_of v))) (sym c.module.ensures.same) c.requires.globals in
+    both_ok c.of.result (λ i. code_in i ≡ m) (λ i. opening m globals ≡ opens (store_in i)) (λ i. StoreFits (code_in i) (store_in i))
+    (λ i is_code is_store. subst (λ n. StoreFits n (store_in i)) (sym is_code) (openings_fit m globals (store_in i) c.module.ensures.valid typed is_store))
+    c.of.ensures.code c.of.ensures.store
