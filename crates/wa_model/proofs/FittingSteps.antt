@@ -17,7 +17,7 @@ use Rattle.wa_model.specs.Store.{Store, value_at, Did, works, fails, lacks as la
 use Rattle.wa_model.specs.Configuration.{Label, block_label, loop_label, Activation, Configuration, running, waiting}
 use Rattle.wa_model.specs.Step.{Next, steps, asks, returns, traps, stuck, keep, result_count, leave, jump, finish, did, with_top, with_number, choose, arity_of, zero_of, entered, invoke, param_count, same_func_type, through, memory_max, step_at, step}
 use Rattle.wa_model.specs.Growth.{EntryNamed}
-use Rattle.wa_model.specs.Fitting.{types_of, results_of, StoreFits, Stands, ActFits, WaitFit, Fits, WaitsFit, NextFits}
+use Rattle.wa_model.specs.Fitting.{types_of, results_of, StoreFits, Stands, ActFits, CallersFit, Fits, WaitingFits, NextFits}
 use Rattle.wa_model.proofs.GrownSteps.{each_got}
 use Rattle.wa_model.proofs.FittingNames.{split_types, arity_is, carried_types, kept_types, reversed_types, value_typed, set_typed, zeros_typed, same_true, func_types_true, one_reversed, func_type_small, results_are, count_is, defined_type, not_defined, func_found}
 use Rattle.wa_model.proofs.FittingActs.{DidFits, act_fits}
@@ -66,13 +66,14 @@ restands c results (block_label height arity rest skipped ∷ labels) code own b
 restands c results (loop_label height body rest ∷ labels) code own below h =
     record { outs = listed h.0; typed = h.8; again = λ code' own' t. (h.0, h.1, h.2, h.3, h.4, h.5, h.6, h.7, t, h.9) }
 
-module _ (m : Module) (v : Valid m) where
+module _ (m : Module) (v : Valid m) (outs : List ValType) where
   module _ (s : Store) (so : StoreFits m s) where
     -- ---- results
 
-    leaves_fit : (k fn : ℕ) (ops : List Value) (more : List ValType) (under : List Activation) → types_of ops ≡ results_of m fn ++ more → WaitFit m (results_of m fn) under
-        → NextFits m (leave k s ops (result_count m fn) under)
-    leaves_fit k fn ops more [] e w = so
+    leaves_fit : (k fn : ℕ) (ops : List Value) (more : List ValType) (under : List Activation) → types_of ops ≡ results_of m fn ++ more → CallersFit m outs (results_of m fn) under
+        → NextFits m outs (leave k s ops (result_count m fn) under)
+    leaves_fit k fn ops more [] e w =
+        (so, ap (λ n. types_of (take n ops)) (count_is m v fn) ∙ (split_types (results_of m fn) more ops e).0 ∙ w)
     leaves_fit k fn ops more (a ∷ under) e w =
         let taken : types_of (take (result_count m fn) ops) ≡ results_of m fn = ap (λ n. types_of (take n ops)) (count_is m v fn) ∙ (split_types (results_of m fn) more ops e).0 in
         let types : types_of (take (result_count m fn) ops ++ a.operands) ≡ results_of m fn ++ types_of a.operands = map-append type_of (take (result_count m fn) ops) a.operands ∙ ap (λ xs. xs ++ types_of a.operands) taken in
@@ -88,8 +89,8 @@ module _ (m : Module) (v : Valid m) where
         by_import false e = v.bodies (x - func_imports m) g e
 
     -- a function that is entered with arguments of its types
-    pub entered_fits : (under : List Activation) (args : List Value) (x : ℕ) (g : Func) → defined_at m x ≡ Some g → types_of args ≡ (func_type_at m x).params → WaitFit m (results_of m x) under
-        → Fits m (entered s under args x g)
+    pub entered_fits : (under : List Activation) (args : List Value) (x : ℕ) (g : Func) → defined_at m x ≡ Some g → types_of args ≡ (func_type_at m x).params → CallersFit m outs (results_of m x) under
+        → Fits m outs (entered s under args x g)
     unfolding Stands
     entered_fits under args x g is e w =
         let locals : types_of (args ++ map zero_of (declared_locals g.locals)) ≡ locals_of m g =
@@ -102,7 +103,7 @@ module _ (m : Module) (v : Valid m) where
           under = w;
         }
 
-    module _ (fn : ℕ) (f : Func) (is : defined_at m fn ≡ Some f) (under : List Activation) (w : WaitFit m (results_of m fn) under) where
+    module _ (fn : ℕ) (f : Func) (is : defined_at m fn ≡ Some f) (under : List Activation) (w : CallersFit m outs (results_of m fn) under) where
       abbrev c : Around
       c = around m f
 
@@ -111,24 +112,24 @@ module _ (m : Module) (v : Valid m) where
 
       -- a configuration of this activation
       goes_on : (ls ops : List Value) (code : Code) (labels : List Label) (results : List (Option ValType)) (own below : List ValType)
-          → types_of ls ≡ locals_of m f → types_of ops ≡ own ++ below → Stands c results labels code own below → Fits m (running s fn under ls ops code labels)
+          → types_of ls ≡ locals_of m f → types_of ops ≡ own ++ below → Stands c results labels code own below → Fits m outs (running s fn under ls ops code labels)
       goes_on ls ops code labels results own below el eo st =
           record { store = so; here = record { func = f; func_is = is; locals_fit = el; results = results; own = own; below = below; types_are = eo; stands = st }; under = w }
 
       -- in another store
       going_on : (s' : Store) → StoreFits m s' → (ls ops : List Value) (code : Code) (labels : List Label) (results : List (Option ValType)) (own below : List ValType)
-          → types_of ls ≡ locals_of m f → types_of ops ≡ own ++ below → Stands c results labels code own below → Fits m (running s' fn under ls ops code labels)
+          → types_of ls ≡ locals_of m f → types_of ops ≡ own ++ below → Stands c results labels code own below → Fits m outs (running s' fn under ls ops code labels)
       going_on s' so' ls ops code labels results own below el eo st =
           record { store = so'; here = record { func = f; func_is = is; locals_fit = el; results = results; own = own; below = below; types_are = eo; stands = st }; under = w }
 
-      leaves_here : (k : ℕ) (ops : List Value) (more : List ValType) → types_of ops ≡ listed c.result ++ more → NextFits m (leave k s ops (result_count m fn) under)
+      leaves_here : (k : ℕ) (ops : List Value) (more : List ValType) → types_of ops ≡ listed c.result ++ more → NextFits m outs (leave k s ops (result_count m fn) under)
       leaves_here k ops more e = leaves_fit k fn ops more under (e ∙ ap (λ xs. xs ++ more) (sym result_is)) w
 
       module _ (ls : List Value) (el : types_of ls ≡ locals_of m f) where
         -- a branch to a label that takes the topmost operands
         jumps_fit : (k : ℕ) (ops : List Value) (labels : List Label) (results : List (Option ValType)) (code : Code) (own below front more : List ValType) (l : ℕ) (r : Option ValType)
             → Stands c results labels code own below → types_of ops ≡ front ++ below → types_of ops ≡ listed r ++ more → slice_get results l ≡ Some r
-            → NextFits m (jump k m s fn under ls ops labels l)
+            → NextFits m outs (jump k m s fn under ls ops labels l)
         unfolding Stands
         jumps_fit k ops [] results code own below front more zero r st eb er e =
             let z : r ≡ c.result = ap (λ o. unwrap_or o r) (sym e ∙ ap (λ rs. slice_get rs 0) st.0) in leaves_here k ops more (er ∙ ap (λ x. listed x ++ more) z)
@@ -149,7 +150,7 @@ module _ (m : Module) (v : Valid m) where
 
         -- the end of a sequence
         finishes_fit : (ops : List Value) (labels : List Label) (results : List (Option ValType)) (own below : List ValType)
-            → Stands c results labels done own below → types_of ops ≡ own ++ below → NextFits m (finish m s fn under ls ops labels)
+            → Stands c results labels done own below → types_of ops ≡ own ++ below → NextFits m outs (finish m s fn under ls ops labels)
         unfolding Stands Types
         finishes_fit ops [] results own below st e = leaves_here 0 ops below (e ∙ ap (λ xs. xs ++ below) st.2)
         finishes_fit ops (block_label h arity rest skipped ∷ labels) results own below st e =
@@ -160,30 +161,30 @@ module _ (m : Module) (v : Valid m) where
         -- ---- instructions
 
         did_fits : (ops : List Value) (labels : List Label) (results : List (Option ValType)) (rest : Code) (mids below : List ValType) (d : Did)
-            → Stands c results labels rest mids below → DidFits m (mids ++ below) ops d → NextFits m (did fn under ls labels rest s ops d)
+            → Stands c results labels rest mids below → DidFits m (mids ++ below) ops d → NextFits m outs (did fn under ls labels rest s ops d)
         did_fits ops labels results rest mids below (works s' rs) st h = going_on s' h.0 ls (rs ++ ops) rest labels results mids below el h.1 st
         did_fits ops labels results rest mids below (fails trap) st h = so
         did_fits ops labels results rest mids below lacking st h = absurd h
 
         -- the topmost operand, of this type
         tops_fit : (ops : List Value) (t : ValType) (more : List ValType) (on : Value → List Value → Next) → types_of ops ≡ t ∷ more
-            → ((x : Value) (below : List Value) → type_of x ≡ t → types_of below ≡ more → NextFits m (on x below)) → NextFits m (with_top ops on)
+            → ((x : Value) (below : List Value) → type_of x ≡ t → types_of below ≡ more → NextFits m outs (on x below)) → NextFits m outs (with_top ops on)
         tops_fit [] t more on e h = cc
         tops_fit (x ∷ ops) t more on e h = let a : type_of x ≡ t = cc in let b : types_of ops ≡ more = cc in h x ops a b
 
         numbers_fit : (ops : List Value) (more : List ValType) (on : ℕ → List Value → Next) → types_of ops ≡ I32 ∷ more
-            → ((n : ℕ) (below : List Value) → types_of below ≡ more → NextFits m (on n below)) → NextFits m (with_number ops on)
+            → ((n : ℕ) (below : List Value) → types_of below ≡ more → NextFits m outs (on n below)) → NextFits m outs (with_number ops on)
         numbers_fit [] more on e h = cc
         numbers_fit (V.I32 n ∷ ops) more on e h = let b : types_of ops ≡ more = cc in h n ops b
         numbers_fit (V.I64 n ∷ ops) more on e h = cc
 
-        chooses_fit : (n : ℕ) (x y : Next) → NextFits m x → NextFits m y → NextFits m (choose n x y)
+        chooses_fit : (n : ℕ) (x y : Next) → NextFits m outs x → NextFits m outs y → NextFits m outs (choose n x y)
         chooses_fit zero x y h k = k
         chooses_fit (suc n) x y h k = h
 
         gets_fit : (x : ℕ) (ops : List Value) (labels : List Label) (results : List (Option ValType)) (rest : Code) (own mids below : List ValType) (o : Option ValType)
             → slice_get (locals_of m f) x ≡ o → Takes (gets o) own mids → types_of ops ≡ own ++ below → Stands c results labels rest mids below
-            → NextFits m (steps 0 (running s fn under ls (value_at ls x ∷ ops) rest labels))
+            → NextFits m outs (steps 0 (running s fn under ls (value_at ls x ∷ ops) rest labels))
         gets_fit x ops labels results rest own mids below None e h eo st = absurd h
         gets_fit x ops labels results rest own mids below (Some t) e h eo st =
             let ev : type_of (value_at ls x) ≡ t = value_typed ls x t (ap (λ ts. slice_get ts x) el ∙ e) in
@@ -192,7 +193,7 @@ module _ (m : Module) (v : Valid m) where
 
         sets_fit : (x : ℕ) (ops : List Value) (labels : List Label) (results : List (Option ValType)) (rest : Code) (own mids below : List ValType) (o : Option ValType)
             → slice_get (locals_of m f) x ≡ o → Takes (sets o) own mids → types_of ops ≡ own ++ below → Stands c results labels rest mids below
-            → NextFits m (with_top ops (λ v lower. steps 0 (running s fn under (slice_set ls x v) lower rest labels)))
+            → NextFits m outs (with_top ops (λ v lower. steps 0 (running s fn under (slice_set ls x v) lower rest labels)))
         sets_fit x ops labels results rest own mids below None e h eo st = absurd h
         sets_fit x ops labels results rest own mids below (Some t) e h eo st =
             tops_fit ops t (mids ++ below) _ (eo ∙ ap (λ xs. xs ++ below) (h.1 ∙ ap (λ xs. t ∷ xs) (sym h.2)))
@@ -201,7 +202,7 @@ module _ (m : Module) (v : Valid m) where
 
         tees_fit : (x : ℕ) (ops : List Value) (labels : List Label) (results : List (Option ValType)) (rest : Code) (own mids below : List ValType) (o : Option ValType)
             → slice_get (locals_of m f) x ≡ o → Takes (tees o) own mids → types_of ops ≡ own ++ below → Stands c results labels rest mids below
-            → NextFits m (with_top ops (λ v lower. steps 0 (running s fn under (slice_set ls x v) (v ∷ lower) rest labels)))
+            → NextFits m outs (with_top ops (λ v lower. steps 0 (running s fn under (slice_set ls x v) (v ∷ lower) rest labels)))
         tees_fit x ops labels results rest own mids below None e h eo st = absurd h
         tees_fit x ops labels results rest own mids below (Some t) e h eo st =
             tops_fit ops t (h.0 ++ below) _ (eo ∙ ap (λ xs. xs ++ below) h.1)
@@ -212,14 +213,14 @@ module _ (m : Module) (v : Valid m) where
         -- ---- branches
 
         br_fits : (ops : List Value) (labels : List Label) (results : List (Option ValType)) (code : Code) (own mids below : List ValType) (l : ℕ) (o : Option (Option ValType))
-            → slice_get results l ≡ o → Takes (jump_sig o) own mids → types_of ops ≡ own ++ below → Stands c results labels code own below → NextFits m (jump 0 m s fn under ls ops labels l)
+            → slice_get results l ≡ o → Takes (jump_sig o) own mids → types_of ops ≡ own ++ below → Stands c results labels code own below → NextFits m outs (jump 0 m s fn under ls ops labels l)
         br_fits ops labels results code own mids below l None e h eo st = absurd h
         br_fits ops labels results code own mids below l (Some r) e h eo st =
             jumps_fit 0 ops labels results code own below own (h.0 ++ below) l r st eo (eo ∙ ap (λ xs. xs ++ below) h.1 ∙ append_assoc (listed r) h.0 below) e
 
         br_if_fits : (ops : List Value) (labels : List Label) (results : List (Option ValType)) (code rest : Code) (own mids below : List ValType) (l : ℕ) (o : Option (Option ValType))
             → slice_get results l ≡ o → Takes (may_jump o) own mids → types_of ops ≡ own ++ below → Stands c results labels code own below → Stands c results labels rest mids below
-            → NextFits m (with_number ops (λ n lower. choose n (jump 0 m s fn under ls lower labels l) (steps 0 (running s fn under ls lower rest labels))))
+            → NextFits m outs (with_number ops (λ n lower. choose n (jump 0 m s fn under ls lower labels l) (steps 0 (running s fn under ls lower rest labels))))
         br_if_fits ops labels results code rest own mids below l None e h eo st again = absurd h
         br_if_fits ops labels results code rest own mids below l (Some r) e h eo st again =
             numbers_fit ops (mids ++ below) _ (eo ∙ ap (λ xs. xs ++ below) (h.1 ∙ ap (λ xs. I32 ∷ xs) (sym h.2)))
@@ -230,12 +231,12 @@ module _ (m : Module) (v : Valid m) where
         -- by what a branch table takes
         br_table_fits : (ops : List Value) (labels : List Label) (results : List (Option ValType)) (code : Code) (own mids below : List ValType) (targets : List ℕ) (last : ℕ) (o : Option (Option ValType))
             → slice_get results last ≡ o → Takes (jumps results targets o) own mids → types_of ops ≡ own ++ below → Stands c results labels code own below
-            → NextFits m (with_number ops (λ n lower. jump (length targets + 1) m s fn under ls lower labels (unwrap_or (slice_get targets n) last)))
+            → NextFits m outs (with_number ops (λ n lower. jump (length targets + 1) m s fn under ls lower labels (unwrap_or (slice_get targets n) last)))
         br_table_fits ops labels results code own mids below targets last None e h eo st = absurd h
         br_table_fits ops labels results code own mids below targets last (Some r) e h eo st = by_there (all_there results targets) (all_alike results r targets) refl h
           where
             by_there : (a b : Bool) → all_alike results r targets ≡ b → Takes (if a then (if b then leaves (I32 ∷ listed r) else lacks 8) else lacks 7) own mids
-                → NextFits m (with_number ops (λ n lower. jump (length targets + 1) m s fn under ls lower labels (unwrap_or (slice_get targets n) last)))
+                → NextFits m outs (with_number ops (λ n lower. jump (length targets + 1) m s fn under ls lower labels (unwrap_or (slice_get targets n) last)))
             by_there false b z h' = absurd h'
             by_there true false z h' = absurd h'
             by_there true true z h' =
@@ -249,7 +250,7 @@ module _ (m : Module) (v : Valid m) where
         -- a call with arguments on top
         invokes_fit : (own_ops ops : List Value) (labels : List Label) (results : List (Option ValType)) (rest : Code) (b0 below : List ValType) (x : ℕ) (t : FuncType)
             → x < length (func_sorts m) → func_type_at m x ≡ t → types_of ops ≡ reverse t.params ++ (b0 ++ below) → Stands c results labels rest (reverse t.results ++ b0) below
-            → (o : Option Func) → defined_at m x ≡ o → NextFits m (invoke m s fn under ls own_ops ops rest labels (length t.params) x o)
+            → (o : Option Func) → defined_at m x ≡ o → NextFits m outs (invoke m s fn under ls own_ops ops rest labels (length t.params) x o)
         invokes_fit own_ops ops labels results rest b0 below x t lt et eo st o eq = by_callee o eq
           where
             params : ℕ
@@ -269,48 +270,48 @@ module _ (m : Module) (v : Valid m) where
                 ap (λ xs. xs ++ types_of (drop params ops)) (results_are m v x ∙ sym (one_reversed (func_type_at m x).results (func_type_small m v x)) ∙ ap (λ (u : FuncType). reverse u.results) et)
                 ∙ ap (λ ys. reverse t.results ++ ys) split.1 ∙ sym (append_assoc (reverse t.results) b0 below)
 
-            caller : WaitFit m (results_of m x) (waiting fn ls (drop params ops) (own_ops ++ take params ops) rest labels ∷ under)
+            caller : CallersFit m outs (results_of m x) (waiting fn ls (drop params ops) (own_ops ++ take params ops) rest labels ∷ under)
             caller = (record { func = f; func_is = is; locals_fit = el; results = results; own = reverse t.results ++ b0; below = below; types_are = result_types; stands = st }, w)
 
-            by_callee : (o : Option Func) → defined_at m x ≡ o → NextFits m (invoke m s fn under ls own_ops ops rest labels params x o)
+            by_callee : (o : Option Func) → defined_at m x ≡ o → NextFits m outs (invoke m s fn under ls own_ops ops rest labels params x o)
             by_callee (Some g) e = by_room (nat_lt (length under + 1) 4096)
               where
-                by_room : (b : Bool) → NextFits m (if b then steps params (entered s (waiting fn ls (drop params ops) (own_ops ++ take params ops) rest labels ∷ under) (reverse (take params ops)) x g) else traps params StackExhausted s)
+                by_room : (b : Bool) → NextFits m outs (if b then steps params (entered s (waiting fn ls (drop params ops) (own_ops ++ take params ops) rest labels ∷ under) (reverse (take params ops)) x g) else traps params StackExhausted s)
                 by_room true = entered_fits (waiting fn ls (drop params ops) (own_ops ++ take params ops) rest labels ∷ under) (reverse (take params ops)) x g e args_typed caller
                 by_room false = so
             by_callee None e = by_import (nat_lt x (func_imports m)) refl
               where
-                by_import : (b : Bool) → nat_lt x (func_imports m) ≡ b → NextFits m (if b then asks params x (reverse (take params ops)) (record { store = s; here = waiting fn ls (drop params ops) (own_ops ++ take params ops) rest labels; under = under }) else stuck)
+                by_import : (b : Bool) → nat_lt x (func_imports m) ≡ b → NextFits m outs (if b then asks params x (reverse (take params ops)) (record { store = s; here = waiting fn ls (drop params ops) (own_ops ++ take params ops) rest labels; under = under }) else stuck)
                 by_import true z = (ltb-true x (func_imports m) z, args_typed, record { store = so; waits = caller })
                 by_import false z = let i = not_defined m x lt e in let j = ltb-false x (func_imports m) z in absurd (omega arith)
 
         calls_fit : (ops : List Value) (labels : List Label) (results : List (Option ValType)) (rest : Code) (own mids below : List ValType) (x : ℕ) (o : Option FuncType)
             → slice_get (func_types m) x ≡ o → Takes (calls o) own mids → types_of ops ≡ own ++ below → Stands c results labels rest mids below
-            → NextFits m (invoke m s fn under ls [] ops rest labels (param_count (func_type_at m x)) x (defined_at m x))
+            → NextFits m outs (invoke m s fn under ls [] ops rest labels (param_count (func_type_at m x)) x (defined_at m x))
         calls_fit ops labels results rest own mids below x None e h eo st = absurd h
         calls_fit ops labels results rest own mids below x (Some t) e h eo st =
             let found = func_found m x t e in
             let et : func_type_at m x ≡ t = found.1 in
-            subst (λ (u : FuncType). NextFits m (invoke m s fn under ls [] ops rest labels (param_count u) x (defined_at m x))) (sym et)
+            subst (λ (u : FuncType). NextFits m outs (invoke m s fn under ls [] ops rest labels (param_count u) x (defined_at m x))) (sym et)
             (invokes_fit [] ops labels results rest h.0 below x t found.0 et (eo ∙ ap (λ xs. xs ++ below) h.1 ∙ append_assoc (reverse t.params) h.0 below)
             (subst (λ xs. Stands c results labels rest xs below) h.2 st) (defined_at m x) refl)
 
         -- a call of what stands at a place of the table
         through_fits : (own_ops ops : List Value) (labels : List Label) (results : List (Option ValType)) (rest : Code) (b0 below : List ValType) (sort : ℕ)
             → types_of ops ≡ reverse (type_at m sort).params ++ (b0 ++ below) → Stands c results labels rest (reverse (type_at m sort).results ++ b0) below
-            → (o : Option (Option ℕ)) → ((x : ℕ) → o ≡ Some (Some x) → x < length (func_sorts m)) → NextFits m (through m s fn under ls own_ops ops rest labels sort o)
+            → (o : Option (Option ℕ)) → ((x : ℕ) → o ≡ Some (Some x) → x < length (func_sorts m)) → NextFits m outs (through m s fn under ls own_ops ops rest labels sort o)
         through_fits own_ops ops labels results rest b0 below sort eo st None h = so
         through_fits own_ops ops labels results rest b0 below sort eo st (Some None) h = so
         through_fits own_ops ops labels results rest b0 below sort eo st (Some (Some x)) h = by_type (same_func_type (func_type_at m x) (type_at m sort)) refl
           where
             by_type : (b : Bool) → same_func_type (func_type_at m x) (type_at m sort) ≡ b
-                → NextFits m (if b then invoke m s fn under ls own_ops ops rest labels (param_count (type_at m sort)) x (defined_at m x) else traps (param_count (type_at m sort)) TypeMismatch s)
+                → NextFits m outs (if b then invoke m s fn under ls own_ops ops rest labels (param_count (type_at m sort)) x (defined_at m x) else traps (param_count (type_at m sort)) TypeMismatch s)
             by_type false z = so
             by_type true z = invokes_fit own_ops ops labels results rest b0 below x (type_at m sort) (h x refl) (func_types_true (func_type_at m x) (type_at m sort) z) eo st (defined_at m x) refl
 
         calls_at_fit : (ops : List Value) (labels : List Label) (results : List (Option ValType)) (rest : Code) (own mids below : List ValType) (sort : ℕ) (table : Bool) (o : Option FuncType)
             → slice_get m.types sort ≡ o → Takes (calls_at table o) own mids → types_of ops ≡ own ++ below → Stands c results labels rest mids below
-            → NextFits m (with_number ops (λ n lower. through m s fn under ls (V.I32 n ∷ []) lower rest labels sort (slice_get s.table n)))
+            → NextFits m outs (with_number ops (λ n lower. through m s fn under ls (V.I32 n ∷ []) lower rest labels sort (slice_get s.table n)))
         calls_at_fit ops labels results rest own mids below sort table None e h eo st = absurd h
         calls_at_fit ops labels results rest own mids below sort false (Some t) e h eo st = absurd h
         calls_at_fit ops labels results rest own mids below sort true (Some t) e h eo st =
@@ -327,7 +328,7 @@ module _ (m : Module) (v : Valid m) where
 
         plain_fits : (ops : List Value) (labels : List Label) (results : List (Option ValType)) (p : Plain) (rest : Code) (own mids below : List ValType)
             → Takes (sig c results p) own mids → types_of ops ≡ own ++ below → Stands c results labels (plain p rest) own below → Stands c results labels rest mids below
-            → NextFits m (step_at m s fn under ls ops labels (plain p rest))
+            → NextFits m outs (step_at m s fn under ls ops labels (plain p rest))
         plain_fits ops labels results (basic b) rest own mids below h eo st again =
             did_fits (drop (takes b) ops) labels results rest mids below (act (memory_max m) b s (take (takes b) ops)) again
             (act_fits m c (memory_max m) b s ops (mids ++ below) refl so (subst (λ xs. Takes (basic_sig c b) xs (mids ++ below)) (sym eo) (takes_above (basic_sig c b) own mids below h)))
@@ -346,7 +347,7 @@ module _ (m : Module) (v : Valid m) where
         -- a construct's body begins with none of the operands below it
         enters : (ops : List Value) (labels : List Label) (results : List (Option ValType)) (body rest : Code) (r : Option ValType) (skipped : Code) (own below : List ValType)
             → types_of ops ≡ own ++ below → Types c (r ∷ results) body (listed r) [] → Stands c results labels rest (listed r ++ own) below
-            → Fits m (running s fn under ls ops body (block_label (length ops) (arity_of r) rest skipped ∷ labels))
+            → Fits m outs (running s fn under ls ops body (block_label (length ops) (arity_of r) rest skipped ∷ labels))
         unfolding Stands
         enters ops labels results body rest r skipped own below eo t st =
             let h : length ops ≡ length (own ++ below) = sym (length-map ops type_of) ∙ ap length eo in
@@ -354,14 +355,14 @@ module _ (m : Module) (v : Valid m) where
 
         enters_loop : (ops : List Value) (labels : List Label) (results : List (Option ValType)) (body rest : Code) (r : Option ValType) (own below : List ValType)
             → types_of ops ≡ own ++ below → Types c (None ∷ results) body (listed r) [] → Stands c results labels rest (listed r ++ own) below
-            → Fits m (running s fn under ls ops body (loop_label (length ops) body rest ∷ labels))
+            → Fits m outs (running s fn under ls ops body (loop_label (length ops) body rest ∷ labels))
         unfolding Stands
         enters_loop ops labels results body rest r own below eo t st =
             let h : length ops ≡ length (own ++ below) = sym (length-map ops type_of) ∙ ap length eo in
             goes_on ls ops body (loop_label (length ops) body rest ∷ labels) (None ∷ results) [] (own ++ below) el eo (r, results, own, below, refl, refl, h, t, t, st)
 
         code_fits : (ops : List Value) (labels : List Label) (results : List (Option ValType)) (code : Code) (own below : List ValType)
-            → types_of ops ≡ own ++ below → Stands c results labels code own below → Restands c results labels code own below → NextFits m (step_at m s fn under ls ops labels code)
+            → types_of ops ≡ own ++ below → Stands c results labels code own below → Restands c results labels code own below → NextFits m outs (step_at m s fn under ls ops labels code)
         unfolding Types
         code_fits ops labels results done own below eo st k = finishes_fit ops labels results own below st eo
         code_fits ops labels results (plain p rest) own below eo st k =
@@ -373,15 +374,15 @@ module _ (m : Module) (v : Valid m) where
         code_fits ops labels results (branch r a b rest) own below eo st k =
             numbers_fit ops (k.typed.0 ++ below) _ (eo ∙ ap (λ xs. xs ++ below) k.typed.1) by_arm
           where
-            by_arm : (n : ℕ) (lower : List Value) → types_of lower ≡ k.typed.0 ++ below → NextFits m (steps 0 (choose n
+            by_arm : (n : ℕ) (lower : List Value) → types_of lower ≡ k.typed.0 ++ below → NextFits m outs (steps 0 (choose n
                 (running s fn under ls lower a (block_label (length lower) (arity_of r) rest b ∷ labels))
                 (running s fn under ls lower b (block_label (length lower) (arity_of r) rest done ∷ labels))))
             by_arm zero lower e = let t = k.typed in enters lower labels results b rest r done t.0 below e t.3 (k.again rest (listed r ++ t.0) t.4)
             by_arm (suc n) lower e = let t = k.typed in enters lower labels results a rest r b t.0 below e t.2 (k.again rest (listed r ++ t.0) t.4)
 
--- From a configuration that fits there is a reduction, to one that fits again.
-pub steps_fit : (m : Module) (c : Configuration) → Valid m → Fits m c → NextFits m (step m c)
-steps_fit m c v ok =
+-- From a configuration that fits there is a reduction, and what comes next fits.
+pub steps_fit : (m : Module) (outs : List ValType) (c : Configuration) → Valid m → Fits m outs c → NextFits m outs (step m c)
+steps_fit m outs c v ok =
     let h = ok.here in
-    code_fits m v c.store ok.store c.here.func h.func h.func_is c.under ok.under c.here.locals h.locals_fit c.here.operands c.here.labels h.results c.here.code h.own h.below
+    code_fits m v outs c.store ok.store c.here.func h.func h.func_is c.under ok.under c.here.locals h.locals_fit c.here.operands c.here.labels h.results c.here.code h.own h.below
     h.types_are h.stands (restands (around m h.func) h.results c.here.labels c.here.code h.own h.below h.stands)

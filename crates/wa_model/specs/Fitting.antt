@@ -46,7 +46,7 @@ Stands c results (loop_label height body rest ∷ labels) code own below =
     × (results ≡ None ∷ outer) × (below ≡ outer_own ++ outer_below) × (height ≡ length below) × Types c results body (listed r) []
     × Types c results code (listed r) own × Stands c outer labels rest (listed r ++ outer_own) outer_below
 
--- An activation of a defined function, with its code inside its labels over operands of these types (7.5.2).
+-- An activation of a defined function, with its code inside its labels over operands of these types (7.5.3, 7.5.4).
 pub record ActFits (m : Module) (fn : ℕ) (locals : List Value) (code : Code) (labels : List Label) (types : List ValType) : Type 0 where
   pub func : Func
   pub func_is : defined_at m fn ≡ Some func
@@ -57,36 +57,38 @@ pub record ActFits (m : Module) (fn : ℕ) (locals : List Value) (code : Code) (
   pub types_are : types ≡ own ++ below
   pub stands : Stands (around m func) results labels code own below
 
--- Activations that wait, the innermost first, which gets operands of these types from what it waits for.
-abbrev pub WaitFit : Module → (types : List ValType) → List Activation → Type 0
-WaitFit m types [] = Unit {0}
-WaitFit m types (a ∷ under) = ActFits m a.func a.locals a.code a.labels (types ++ types_of a.operands) × WaitFit m (results_of m a.func) under
+-- Activations that wait, the innermost first, which gets operands of these types from what it waits for. The outermost
+-- returns values of the types `outs`.
+abbrev pub CallersFit : Module → (outs types : List ValType) → List Activation → Type 0
+CallersFit m outs types [] = types ≡ outs
+CallersFit m outs types (a ∷ under) = ActFits m a.func a.locals a.code a.labels (types ++ types_of a.operands) × CallersFit m outs (results_of m a.func) under
 
--- A configuration whose innermost activation runs.
-pub record Fits (m : Module) (c : Configuration) : Type 0 where
+-- A configuration whose innermost activation runs, and which returns values of these types in the end (7.5.3).
+pub record Fits (m : Module) (outs : List ValType) (c : Configuration) : Type 0 where
   pub store : StoreFits m c.store
   pub here : ActFits m c.here.func c.here.locals c.here.code c.here.labels (types_of c.here.operands)
-  pub under : WaitFit m (results_of m c.here.func) c.under
+  pub under : CallersFit m outs (results_of m c.here.func) c.under
 
 -- A configuration that waits for the results of the function of this index.
-pub record WaitsFit (m : Module) (fn : ℕ) (c : Configuration) : Type 0 where
+pub record WaitingFits (m : Module) (outs : List ValType) (fn : ℕ) (c : Configuration) : Type 0 where
   pub store : StoreFits m c.store
-  pub waits : WaitFit m (results_of m fn) (c.here ∷ c.under)
+  pub waits : CallersFit m outs (results_of m fn) (c.here ∷ c.under)
 
--- There is a reduction, and what comes next fits again; a call of an import has arguments of its types.
-abbrev pub NextFits : Module → Next → Type 0
-NextFits m (steps k d) = Fits m d
-NextFits m (asks k import args d) = (import < func_imports m) × (types_of args ≡ (func_type_at m import).params) × WaitsFit m import d
-NextFits m (returns k values s) = StoreFits m s
-NextFits m (traps k trap s) = StoreFits m s
-NextFits m stuck = ⊥
+-- There is a reduction. Where it goes on, what comes next fits again; a call of an import has arguments of its types, and
+-- what is returned has the types of the results.
+abbrev pub NextFits : Module → List ValType → Next → Type 0
+NextFits m outs (steps k d) = Fits m outs d
+NextFits m outs (asks k import args d) = (import < func_imports m) × (types_of args ≡ (func_type_at m import).params) × WaitingFits m outs import d
+NextFits m outs (returns k values s) = StoreFits m s × (types_of values ≡ outs)
+NextFits m outs (traps k trap s) = StoreFits m s
+NextFits m outs stuck = ⊥
 
 -- So does each end of reductions.
-abbrev pub EndFits : Module → Finish → Type 0
-EndFits m (it_returned values s) = StoreFits m s
-EndFits m (it_trapped trap s) = StoreFits m s
-EndFits m (it_asks import args d) = (import < func_imports m) × (types_of args ≡ (func_type_at m import).params) × WaitsFit m import d
-EndFits m (it_spent d) = Fits m d
+abbrev pub EndFits : Module → List ValType → Finish → Type 0
+EndFits m outs (it_returned values s) = StoreFits m s × (types_of values ≡ outs)
+EndFits m outs (it_trapped trap s) = StoreFits m s
+EndFits m outs (it_asks import args d) = (import < func_imports m) × (types_of args ≡ (func_type_at m import).params) × WaitingFits m outs import d
+EndFits m outs (it_spent d) = Fits m outs d
 
 -- ---- laws
 
@@ -100,22 +102,22 @@ OpeningsFit =
 abbrev pub CallsFit : Type 0
 CallsFit =
     (m : Module) (s : Store) (args : List Value) (x : ℕ) (f : Func)
-    → Valid m → StoreFits m s → defined_at m x ≡ Some f → types_of args ≡ (func_type_at m x).params → Fits m (entered s [] args x f)
+    → Valid m → StoreFits m s → defined_at m x ≡ Some f → types_of args ≡ (func_type_at m x).params → Fits m (results_of m x) (entered s [] args x f)
 
 -- and what waits, with values of the types that it waits for, in any store that fits.
 abbrev pub AnswersFit : Type 0
 AnswersFit =
-    (m : Module) (c : Configuration) (s : Store) (values : List Value)
-    → StoreFits m s → WaitFit m (types_of values) (c.here ∷ c.under) → Fits m (resumed c s values)
+    (m : Module) (outs : List ValType) (c : Configuration) (s : Store) (values : List Value)
+    → StoreFits m s → CallersFit m outs (types_of values) (c.here ∷ c.under) → Fits m outs (resumed c s values)
 
--- From a configuration that fits there is a reduction, to one that fits again.
+-- From a configuration that fits there is a reduction: it goes on to one that fits again, or returns, traps or asks.
 abbrev pub StepsFit : Type 0
-StepsFit = (m : Module) (c : Configuration) → Valid m → Fits m c → NextFits m (step m c)
+StepsFit = (m : Module) (outs : List ValType) (c : Configuration) → Valid m → Fits m outs c → NextFits m outs (step m c)
 
 -- All that is reached fits.
 abbrev pub StretchesFit : Type 0
-StretchesFit = (m : Module) (c d : Configuration) (cost : ℕ) → Valid m → Fits m c → Goes m c cost d → Fits m d
+StretchesFit = (m : Module) (outs : List ValType) (c d : Configuration) (cost : ℕ) → Valid m → Fits m outs c → Goes m c cost d → Fits m outs d
 
 -- And so do the ends.
 abbrev pub EndsFit : Type 0
-EndsFit = (m : Module) (c : Configuration) (left used : ℕ) (end : Finish) → Valid m → Fits m c → EndsAs m c left used end → EndFits m end
+EndsFit = (m : Module) (outs : List ValType) (c : Configuration) (left used : ℕ) (end : Finish) → Valid m → Fits m outs c → EndsAs m c left used end → EndFits m outs end

@@ -1,7 +1,7 @@
 ghost use Rattle.wa_model.specs.Fitting.{AnswersFit, CallsFit, EndsFit, OpeningsFit, StepsFit, StretchesFit};
 
-/// From a configuration that fits a valid module there is a reduction, to one that fits again: none is ever stuck
-/// (standard, section 7.5).
+/// From a configuration that fits a valid module there is a reduction: it goes on to one that fits again, or returns, traps
+/// or asks. So none is stuck that calls and answers of the right types lead to (standard, section 7.5.6).
 pub fn reductions_fit()
     ensures steps { StepsFit }
     ensures stretches { StretchesFit }

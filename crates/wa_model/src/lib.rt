@@ -11,7 +11,8 @@
 //! The laws of `laws` hold of every module: a configuration has one next one, runs are determined and grow with
 //! the cost that they may take, and code that can't be reached changes no run. Those of `growth_laws` hold of valid
 //! modules: parts behind a module's own leave its reductions as they were. Those of `fitting_laws` are the soundness of
-//! types: no configuration of a valid module is stuck (`specs/Fitting.antt`). Those of `quiet_laws` say the headline for
+//! types: no configuration that fits a valid module is stuck, and calls and answers of the right types reach no other
+//! (`specs/Fitting.antt`). Those of `quiet_laws` say the headline for
 //! modules of which nothing may pause. Read in the order `Machine`,
 //! `Store`, `Configuration`, `Step`, `Plan`, `Instantiation`, `Blocking`, `Untouched`, `Protocol`, `Expected`,
 //! `Behaves`, `Rewrites`. `proofs/Cases.antt` has small runs that these definitions compute.

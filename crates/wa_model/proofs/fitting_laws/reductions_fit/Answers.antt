@@ -3,10 +3,10 @@ use Rattle.wa_model.proofs.FittingRuns.{leads_fit, ends_fit}
 use Rattle.wa_model.proofs.fitting_laws.reductions_fit.Goals as goal
 
 pub returns-clause-steps : goal.returns-clause-steps
-returns-clause-steps c = λ m d v h. steps_fit m d v h
+returns-clause-steps c = steps_fit
 
 pub returns-clause-stretches : goal.returns-clause-stretches
-returns-clause-stretches c = λ m d e cost v h l. leads_fit m v d e cost _ h l
+returns-clause-stretches c = λ m outs d e cost v h l. leads_fit m v outs d e cost _ h l
 
 pub returns-clause-ends : goal.returns-clause-ends
-returns-clause-ends c = λ m d left used end v h e. ends_fit m v d left used end h e
+returns-clause-ends c = λ m outs d left used end v h e. ends_fit m v outs d left used end h e
