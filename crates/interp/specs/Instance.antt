@@ -10,14 +10,13 @@ use Rattle.wa_model.specs.Store.{Store}
 use Rattle.wa_model.specs.Configuration.{Activation, Configuration, waiting}
 use Rattle.wa_model.specs.Step.{entered}
 use Rattle.wa_model.specs.Blocking.{resumed}
-use Rattle.wa_model.specs.Alone.{it_trapped, it_asks, it_spent, EndsAs}
-use Rattle.wa_model.specs.Fitting.{types_of, results_of, StoreFits, WaitFit}
+use Rattle.wa_model.specs.Alone.{it_returned, it_trapped, it_asks, it_spent, EndsAs}
+use Rattle.wa_model.specs.Fitting.{types_of, results_of, StoreFits, CallersFit}
 use Rattle.interp.specs.declared.turns.Turn.{Turn}
 use Rattle.interp.specs.declared.turns.Turn.TheVariants.{Returned, Trapped, Waiting, StepsSpent}
 use Rattle.interp.specs.declared.turns.Wait as W
 use Rattle.interp.specs.declared.turns.Wait.TheVariants as WV
 use Rattle.interp.specs.View.{label_of, waiting_of}
-use Rattle.interp.specs.Runs.{EndsReturned}
 
 -- What waits for the answer of an import: nothing, the host, which called it itself, or an activation with those below it.
 pub data Waits : Type 0 where
@@ -47,7 +46,7 @@ pub record TurnsWaiting (m : Module) (c : Configuration) (left used import : ℕ
 
 -- How a run from c turned out, where it might pay so much and paid so much, with the store and what waits behind it.
 abbrev pub Turns : Module → Configuration → (left used : ℕ) → Turn → Store → Waits → Type 0
-Turns m c left used (Returned value) s w = EndsReturned m c left used value s × (w ≡ nothing)
+Turns m c left used (Returned value) s w = EndsAs m c left used (it_returned (option_to_list value) s) × (w ≡ nothing)
 Turns m c left used (Trapped trap) s w = EndsAs m c left used (it_trapped trap s) × (w ≡ nothing)
 Turns m c left used (Waiting call) s w = TurnsWaiting m c left used call.import call.args.items s w
 Turns m c left used StepsSpent s w = TurnsSpent m c left used s × (w ≡ nothing)
@@ -96,17 +95,18 @@ Resumes m s (inside here under) value left used turn s' w =
 
 -- ---- what fits
 
--- what waits goes on with values of these types
-abbrev pub Awaits : Module → List ValType → Waits → Type 0
-Awaits m types nothing = ⊥
-Awaits m types outermost = Unit {0}
-Awaits m types (inside here under) = WaitFit m types (here ∷ under)
+-- what waits goes on with values of the types `types`, and returns values of the types `outs` in the end
+abbrev pub Awaits : Module → (outs types : List ValType) → Waits → Type 0
+Awaits m outs types nothing = ⊥
+Awaits m outs types outermost = types ≡ outs
+Awaits m outs types (inside here under) = CallersFit m outs types (here ∷ under)
 
--- a call of an import has arguments of its types, and its result is awaited
-abbrev pub TurnFits : Module → Turn → Waits → Type 0
-TurnFits m (Waiting call) w = (call.import < func_imports m) × (types_of call.args.items ≡ (func_type_at m call.import).params) × Awaits m (results_of m call.import) w
-TurnFits m _ w = Unit {0}
+-- What is returned has its types; a call of an import has arguments of its types, and its result is awaited.
+abbrev pub TurnFits : Module → (outs : List ValType) → Turn → Waits → Type 0
+TurnFits m outs (Returned value) w = types_of (option_to_list value) ≡ outs
+TurnFits m outs (Waiting call) w = (call.import < func_imports m) × (types_of call.args.items ≡ (func_type_at m call.import).params) × Awaits m outs (results_of m call.import) w
+TurnFits m outs _ w = Unit {0}
 
 -- behind a turn an instance of a valid module fits again
-abbrev pub FitsAgain : Module → Turn → Store → Waits → Type 0
-FitsAgain m turn s w = StoreFits m s × TurnFits m turn w
+abbrev pub FitsAgain : Module → (outs : List ValType) → Turn → Store → Waits → Type 0
+FitsAgain m outs turn s w = StoreFits m s × TurnFits m outs turn w

@@ -1,4 +1,5 @@
-ghost use Rattle.std.specs.Prelude.{◌≡◌, ◌<◌, ◌≤◌, ◌+◌, ◌-◌, ◌^◌, IfOk};
+ghost use Rattle.std.specs.Prelude.{◌≡◌, ◌<◌, ◌≤◌, ◌+◌, ◌-◌, ◌^◌, List, IfOk};
+ghost use Rattle.wa_types.specs.declared.values.ValType.{ValType};
 ghost use Rattle.wa_types.specs.Modules.{func_type_at};
 ghost use Rattle.wa_types.specs.Validity.{Valid};
 ghost use Rattle.wa_types.specs.View.{module_of};
@@ -25,10 +26,9 @@ pub fn go_on<'m>(
     steps: &mut Steps,
 ) -> Result<(Turn, Wait<'m>), AllocError>
     requires valid { Valid (module_of program.now.source.now) }
-    requires sound { Fits (module_of program.now.source.now) (running_of (store_of store.old) stack) }
+    requires sound { (outs : List ValType) × Fits (module_of program.now.source.now) outs (running_of (store_of store.old) stack) }
     requires most { store.old.memory.max ≡ memory_max (module_of program.now.source.now) }
     requires fits { steps.old.left + steps.old.used < 2 ^ 64 }
-    ensures from { Fits (module_of program.now.source.now) (running_of (store_of store.old) stack.entry) }
     ensures turns { IfOk result (λ t. Turns (module_of program.now.source.now) (running_of (store_of store.old) stack.entry) steps.old.left (steps.new.used - steps.old.used) t.0 (store_of store.new) (waits_of t.1)) }
     ensures sum { steps.new.left + steps.new.used ≡ steps.old.left + steps.old.used }
     ensures grows { steps.old.used ≤ steps.new.used }

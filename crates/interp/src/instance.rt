@@ -1,4 +1,4 @@
-ghost use Rattle.std.specs.Prelude.{◌≡◌, ◌<◌, ◌≤◌, ◌+◌, ◌-◌, ◌^◌, ◌++◌, All, IfOk, IfErr, nat_lt, length, drop, reverse};
+ghost use Rattle.std.specs.Prelude.{◌≡◌, ◌<◌, ◌≤◌, ◌+◌, ◌-◌, ◌^◌, ◌++◌, List, All, IfOk, IfErr, nat_lt, length, drop, reverse};
 ghost use Rattle.std.specs.Bool.{OnTrue, OnFalse};
 ghost use Rattle.std.specs.Coded.{codes};
 ghost use Rattle.std.specs.Option.{option_copied, option_to_list};
@@ -37,7 +37,8 @@ impl<'m> Instance<'m> {
     ghost use Rattle.interp.specs.Instance.{Awaits, Calls, FitsAgain, Resumes, nothing, waits_of};
     ghost use Rattle.interp.specs.Faults.{FailsAs};
     ghost use Rattle.wa_types.specs.Modules.{func_sorts, func_type_at, imported, imported_global};
-    ghost use Rattle.wa_model.specs.Fitting.{types_of, global_types, StoreFits};
+    ghost use Rattle.wa_model.specs.Fitting.{types_of, global_types, results_of, StoreFits};
+    ghost use Rattle.wa_types.specs.declared.values.ValType.{ValType};
     ghost use Rattle.wa_model.specs.Instantiation.{opening, opens};
     ghost use Rattle.interp.specs.Rooms.{HasFewInstrs};
     ghost use Rattle.interp.specs.Host.{code_in, store_in, waits_in, memory_of, CallsAside, Pokes};
@@ -105,9 +106,9 @@ impl<'m> Instance<'m> {
         requires func { func < length (func_sorts (code_in self.old)) }
         requires args { types_of args.now ≡ (func_type_at (code_in self.old) func).params }
         requires store { StoreFits (code_in self.old) (store_in self.old) }
-        requires fits { steps.old.left + steps.old.used < 2 ^ 64 }
+        requires sum_fits { steps.old.left + steps.old.used < 2 ^ 64 }
         ensures calls { IfOk result (λ t. Calls (code_in self.old) (store_in self.old) func args.now steps.old.left (steps.new.used - steps.old.used) t (store_in self.new) (waits_in self.new)) }
-        ensures again { IfOk result (λ t. FitsAgain (code_in self.old) t (store_in self.new) (waits_in self.new)) }
+        ensures again { IfOk result (λ t. FitsAgain (code_in self.old) (results_of (code_in self.old) func) t (store_in self.new) (waits_in self.new)) }
         ensures code { code_in self.new ≡ code_in self.old }
         ensures sum { steps.new.left + steps.new.used ≡ steps.old.left + steps.old.used }
         ensures grows { steps.old.used ≤ steps.new.used }
@@ -129,7 +130,7 @@ impl<'m> Instance<'m> {
         requires func { func < length (func_sorts (code_in self.old)) }
         requires args { types_of args.now ≡ (func_type_at (code_in self.old) func).params }
         requires store { StoreFits (code_in self.old) (store_in self.old) }
-        requires fits { steps.old.left + steps.old.used < 2 ^ 64 }
+        requires sum_fits { steps.old.left + steps.old.used < 2 ^ 64 }
         ensures calls { IfOk result (λ t. CallsAside (code_in self.old) (store_in self.old) func args.now steps.old.left (steps.new.used - steps.old.used) t (store_in self.new)) }
         ensures again { IfOk result (λ _. StoreFits (code_in self.old) (store_in self.new)) }
         ensures waits { waits_in self.new ≡ waits_in self.old }
@@ -144,11 +145,11 @@ impl<'m> Instance<'m> {
 
     /// Gives what waits its answer, of the type of the import's result, and goes on as `begin` does.
     pub fn resume(&mut self, value: Option<Value>, steps: &mut Steps) -> Result<Turn, AllocError>
-        requires waits { Awaits (code_in self.old) (types_of (option_to_list value)) (waits_in self.old) }
+        requires waits { (outs : List ValType) × Awaits (code_in self.old) outs (types_of (option_to_list value)) (waits_in self.old) }
         requires store { StoreFits (code_in self.old) (store_in self.old) }
-        requires fits { steps.old.left + steps.old.used < 2 ^ 64 }
+        requires sum_fits { steps.old.left + steps.old.used < 2 ^ 64 }
         ensures resumes { IfOk result (λ t. Resumes (code_in self.old) (store_in self.old) (waits_in self.old) value steps.old.left (steps.new.used - steps.old.used) t (store_in self.new) (waits_in self.new)) }
-        ensures again { IfOk result (λ t. FitsAgain (code_in self.old) t (store_in self.new) (waits_in self.new)) }
+        ensures again { (outs : List ValType) → Awaits (code_in self.old) outs (types_of (option_to_list value)) (waits_in self.old) → IfOk result (λ t. FitsAgain (code_in self.old) outs t (store_in self.new) (waits_in self.new)) }
         ensures code { code_in self.new ≡ code_in self.old }
         ensures sum { steps.new.left + steps.new.used ≡ steps.old.left + steps.old.used }
         ensures grows { steps.old.used ≤ steps.new.used }

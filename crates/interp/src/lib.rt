@@ -9,8 +9,8 @@
 //! from the module's tree: nothing of it is copied. A call leaves what it took on the caller's operands and counts it,
 //! so that a stack that waits shows the operands just before the call. `reduce` does one reduction: its flow tells what
 //! came next, with what it costs past 1 (`specs/Told.antt`). It answers `Flow::Spent` also where no reduction is
-//! defined; no configuration of a valid module comes there (`reductions_fit` of `wa_model`), which is why `run` ends
-//! exactly as the definition says. So each call asks that the store and what waits fit the module, as `make` and every
+//! defined; no configuration that fits comes there (`reductions_fit` of `wa_model`), which is why `run` ends exactly as
+//! the definition says. So each call asks that the store and what waits fit the module, as `make` and every
 //! turn leave them, and that arguments and answers have their types (`specs/Instance.antt`).
 //!
 //! Read in the order `activation`, `flow`, `operands`, `numeric`, `locals`, `memory`, `control`, `branches`, `calls`,

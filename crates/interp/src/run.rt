@@ -1,4 +1,5 @@
-ghost use Rattle.std.specs.Prelude.{◌≡◌, ◌<◌, ◌≤◌, ◌+◌, ◌-◌, ◌^◌, IfOk, OnOk};
+ghost use Rattle.std.specs.Prelude.{◌≡◌, ◌<◌, ◌≤◌, ◌+◌, ◌-◌, ◌^◌, List, IfOk, OnOk};
+ghost use Rattle.wa_types.specs.declared.values.ValType.{ValType};
 ghost use Rattle.wa_types.specs.Validity.{Valid};
 ghost use Rattle.wa_types.specs.View.{module_of};
 ghost use Rattle.wa_model.specs.Step.{memory_max};
@@ -53,7 +54,7 @@ pub fn run<'m>(
     steps: &mut Steps,
 ) -> Result<Stop, AllocError>
     requires valid { Valid (module_of program.now.source.now) }
-    requires sound { Fits (module_of program.now.source.now) (running_of (store_of store.old) stack.old) }
+    requires sound { (outs : List ValType) × Fits (module_of program.now.source.now) outs (running_of (store_of store.old) stack.old) }
     requires most { store.old.memory.max ≡ memory_max (module_of program.now.source.now) }
     requires fits { steps.old.left + steps.old.used < 2 ^ 64 }
     ensures runs { IfOk result (λ t. RunsTo (module_of program.now.source.now) (running_of (store_of store.old) stack.old) steps.old.left (steps.new.used - steps.old.used) t (running_of (store_of store.new) stack.new)) }

@@ -5,7 +5,7 @@ use Rattle.wa_types.specs.Modules.{defined_at}
 use Rattle.wa_types.specs.View.{code, func_of, module_of}
 use Rattle.wa_model.specs.Configuration.{running}
 use Rattle.wa_model.specs.Step.{entered}
-use Rattle.wa_model.specs.Fitting.{Fits}
+use Rattle.wa_model.specs.Fitting.{results_of, Fits}
 use Rattle.wa_model.proofs.FittingRuns.{calls_fit}
 use Rattle.interp.specs.Instance.{CallsAs, Turns, waits_of}
 use Rattle.interp.specs.View.{store_of, label_of, waiting_of}
@@ -22,8 +22,8 @@ go_on-requires-clause-sound c =
     let here = c.in_ok-here.here in
     let entered_is =
     ap (λ v. running s here.func (map waiting_of (reverse v)) here.locals.items (reverse here.operands.items) (code here.code.now) (map label_of (reverse here.labels.items))) c.new-under.ensures.items
-    ∙ entered_runs s here x args f [] c.in_ok-here.ensures in
-    subst (Fits m) (sym entered_is) (calls_fit m s args x f c.requires.valid c.requires.fitting c.in-Some.ensures c.requires.typed)
+    ∙ entered_runs s here x args f [] c.in_ok-here.ensures.entered in
+    (results_of m x, subst (Fits m (results_of m x)) (sym entered_is) (calls_fit m s args x f c.requires.valid c.requires.fitting c.in-Some.ensures c.requires.typed))
 
 pub returns-clause-calls : goal.returns-clause-calls
 returns-clause-calls c =

@@ -1,10 +1,11 @@
-use Rattle.std.proofs.Common.{arith, suc, ◌≡◌, ◌+◌, ◌-◌, ◌≤◌, refl, sym, ◌∙◌, subst}
+use Rattle.std.proofs.Common.{arith, suc, ◌≡◌, ◌+◌, ◌-◌, ◌≤◌, refl, sym, ap, ◌∙◌, subst}
+use Rattle.std.specs.Option.{option_to_list}
 use Rattle.wa_types.specs.View.{module_of}
 use Rattle.wa_model.specs.Step.{step}
 use Rattle.wa_model.specs.Alone.{it_returned, it_trapped, it_asks}
 use Rattle.interp.specs.Told.{Tells, args_below}
 use Rattle.interp.specs.View.{store_of, running_of, taking}
-use Rattle.interp.proofs.RunLemmas.{no_step, one_more, ends_by, ends_spent, nothing_left}
+use Rattle.interp.proofs.RunLemmas.{no_step, one_more, ends_by, ends_spent, returned_listed, nothing_left}
 use Rattle.interp.proofs.run.run.Goals as goal
 
 pub loop-steps-init : goal.loop-steps-init
@@ -38,11 +39,8 @@ returns-in-Returned-clause-runs c =
     let more = c.in-Returned.more in
     let paid : c.pay-in-Returned.new.steps.used - c.args.steps.now.used ≡ n + (more + 1) = omega (arith, c.pay-in-Returned.ensures.used, c.loop-steps.invariant.grows) in
     let enough : c.pay-in-Returned.new.steps.used - c.args.steps.now.used ≤ c.args.steps.now.left = omega (arith, c.pay-in-Returned.ensures.used, c.pay-in-Returned.ensures.left, c.loop-steps.invariant.grows, c.loop-steps.invariant.sum) in
-    record {
-      values = told.0.values;
-      value_is = told.0.value_is;
-      ends = ends_by m from c.args.steps.now.left n more _ at _ (it_returned told.0.values to.store) c.loop-steps.invariant.goes told.0.next_is ((let e : more + 1 ≡ suc more = omega arith in e), refl) paid enough;
-    }
+    let values = returned_listed m from n more at told.0.values to.store c.in-Returned.value c.requires.valid c.requires.sound c.loop-steps.invariant.goes told.0.next_is told.0.value_is in
+    ends_by m from c.args.steps.now.left n more _ at _ (it_returned (option_to_list c.in-Returned.value) to.store) c.loop-steps.invariant.goes told.0.next_is ((let e : more + 1 ≡ suc more = omega arith in e), ap (λ vs. it_returned vs to.store) (sym values)) paid enough
 
 pub returns-in-Trapped-clause-runs : goal.returns-in-Trapped-clause-runs
 returns-in-Trapped-clause-runs c =
