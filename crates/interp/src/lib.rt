@@ -11,8 +11,12 @@
 //! came next, with what it costs past 1 (`specs/Told.antt`). It answers `Flow::Spent` also where no reduction is
 //! defined, as code that isn't valid may come to; the store is then as it was.
 //!
+//! An activation has room for the greatest height of its operands and depth of its labels (`specs/Rooms.antt`), which are
+//! computed once a function when its program is made (`rooms`), so that between calls and `memory.grow` no reduction takes
+//! memory. That none does isn't proved.
+//!
 //! Read in the order `activation`, `flow`, `operands`, `numeric`, `locals`, `memory`, `control`, `branches`, `calls`,
-//! `reduce`, `run`, `go_on`, `instance`, and for `make` `spaces`, `segments`, `make`.
+//! `reduce`, `run`, `go_on`, `instance`, and for `make` `spaces`, `types`, `rooms`, `program`, `segments`, `make`.
 #![tactic(auto)]
 
 mod access;
