@@ -126,6 +126,6 @@ doubled() {
     holds "$twice <= 2.6 * $once" || { echo "$1: more than 2.6 times the time"; failed=1; }
 }
 doubled nesting 400 50000
-doubled locals 20000 2000
-doubled calls 2000 5000
+doubled locals 10000 20000
+doubled calls 2000 1000
 exit $failed

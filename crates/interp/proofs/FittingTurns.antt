@@ -19,7 +19,7 @@ use Rattle.interp.specs.declared.activation.Stack.{Stack}
 use Rattle.interp.specs.declared.turns.Turn.{Turn}
 use Rattle.interp.specs.declared.turns.Wait.TheVariants as WV
 use Rattle.interp.specs.declared.turns.Turn.TheVariants.{Returned, Trapped, Waiting, StepsSpent}
-use Rattle.interp.specs.Instance.{Waits, outermost, waits_of, Turns, IsCall, CallsAs, Calls, Awaits, FitsAgain}
+use Rattle.interp.specs.Instance.{Waits, outermost, waits_of, Turns, IsCall, CallsAs, Calls, Resumes, Awaits, FitsAgain}
 use Rattle.interp.specs.View.{label_of, waiting_of}
 use Rattle.interp.specs.Host.{memory_of, poked_in, PokesTo, Pokes}
 
@@ -63,6 +63,14 @@ answered_fits m outs s k taken value ops ok a e =
     let c : Configuration = record { store = s; here = here; under = map waiting_of (reverse k.under.items) } in
     subst (λ o. Fits m outs (running s k.here.func (map waiting_of (reverse k.under.items)) k.here.locals.items o (code k.here.code.now) (map label_of (reverse k.here.labels.items)))) (sym e)
     (answers_fit m outs c s (option_to_list value) ok a)
+
+-- and a run from there is how the answer turned out
+pub answered_turns : (m : Module) (s : Store) (k : Stack) (taken : ℕ) (value : Option Value) (ops : List Value) (left used : ℕ) (turn : Turn) (s' : Store) (w' : Waits)
+    → ops ≡ option_to_list value ++ drop taken (reverse k.here.operands.items)
+    → Turns m (running s k.here.func (map waiting_of (reverse k.under.items)) k.here.locals.items ops (code k.here.code.now) (map label_of (reverse k.here.labels.items))) left used turn s' w'
+    → Resumes m s (waits_of (WV.Inside k taken)) value left used turn s' w'
+answered_turns m s k taken value ops left used turn s' w' e t =
+    subst (λ o. Turns m (running s k.here.func (map waiting_of (reverse k.under.items)) k.here.locals.items o (code k.here.code.now) (map label_of (reverse k.here.labels.items))) left used turn s' w') e t
 
 -- bytes that are written leave a store fitting
 pub pokes_fit : (m : Module) (s : Store) (at : ℕ) (bytes : List ℕ) (done : Bool) (s' : Store) → Pokes m s at bytes done s' → StoreFits m s → StoreFits m s'

@@ -25,11 +25,9 @@ pub fn go_on<'m>(
     mut stack: Stack<'m>,
     steps: &mut Steps,
 ) -> Result<(Turn, Wait<'m>), AllocError>
-    requires valid { Valid (module_of program.now.source.now) }
-    requires sound { (outs : List ValType) × Fits (module_of program.now.source.now) outs (running_of (store_of store.old) stack) }
     requires most { store.old.memory.max ≡ memory_max (module_of program.now.source.now) }
     requires fits { steps.old.left + steps.old.used < 2 ^ 64 }
-    ensures turns { IfOk result (λ t. Turns (module_of program.now.source.now) (running_of (store_of store.old) stack.entry) steps.old.left (steps.new.used - steps.old.used) t.0 (store_of store.new) (waits_of t.1)) }
+    ensures turns { Valid (module_of program.now.source.now) → (outs : List ValType) × Fits (module_of program.now.source.now) outs (running_of (store_of store.old) stack.entry) → IfOk result (λ t. Turns (module_of program.now.source.now) (running_of (store_of store.old) stack.entry) steps.old.left (steps.new.used - steps.old.used) t.0 (store_of store.new) (waits_of t.1)) }
     ensures sum { steps.new.left + steps.new.used ≡ steps.old.left + steps.old.used }
     ensures grows { steps.old.used ≤ steps.new.used }
     ensures max { store.new.memory.max ≡ store.old.memory.max }
@@ -55,12 +53,9 @@ pub fn call_from_outside<'m>(
     args: &[Value],
     steps: &mut Steps,
 ) -> Result<(Turn, Wait<'m>), AllocError>
-    requires valid { Valid (module_of program.now.source.now) }
-    requires fitting { StoreFits (module_of program.now.source.now) (store_of store.old) }
-    requires typed { types_of args.now ≡ (func_type_at (module_of program.now.source.now) func).params }
     requires most { store.old.memory.max ≡ memory_max (module_of program.now.source.now) }
     requires fits { steps.old.left + steps.old.used < 2 ^ 64 }
-    ensures calls { IfOk result (λ t. Calls (module_of program.now.source.now) (store_of store.old) func args.now steps.old.left (steps.new.used - steps.old.used) t.0 (store_of store.new) (waits_of t.1)) }
+    ensures calls { Valid (module_of program.now.source.now) → StoreFits (module_of program.now.source.now) (store_of store.old) → types_of args.now ≡ (func_type_at (module_of program.now.source.now) func).params → IfOk result (λ t. Calls (module_of program.now.source.now) (store_of store.old) func args.now steps.old.left (steps.new.used - steps.old.used) t.0 (store_of store.new) (waits_of t.1)) }
     ensures sum { steps.new.left + steps.new.used ≡ steps.old.left + steps.old.used }
     ensures grows { steps.old.used ≤ steps.new.used }
     ensures max { store.new.memory.max ≡ store.old.memory.max }

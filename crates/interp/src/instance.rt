@@ -50,10 +50,9 @@ impl<'m> Instance<'m> {
         valid: &'m Valid,
         globals: &[Value],
     ) -> Result<Instance<'m>, MakeFault>
-        requires globals { types_of globals.now ≡ global_types (imported imported_global (module_of valid.now)) }
         ensures code { IfOk result (λ i. code_in i ≡ module_of valid.now) }
         ensures store { IfOk result (λ i. opening (module_of valid.now) globals.now ≡ opens (store_in i)) }
-        ensures fits { IfOk result (λ i. StoreFits (code_in i) (store_in i)) }
+        ensures fits { types_of globals.now ≡ global_types (imported imported_global (module_of valid.now)) → IfOk result (λ i. StoreFits (code_in i) (store_in i)) }
         ensures waits { IfOk result (λ i. waits_in i ≡ nothing) }
         ensures err { IfErr result (FailsAs (opening (module_of valid.now) globals.now)) }
     {
@@ -103,12 +102,9 @@ impl<'m> Instance<'m> {
         args: &[Value],
         steps: &mut Steps,
     ) -> Result<Turn, AllocError>
-        requires func { func < length (func_sorts (code_in self.old)) }
-        requires args { types_of args.now ≡ (func_type_at (code_in self.old) func).params }
-        requires store { StoreFits (code_in self.old) (store_in self.old) }
         requires sum_fits { steps.old.left + steps.old.used < 2 ^ 64 }
-        ensures calls { IfOk result (λ t. Calls (code_in self.old) (store_in self.old) func args.now steps.old.left (steps.new.used - steps.old.used) t (store_in self.new) (waits_in self.new)) }
-        ensures again { IfOk result (λ t. FitsAgain (code_in self.old) (results_of (code_in self.old) func) t (store_in self.new) (waits_in self.new)) }
+        ensures calls { StoreFits (code_in self.old) (store_in self.old) → types_of args.now ≡ (func_type_at (code_in self.old) func).params → IfOk result (λ t. Calls (code_in self.old) (store_in self.old) func args.now steps.old.left (steps.new.used - steps.old.used) t (store_in self.new) (waits_in self.new)) }
+        ensures again { func < length (func_sorts (code_in self.old)) → StoreFits (code_in self.old) (store_in self.old) → types_of args.now ≡ (func_type_at (code_in self.old) func).params → IfOk result (λ t. FitsAgain (code_in self.old) (results_of (code_in self.old) func) t (store_in self.new) (waits_in self.new)) }
         ensures code { code_in self.new ≡ code_in self.old }
         ensures sum { steps.new.left + steps.new.used ≡ steps.old.left + steps.old.used }
         ensures grows { steps.old.used ≤ steps.new.used }
@@ -127,12 +123,9 @@ impl<'m> Instance<'m> {
         args: &[Value],
         steps: &mut Steps,
     ) -> Result<Turn, AllocError>
-        requires func { func < length (func_sorts (code_in self.old)) }
-        requires args { types_of args.now ≡ (func_type_at (code_in self.old) func).params }
-        requires store { StoreFits (code_in self.old) (store_in self.old) }
         requires sum_fits { steps.old.left + steps.old.used < 2 ^ 64 }
-        ensures calls { IfOk result (λ t. CallsAside (code_in self.old) (store_in self.old) func args.now steps.old.left (steps.new.used - steps.old.used) t (store_in self.new)) }
-        ensures again { IfOk result (λ _. StoreFits (code_in self.old) (store_in self.new)) }
+        ensures calls { StoreFits (code_in self.old) (store_in self.old) → types_of args.now ≡ (func_type_at (code_in self.old) func).params → IfOk result (λ t. CallsAside (code_in self.old) (store_in self.old) func args.now steps.old.left (steps.new.used - steps.old.used) t (store_in self.new)) }
+        ensures again { func < length (func_sorts (code_in self.old)) → StoreFits (code_in self.old) (store_in self.old) → types_of args.now ≡ (func_type_at (code_in self.old) func).params → IfOk result (λ _. StoreFits (code_in self.old) (store_in self.new)) }
         ensures waits { waits_in self.new ≡ waits_in self.old }
         ensures code { code_in self.new ≡ code_in self.old }
         ensures sum { steps.new.left + steps.new.used ≡ steps.old.left + steps.old.used }
@@ -145,11 +138,10 @@ impl<'m> Instance<'m> {
 
     /// Gives what waits its answer, of the type of the import's result, and goes on as `begin` does.
     pub fn resume(&mut self, value: Option<Value>, steps: &mut Steps) -> Result<Turn, AllocError>
-        requires waits { (outs : List ValType) × Awaits (code_in self.old) outs (types_of (option_to_list value)) (waits_in self.old) }
-        requires store { StoreFits (code_in self.old) (store_in self.old) }
+        requires waits { waits_in self.old ≡ nothing → ⊥ }
         requires sum_fits { steps.old.left + steps.old.used < 2 ^ 64 }
-        ensures resumes { IfOk result (λ t. Resumes (code_in self.old) (store_in self.old) (waits_in self.old) value steps.old.left (steps.new.used - steps.old.used) t (store_in self.new) (waits_in self.new)) }
-        ensures again { (outs : List ValType) → Awaits (code_in self.old) outs (types_of (option_to_list value)) (waits_in self.old) → IfOk result (λ t. FitsAgain (code_in self.old) outs t (store_in self.new) (waits_in self.new)) }
+        ensures resumes { (outs : List ValType) → StoreFits (code_in self.old) (store_in self.old) → Awaits (code_in self.old) outs (types_of (option_to_list value)) (waits_in self.old) → IfOk result (λ t. Resumes (code_in self.old) (store_in self.old) (waits_in self.old) value steps.old.left (steps.new.used - steps.old.used) t (store_in self.new) (waits_in self.new)) }
+        ensures again { (outs : List ValType) → StoreFits (code_in self.old) (store_in self.old) → Awaits (code_in self.old) outs (types_of (option_to_list value)) (waits_in self.old) → IfOk result (λ t. FitsAgain (code_in self.old) outs t (store_in self.new) (waits_in self.new)) }
         ensures code { code_in self.new ≡ code_in self.old }
         ensures sum { steps.new.left + steps.new.used ≡ steps.old.left + steps.old.used }
         ensures grows { steps.old.used ≤ steps.new.used }

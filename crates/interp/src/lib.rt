@@ -13,8 +13,12 @@
 //! the definition says. So each call asks that the store and what waits fit the module, as `make` and every
 //! turn leave them, and that arguments and answers have their types (`specs/Instance.antt`).
 //!
+//! An activation has room for the greatest height of its operands and depth of its labels (`specs/Rooms.antt`), which are
+//! computed once a function when its program is made (`rooms`), so that between calls and `memory.grow` no reduction takes
+//! memory. That none does isn't proved.
+//!
 //! Read in the order `activation`, `flow`, `operands`, `numeric`, `locals`, `memory`, `control`, `branches`, `calls`,
-//! `reduce`, `run`, `go_on`, `instance`, and for `make` `spaces`, `segments`, `make`.
+//! `reduce`, `run`, `go_on`, `instance`, and for `make` `spaces`, `types`, `rooms`, `program`, `segments`, `make`.
 #![tactic(auto)]
 
 mod access;

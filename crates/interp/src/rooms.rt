@@ -114,18 +114,12 @@ fn behind(source: &Module, sorts: &[u32], instr: &Instr, height: usize) -> usize
             below + func_results(source, sorts, *func).min(1)
         }
         Instr::CallIndirect(sort) => {
-            let below = height
-                .saturating_sub(1)
-                .saturating_sub(sort_params(source, *sort));
+            let below = height.saturating_sub(1 + sort_params(source, *sort));
             below + sort_results(source, *sort).min(1)
         }
-        Instr::Block { result, body: _ } => height + usize::from(result.is_some()),
-        Instr::Loop { result, body: _ } => height + usize::from(result.is_some()),
-        Instr::If {
-            result,
-            then_arm: _,
-            else_arm: _,
-        } => height.saturating_sub(1) + usize::from(result.is_some()),
+        Instr::Block { result, .. } => height + usize::from(result.is_some()),
+        Instr::Loop { result, .. } => height + usize::from(result.is_some()),
+        Instr::If { result, .. } => height.saturating_sub(1) + usize::from(result.is_some()),
         Instr::LocalTee(_) => height,
         Instr::Nop => height,
         Instr::Br(_) => height,

@@ -53,11 +53,9 @@ pub fn run<'m>(
     stack: &mut Stack<'m>,
     steps: &mut Steps,
 ) -> Result<Stop, AllocError>
-    requires valid { Valid (module_of program.now.source.now) }
-    requires sound { (outs : List ValType) × Fits (module_of program.now.source.now) outs (running_of (store_of store.old) stack.old) }
     requires most { store.old.memory.max ≡ memory_max (module_of program.now.source.now) }
     requires fits { steps.old.left + steps.old.used < 2 ^ 64 }
-    ensures runs { IfOk result (λ t. RunsTo (module_of program.now.source.now) (running_of (store_of store.old) stack.old) steps.old.left (steps.new.used - steps.old.used) t (running_of (store_of store.new) stack.new)) }
+    ensures runs { Valid (module_of program.now.source.now) → (outs : List ValType) × Fits (module_of program.now.source.now) outs (running_of (store_of store.old) stack.old) → IfOk result (λ t. RunsTo (module_of program.now.source.now) (running_of (store_of store.old) stack.old) steps.old.left (steps.new.used - steps.old.used) t (running_of (store_of store.new) stack.new)) }
     ensures sum { steps.new.left + steps.new.used ≡ steps.old.left + steps.old.used }
     ensures grows { steps.old.used ≤ steps.new.used }
     ensures max { store.new.memory.max ≡ store.old.memory.max }

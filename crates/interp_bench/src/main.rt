@@ -4,9 +4,11 @@
 #![tactic(auto)]
 
 mod load;
+mod runner;
 
-use interp::{Instance, Steps, Turn};
+use interp::Turn;
 use load::load;
+use runner::Runner;
 use std::rt::{Env, Files};
 use std::{env, fs};
 use wa_types::{Module, Space, Value};
@@ -38,16 +40,12 @@ fn source<R: Files + Env + AllocGlobal>(rt: &R) -> anyhow::Result<Vec<u8>> {
 fn main(rt: HostRuntime) -> anyhow::Result<()> {
     let bytes = source(&rt)?;
     let valid = load(rt.alloc(), &bytes)?;
-    let mut instance = Instance::make(rt.alloc(), &valid, &[])?;
+    let mut runner = Runner::new(rt.alloc(), &valid, MANY)?;
     let Some(run) = exported(valid.module(), "run") else {
         println!(rt; "no function run")?;
         return Ok(());
     };
-    let mut steps = Steps {
-        left: MANY,
-        used: 0,
-    };
-    match instance.begin(run, &[], &mut steps)? {
+    match runner.begin(run, &[])? {
         Turn::Returned(Some(Value::I32(n))) => println!(rt; "run() => i32:{n}")?,
         Turn::Returned(Some(Value::I64(n))) => println!(rt; "run() => i64:{n}")?,
         Turn::Returned(None) => println!(rt; "run() =>")?,
@@ -55,7 +53,7 @@ fn main(rt: HostRuntime) -> anyhow::Result<()> {
         Turn::Waiting(call) => println!(rt; "run() waits for import {}", call.import)?,
         Turn::StepsSpent => println!(rt; "run() has spent its steps")?,
     }
-    println!(rt; "{} steps", steps.used)?;
+    println!(rt; "{} steps", runner.steps.used)?;
     Ok(())
 }
 

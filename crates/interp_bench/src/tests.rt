@@ -1,9 +1,8 @@
 //! Runs of small modules, from their bytes through `validate` and `Instance::make`, against values from outside.
 
-ghost use Rattle.std.specs.Prelude.{◌≡◌, ◌<◌, ◌^◌};
-
 use crate::load::load;
-use interp::{Instance, MakeFault, Steps, Turn};
+use crate::runner::Runner;
+use interp::{MakeFault, Turn};
 use std::test::Fail;
 use wa_types::{Trap, Value};
 
@@ -55,14 +54,6 @@ const THROUGH_TABLE: &[u8] = b"\
 const LARGE: &[u8] = b"\
     \x00asm\x01\x00\x00\x00\x05\x04\x01\x00\x81\x08";
 
-fn steps(left: u64) -> Steps
-    requires { left < 2 ^ 63 }
-    ensures left { result.left ≡ left }
-    ensures used { result.used ≡ 0 }
-{
-    Steps { left, used: 0 }
-}
-
 fn is_returned(turn: &Turn, value: Option<Value>) -> bool {
     match turn {
         Turn::Returned(v) => *v == value,
@@ -84,28 +75,36 @@ fn asks(turn: &Turn, import: u32, args: &[Value]) -> bool {
     }
 }
 
+/// Whether these bytes lie in the memory from a place on.
+fn holds(runner: &Runner, from: usize, bytes: &[u8]) -> bool {
+    match runner.instance.memory() {
+        Some(memory) => match memory.get(from..) {
+            Some(rest) => rest.starts_with(bytes),
+            None => false,
+        },
+        None => false,
+    }
+}
+
 #[test]
 fn returns_seven_in_three_steps(rt: HostRuntime) -> Result<(), Fail> {
     let valid = load(rt.alloc(), SEVEN)?;
-    let mut instance = Instance::make(rt.alloc(), &valid, &[])?;
-    let mut three = steps(3);
-    assert!(rt; is_returned(&instance.begin(0, &[], &mut three)?, Some(Value::I32(7))));
-    assert_eq!(rt; three.used, 3);
-    let mut two = steps(2);
-    assert!(rt; matches!(instance.begin(0, &[], &mut two)?, Turn::StepsSpent));
-    assert_eq!(rt; two.used, 2);
+    let mut runner = Runner::new(rt.alloc(), &valid, 3)?;
+    assert!(rt; is_returned(&runner.begin(0, &[])?, Some(Value::I32(7))));
+    assert_eq!(rt; runner.steps.used, 3);
+    let mut runner = Runner::new(rt.alloc(), &valid, 2)?;
+    assert!(rt; matches!(runner.begin(0, &[])?, Turn::StepsSpent));
+    assert_eq!(rt; runner.steps.used, 2);
     Ok(())
 }
 
 #[test]
 fn has_4096_activations(rt: HostRuntime) -> Result<(), Fail> {
     let valid = load(rt.alloc(), RECURSION)?;
-    let mut instance = Instance::make(rt.alloc(), &valid, &[])?;
-    let mut many = steps(1_000_000);
-    let turn = instance.begin(1, &[Value::I32(4_095)], &mut many)?;
+    let mut runner = Runner::new(rt.alloc(), &valid, 1_000_000)?;
+    let turn = runner.begin(1, &[Value::I32(4_095)])?;
     assert!(rt; asks(&turn, 0, &[Value::I32(0)]));
-    let mut many = steps(1_000_000);
-    let turn = instance.begin(1, &[Value::I32(4_096)], &mut many)?;
+    let turn = runner.begin(1, &[Value::I32(4_096)])?;
     assert!(rt; is_trapped(&turn, Trap::StackExhausted));
     Ok(())
 }
@@ -113,31 +112,28 @@ fn has_4096_activations(rt: HostRuntime) -> Result<(), Fail> {
 #[test]
 fn divides_by_an_answer(rt: HostRuntime) -> Result<(), Fail> {
     let valid = load(rt.alloc(), DIVISION)?;
-    let mut instance = Instance::make(rt.alloc(), &valid, &[])?;
-    let mut budget = steps(1_000);
-    assert!(rt; asks(&instance.begin(1, &[], &mut budget)?, 0, &[Value::I32(2)]));
-    assert_eq!(rt; instance.memory().map(|bytes| bytes.len()), Some(131_072));
-    assert!(rt; instance.is_waiting());
-    let turn = instance.resume(Some(Value::I32(5)), &mut budget)?;
+    let mut runner = Runner::new(rt.alloc(), &valid, 1_000)?;
+    assert!(rt; asks(&runner.begin(1, &[])?, 0, &[Value::I32(2)]));
+    assert!(rt; holds(&runner, 131_071, b"\0"));
+    assert!(rt; !holds(&runner, 131_072, b"\0"));
+    let turn = runner.resume(Some(Value::I32(5)))?;
     assert!(rt; is_returned(&turn, Some(Value::I64(1_000_000_000))));
-    assert!(rt; asks(&instance.begin(1, &[], &mut budget)?, 0, &[Value::I32(2)]));
-    assert!(rt; instance.is_waiting());
-    let turn = instance.resume(Some(Value::I32(0)), &mut budget)?;
+    assert!(rt; asks(&runner.begin(1, &[])?, 0, &[Value::I32(2)]));
+    let turn = runner.resume(Some(Value::I32(0)))?;
     assert!(rt; is_trapped(&turn, Trap::DivideByZero));
-    assert!(rt; !instance.is_waiting());
+    assert!(rt; !runner.instance.is_waiting());
     Ok(())
 }
 
 #[test]
 fn traps_through_a_table(rt: HostRuntime) -> Result<(), Fail> {
     let valid = load(rt.alloc(), THROUGH_TABLE)?;
-    let mut instance = Instance::make(rt.alloc(), &valid, &[])?;
-    let mut budget = steps(100);
-    let turn = instance.begin(0, &[Value::I32(3)], &mut budget)?;
+    let mut runner = Runner::new(rt.alloc(), &valid, 100)?;
+    let turn = runner.begin(0, &[Value::I32(3)])?;
     assert!(rt; is_trapped(&turn, Trap::UndefinedElement));
-    let turn = instance.begin(0, &[Value::I32(1)], &mut budget)?;
+    let turn = runner.begin(0, &[Value::I32(1)])?;
     assert!(rt; is_trapped(&turn, Trap::UninitializedElement));
-    let turn = instance.begin(0, &[Value::I32(0)], &mut budget)?;
+    let turn = runner.begin(0, &[Value::I32(0)])?;
     assert!(rt; is_trapped(&turn, Trap::TypeMismatch));
     Ok(())
 }
@@ -145,38 +141,31 @@ fn traps_through_a_table(rt: HostRuntime) -> Result<(), Fail> {
 #[test]
 fn goes_on_behind_a_call_aside(rt: HostRuntime) -> Result<(), Fail> {
     let valid = load(rt.alloc(), COMPILED)?;
-    let mut instance = Instance::make(rt.alloc(), &valid, &[])?;
-    let mut budget = steps(10_000);
-    assert_eq!(rt; instance.globals(), [Value::I32(66_560)].as_slice());
-    let turn = instance.begin(3, &[Value::I32(2)], &mut budget)?;
+    let mut runner = Runner::new(rt.alloc(), &valid, 10_000)?;
+    assert!(rt; runner.instance.globals() == [Value::I32(66_560)].as_slice());
+    let turn = runner.begin(3, &[Value::I32(2)])?;
     assert!(rt; asks(&turn, 0, &[Value::I32(0)]));
-    let turn = instance.aside(1, &[Value::I32(16)], &mut budget)?;
+    let turn = runner.aside(1, &[Value::I32(16)])?;
     assert!(rt; is_returned(&turn, Some(Value::I32(66_576))));
-    assert!(rt; instance.is_waiting());
-    let turn = instance.resume(Some(Value::I32(40)), &mut budget)?;
+    let turn = runner.resume(Some(Value::I32(40)))?;
     assert!(rt; asks(&turn, 0, &[Value::I32(1)]));
-    assert_eq!(rt; instance.globals(), [Value::I32(66_608)].as_slice());
-    assert!(rt; instance.is_waiting());
-    let turn = instance.resume(Some(Value::I32(2)), &mut budget)?;
+    assert!(rt; runner.instance.globals() == [Value::I32(66_608)].as_slice());
+    let turn = runner.resume(Some(Value::I32(2)))?;
     assert!(rt; is_returned(&turn, Some(Value::I32(42))));
-    let memory = instance.memory().ok_or("no memory")?;
-    assert_eq!(rt; memory.get(1_024..1_029), Some(b"hello".as_slice()));
-    assert_eq!(rt; memory.get(66_560..66_564), Some(b"\x28\0\0\0".as_slice()));
-    assert_eq!(rt; memory.get(66_592..66_596), Some(b"\x02\0\0\0".as_slice()));
+    assert!(rt; holds(&runner, 1_024, b"hello"));
+    assert!(rt; holds(&runner, 66_560, b"\x28\0\0\0"));
+    assert!(rt; holds(&runner, 66_592, b"\x02\0\0\0"));
     Ok(())
 }
 
 #[test]
 fn reads_what_was_poked(rt: HostRuntime) -> Result<(), Fail> {
     let valid = load(rt.alloc(), POKED_READ)?;
-    let mut instance = Instance::make(rt.alloc(), &valid, &[])?;
-    let mut budget = steps(100);
-    let turn = instance.begin(1, &[], &mut budget)?;
-    assert!(rt; asks(&turn, 0, &[Value::I32(65_532)]));
-    assert!(rt; instance.poke(65_532, b"\x01\x02\x03\x04"));
-    assert!(rt; !instance.poke(65_533, b"\x05\x06\x07\x08"));
-    assert!(rt; instance.is_waiting());
-    let turn = instance.resume(Some(Value::I32(4)), &mut budget)?;
+    let mut runner = Runner::new(rt.alloc(), &valid, 100)?;
+    assert!(rt; asks(&runner.begin(1, &[])?, 0, &[Value::I32(65_532)]));
+    assert!(rt; runner.instance.poke(65_532, b"\x01\x02\x03\x04"));
+    assert!(rt; !runner.instance.poke(65_533, b"\x05\x06\x07\x08"));
+    let turn = runner.resume(Some(Value::I32(4)))?;
     assert!(rt; is_returned(&turn, Some(Value::I32(67_305_985))));
     Ok(())
 }
@@ -184,13 +173,10 @@ fn reads_what_was_poked(rt: HostRuntime) -> Result<(), Fail> {
 #[test]
 fn traps_without_a_page(rt: HostRuntime) -> Result<(), Fail> {
     let valid = load(rt.alloc(), POKED_READ_NO_PAGE)?;
-    let mut instance = Instance::make(rt.alloc(), &valid, &[])?;
-    let mut budget = steps(100);
-    let turn = instance.begin(1, &[], &mut budget)?;
-    assert!(rt; asks(&turn, 0, &[Value::I32(65_532)]));
-    assert!(rt; !instance.poke(65_532, b"\x01\x02\x03\x04"));
-    assert!(rt; instance.is_waiting());
-    let turn = instance.resume(Some(Value::I32(4)), &mut budget)?;
+    let mut runner = Runner::new(rt.alloc(), &valid, 100)?;
+    assert!(rt; asks(&runner.begin(1, &[])?, 0, &[Value::I32(65_532)]));
+    assert!(rt; !runner.instance.poke(65_532, b"\x01\x02\x03\x04"));
+    let turn = runner.resume(Some(Value::I32(4)))?;
     assert!(rt; is_trapped(&turn, Trap::OutOfBounds));
     Ok(())
 }
@@ -198,9 +184,9 @@ fn traps_without_a_page(rt: HostRuntime) -> Result<(), Fail> {
 #[test]
 fn makes_no_instance_past_the_pages(rt: HostRuntime) -> Result<(), Fail> {
     let valid = load(rt.alloc(), LARGE)?;
-    let fault = Instance::make(rt.alloc(), &valid, &[]).err();
+    let fault = Runner::new(rt.alloc(), &valid, 100).err();
     let entries = false;
     let found = 1_025;
-    assert_eq!(rt; fault, Some(MakeFault::HostLimit { entries, found }));
+    assert!(rt; fault == Some(MakeFault::HostLimit { entries, found }));
     Ok(())
 }

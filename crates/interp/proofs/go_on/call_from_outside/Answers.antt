@@ -12,21 +12,8 @@ use Rattle.interp.specs.View.{store_of, label_of, waiting_of}
 use Rattle.interp.proofs.CallLemmas.{entered_runs}
 use Rattle.interp.proofs.go_on.call_from_outside.Goals as goal
 
-pub go_on-requires-clause-sound : goal.go_on-requires-clause-sound
-go_on-requires-clause-sound c =
-    let m = module_of c.args.program.now.source.now in
-    let s = store_of c.args.store.now in
-    let x = c.args.func in
-    let args = c.args.args.now in
-    let f = func_of c.in-Some.callee.now in
-    let here = c.in_ok-here.here in
-    let entered_is =
-    ap (λ v. running s here.func (map waiting_of (reverse v)) here.locals.items (reverse here.operands.items) (code here.code.now) (map label_of (reverse here.labels.items))) c.new-under.ensures.items
-    ∙ entered_runs s here x args f [] c.in_ok-here.ensures.entered in
-    (results_of m x, subst (Fits m (results_of m x)) (sym entered_is) (calls_fit m s args x f c.requires.valid c.requires.fitting c.in-Some.ensures c.requires.typed))
-
 pub returns-clause-calls : goal.returns-clause-calls
-returns-clause-calls c =
+returns-clause-calls c = λ v ok typed.
     let m = module_of c.args.program.now.source.now in
     let s = store_of c.args.store.now in
     let s' = store_of c.go_on.new.store in
@@ -53,4 +40,4 @@ returns-clause-calls c =
       turns = subst (λ n. Turns m (entered s [] args x f) n more t.0 s' (waits_of t.1)) left_is
           (subst (λ d. Turns m d c.pay-2.new.steps.left more t.0 s' (waits_of t.1)) entered_is told);
     })))
-    c.go_on.ensures.turns
+    (c.go_on.ensures.turns v (results_of m x, subst (Fits m (results_of m x)) (sym entered_is) (calls_fit m s args x f v ok c.in-Some.ensures typed)))

@@ -5,21 +5,29 @@ use Rattle.interp.specs.Runs.{RunsTo}
 use Rattle.interp.specs.View.{store_of, running_of, taking}
 use Rattle.interp.proofs.go_on.go_on.Goals as goal
 
-pub returns-in-Trapped-clause-turns : goal.returns-in-Trapped-clause-turns
-returns-in-Trapped-clause-turns c =
+pub returns-in-Returned-clause-turns : goal.returns-in-Returned-clause-turns
+returns-in-Returned-clause-turns c = λ v ok.
     let m = module_of c.args.program.now.source.now in
     let from = running_of (store_of c.args.store.now) c.args.stack in
     let to = running_of (store_of c.run.new.store) c.run.new.stack in
     let used = c.run.new.steps.used - c.args.steps.now.used in
-    (subst (λ t. RunsTo m from c.args.steps.now.left used t to) c.in-Trapped.is c.in_ok-value.ensures.runs, refl)
+    (subst (λ t. RunsTo m from c.args.steps.now.left used t to) c.in-Returned.is (c.in_ok-value.ensures.runs v ok), refl)
+
+pub returns-in-Trapped-clause-turns : goal.returns-in-Trapped-clause-turns
+returns-in-Trapped-clause-turns c = λ v ok.
+    let m = module_of c.args.program.now.source.now in
+    let from = running_of (store_of c.args.store.now) c.args.stack in
+    let to = running_of (store_of c.run.new.store) c.run.new.stack in
+    let used = c.run.new.steps.used - c.args.steps.now.used in
+    (subst (λ t. RunsTo m from c.args.steps.now.left used t to) c.in-Trapped.is (c.in_ok-value.ensures.runs v ok), refl)
 
 pub returns-in-Asked-clause-turns : goal.returns-in-Asked-clause-turns
-returns-in-Asked-clause-turns c =
+returns-in-Asked-clause-turns c = λ v ok.
     let m = module_of c.args.program.now.source.now in
     let from = running_of (store_of c.args.store.now) c.args.stack in
     let to = running_of (store_of c.run.new.store) c.run.new.stack in
     let used = c.run.new.steps.used - c.args.steps.now.used in
-    let told = subst (λ t. RunsTo m from c.args.steps.now.left used t to) c.in-Asked.is c.in_ok-value.ensures.runs in
+    let told = subst (λ t. RunsTo m from c.args.steps.now.left used t to) c.in-Asked.is (c.in_ok-value.ensures.runs v ok) in
     let args = c.in_ok-args-in-Asked.ensures.items
     ∙ c.args_of-args.ensures
     ∙ ap (λ n. reverse (take n (drop c.in-Asked.own (reverse c.run.new.stack.here.operands.items)))) c.saturating_sub.ensures in
@@ -31,10 +39,10 @@ returns-in-Asked-clause-turns c =
     }
 
 pub returns-clause-turns : goal.returns-clause-turns
-returns-clause-turns c =
+returns-clause-turns c = λ v ok.
     let m = module_of c.args.program.now.source.now in
     let from = running_of (store_of c.args.store.now) c.args.stack in
     let to = running_of (store_of c.run.new.store) c.run.new.stack in
     let used = c.run.new.steps.used - c.args.steps.now.used in
-    let told = subst (λ t. RunsTo m from c.args.steps.now.left used t to) c.in-Spent.is c.in_ok-value.ensures.runs in
+    let told = subst (λ t. RunsTo m from c.args.steps.now.left used t to) c.in-Spent.is (c.in_ok-value.ensures.runs v ok) in
     (record { at = told.at; store_is = told.store_is; ends = told.ends }, refl)

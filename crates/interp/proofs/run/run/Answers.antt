@@ -29,7 +29,7 @@ loop-steps-preserved c =
     }
 
 pub returns-in-Returned-clause-runs : goal.returns-in-Returned-clause-runs
-returns-in-Returned-clause-runs c =
+returns-in-Returned-clause-runs c = λ v ok.
     let m = module_of c.args.program.now.source.now in
     let from = running_of (store_of c.args.store.now) c.args.stack.now in
     let at = running_of (store_of c.loop-steps.store) c.loop-steps.stack in
@@ -39,11 +39,11 @@ returns-in-Returned-clause-runs c =
     let more = c.in-Returned.more in
     let paid : c.pay-in-Returned.new.steps.used - c.args.steps.now.used ≡ n + (more + 1) = omega (arith, c.pay-in-Returned.ensures.used, c.loop-steps.invariant.grows) in
     let enough : c.pay-in-Returned.new.steps.used - c.args.steps.now.used ≤ c.args.steps.now.left = omega (arith, c.pay-in-Returned.ensures.used, c.pay-in-Returned.ensures.left, c.loop-steps.invariant.grows, c.loop-steps.invariant.sum) in
-    let values = returned_listed m from n more at told.0.values to.store c.in-Returned.value c.requires.valid c.requires.sound c.loop-steps.invariant.goes told.0.next_is told.0.value_is in
+    let values = returned_listed m from n more at told.0.values to.store c.in-Returned.value v ok c.loop-steps.invariant.goes told.0.next_is told.0.value_is in
     ends_by m from c.args.steps.now.left n more _ at _ (it_returned (option_to_list c.in-Returned.value) to.store) c.loop-steps.invariant.goes told.0.next_is ((let e : more + 1 ≡ suc more = omega arith in e), ap (λ vs. it_returned vs to.store) (sym values)) paid enough
 
 pub returns-in-Trapped-clause-runs : goal.returns-in-Trapped-clause-runs
-returns-in-Trapped-clause-runs c =
+returns-in-Trapped-clause-runs c = λ v ok.
     let m = module_of c.args.program.now.source.now in
     let from = running_of (store_of c.args.store.now) c.args.stack.now in
     let at = running_of (store_of c.loop-steps.store) c.loop-steps.stack in
@@ -56,7 +56,7 @@ returns-in-Trapped-clause-runs c =
     ends_by m from c.args.steps.now.left n more _ at _ (it_trapped c.in-Trapped.trap to.store) c.loop-steps.invariant.goes told.0 ((let e : more + 1 ≡ suc more = omega arith in e), refl) paid enough
 
 pub returns-in-Asked-clause-runs : goal.returns-in-Asked-clause-runs
-returns-in-Asked-clause-runs c =
+returns-in-Asked-clause-runs c = λ v ok.
     let m = module_of c.args.program.now.source.now in
     let from = running_of (store_of c.args.store.now) c.args.stack.now in
     let at = running_of (store_of c.loop-steps.store) c.loop-steps.stack in
@@ -69,7 +69,7 @@ returns-in-Asked-clause-runs c =
     ends_by m from c.args.steps.now.left n more _ at _ (it_asks c.in-Asked.import (args_below c.in-Asked.own (c.in-Asked.taken - c.in-Asked.own) to) (taking c.in-Asked.taken to)) c.loop-steps.invariant.goes told.0 ((let e : more + 1 ≡ suc more = omega arith in e), refl) paid enough
 
 pub returns-in-Spent-clause-runs : goal.returns-in-Spent-clause-runs
-returns-in-Spent-clause-runs c =
+returns-in-Spent-clause-runs c = λ v ok.
     let m = module_of c.args.program.now.source.now in
     let from = running_of (store_of c.args.store.now) c.args.stack.now in
     let at = running_of (store_of c.loop-steps.store) c.loop-steps.stack in
@@ -77,13 +77,13 @@ returns-in-Spent-clause-runs c =
     let n = c.loop-steps.steps.used - c.args.steps.now.used in
     let told = subst (λ f. Tells at.store (step m at) c.loop-steps.steps.left f to) c.in-Spent.is c.in_ok-more.ensures.tells in
     let left : c.args.steps.now.left ≡ n + c.loop-steps.steps.left = omega (arith, c.loop-steps.invariant.grows, c.loop-steps.invariant.sum) in
-    record { at = at; store_is = sym told.1; ends = ends_spent m from c.args.steps.now.left n c.loop-steps.steps.left at c.requires.valid c.requires.sound c.loop-steps.invariant.goes left told.0 }
+    record { at = at; store_is = sym told.1; ends = ends_spent m from c.args.steps.now.left n c.loop-steps.steps.left at v ok c.loop-steps.invariant.goes left told.0 }
 
 pub returns-clause-runs : goal.returns-clause-runs
-returns-clause-runs c =
+returns-clause-runs c = λ v ok.
     let m = module_of c.args.program.now.source.now in
     let from = running_of (store_of c.args.store.now) c.args.stack.now in
     let at = running_of (store_of c.loop-steps.store) c.loop-steps.stack in
     let n = c.loop-steps.steps.used - c.args.steps.now.used in
     let left : c.args.steps.now.left ≡ n + c.loop-steps.steps.left = omega (arith, c.loop-steps.invariant.grows, c.loop-steps.invariant.sum) in
-    record { at = at; store_is = refl; ends = ends_spent m from c.args.steps.now.left n c.loop-steps.steps.left at c.requires.valid c.requires.sound c.loop-steps.invariant.goes left (nothing_left (step m at) c.loop-steps.steps.left c.loop-steps-test.false) }
+    record { at = at; store_is = refl; ends = ends_spent m from c.args.steps.now.left n c.loop-steps.steps.left at v ok c.loop-steps.invariant.goes left (nothing_left (step m at) c.loop-steps.steps.left c.loop-steps-test.false) }

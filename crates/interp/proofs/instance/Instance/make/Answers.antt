@@ -18,10 +18,10 @@ pub of-requires-clause-few : goal.of-requires-clause-few
 of-requires-clause-few c = all_few (module_of c.module.result.now) c.module.result.now.funcs.items c.module.ensures.sizes.each_func
 
 pub returns-clause-fits : goal.returns-clause-fits
-returns-clause-fits c =
+returns-clause-fits c = λ typed_globals.
     let m = module_of c.module.result.now in
     let globals = c.args.globals.now in
-    let typed = subst (λ v. types_of globals ≡ global_types (imported imported_global (module_of v))) (sym c.module.ensures.same) c.requires.globals in
+    let typed = subst (λ v. types_of globals ≡ global_types (imported imported_global (module_of v))) (sym c.module.ensures.same) typed_globals in
     both_ok c.of.result (λ i. code_in i ≡ m) (λ i. opening m globals ≡ opens (store_in i)) (λ i. StoreFits (code_in i) (store_in i))
     (λ i is_code is_store. subst (λ n. StoreFits n (store_in i)) (sym is_code) (openings_fit m globals (store_in i) c.module.ensures.valid typed is_store))
     c.of.ensures.code c.of.ensures.store
