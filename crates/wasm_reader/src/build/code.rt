@@ -45,7 +45,8 @@ fn sequence(alloc: Global, input: &mut Cursor<'_>) -> Result<(Vec<Instr>, Mark),
     ensures built { BuildsSequence result input.old input.new }
     ensures left { length input.new.left ≤ length input.old.left }
 {
-    let mut body = Vec::new(alloc);
+    // A level of one instruction takes room for no more.
+    let mut body = Vec::with_capacity(alloc, 1)?;
     loop {
         match next_of(alloc, input)? {
             Next::Instr(instr) => body.push(instr)?,
