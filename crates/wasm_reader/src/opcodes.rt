@@ -26,7 +26,7 @@ pub(crate) enum Shape {
 }
 
 /// What follows this opcode.
-#[inline]
+#[inline(always)]
 pub(crate) fn operand_shape(op: u8) -> Option<Shape>
     ensures { follows_of result ≡ follows op }
 {

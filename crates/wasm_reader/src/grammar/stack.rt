@@ -146,6 +146,7 @@ impl Goals {
     }
 
     /// Puts a goal before the others, or leaves them.
+    #[inline(always)]
     pub(crate) fn push(&mut self, _alloc: Global, goal: Goal) -> Result<(), AllocError>
         ensures ok { OnOk result (self.new ≡ goal_of goal ∷ self.old) }
         ensures err { OnErr result (self.new ≡ self.old) }
