@@ -6,7 +6,7 @@ use Rattle.std.proofs.lemmas.Bool.{lt-ltb, le-ltb, cases_lt}
 use Rattle.std.proofs.Math.Pow.{pow_mono}
 use Rattle.wa_types.specs.Leb.{IsUnsigned, IsSigned, last_signed}
 use Rattle.wa_types.specs.Opcodes.{Follows, no_operand, an_index, an_access, a_constant, follows, is_block_type}
-use Rattle.wa_types.specs.Begun.{Goal, code, block_type, number, signed, entries, Kind, Item, a_byte, an_unsigned, a_signed, a_name, a_constant_of, wants, first_of, IsItem, next, Steps, Inside, settled, entry, operands, where_true, and_then, others}
+use Rattle.wa_types.specs.Begun.{Goal, code, block_type, number, signed, entries, Kind, Item, a_byte, an_unsigned, a_signed, a_name, a_constant_of, wants, IsItem, next, Inside, settled, operands, where_true, and_then, others}
 use Rattle.wa_types.proofs.CodeReads.{refuted, none_nest}
 use Rattle.wasm_reader.specs.Items.{IsTold, IsWholeItem}
 use Rattle.wasm_reader.specs.Ends.{IsReached}

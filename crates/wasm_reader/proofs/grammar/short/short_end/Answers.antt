@@ -1,4 +1,4 @@
-use Rattle.std.proofs.Common.{◌≡◌, ℕ, Some, ◌+◌, ◌<◌, get_or, subst, arith}
+use Rattle.std.proofs.Common.{◌≡◌, Some, ◌+◌, ◌<◌, get_or, subst, arith}
 use Rattle.wa_types.specs.Opcodes.{follows}
 use Rattle.wasm_reader.specs.Shapes.{shape_of}
 use Rattle.wasm_reader.specs.Passing.{Passes}
