@@ -24,7 +24,7 @@ cut_between bytes at j k h i =
     ap (λ n. take n (drop at bytes)) (omega arith) ∙ take-add (j - at) (k - j) (drop at bytes)
     ∙ ap (λ s. between bytes at j ++ take (k - j) s) (drop-drop (j - at) at bytes ∙ ap (λ n. drop n bytes) (omega arith))
 
-length_between : (bytes : List ℕ) (at k : ℕ) → at ≤ k → k ≤ length bytes → length (between bytes at k) ≡ k - at
+pub length_between : (bytes : List ℕ) (at k : ℕ) → at ≤ k → k ≤ length bytes → length (between bytes at k) ≡ k - at
 length_between bytes at k h fits = length-take-le (k - at) (drop at bytes) (omega (arith, length-drop at bytes))
 
 -- the front of what stands between two places

@@ -1,6 +1,6 @@
 -- The stack of goals, whose top is the last of a list, and the least ends beside it.
-use Rattle.std.proofs.Common.{◌≡◌, ℕ, ◌+◌, ◌-◌, ◌<◌, ◌≤◌, List, [], ◌∷◌, ◌++◌, Option, Some, None, refl, ap, sym, ◌∙◌, subst, arith, length, take, drop, reverse, map, get_or, min, Bool, true, false, nat_lt, MatchBool}
-use Rattle.std.proofs.lemmas.List.{reverse-append, take_more, take_all}
+use Rattle.std.proofs.Common.{◌≡◌, ℕ, ◌+◌, ◌-◌, ◌<◌, ◌≤◌, List, [], ◌∷◌, ◌++◌, Option, Some, None, refl, ap, sym, ◌∙◌, subst, arith, length, length-take-le, take, drop, reverse, map, get_or, min, Bool, true, false, nat_lt, MatchBool}
+use Rattle.std.proofs.lemmas.List.{reverse-append, take_more, take_all, drop-map, drop-drop, get_or-take}
 use Rattle.std.proofs.lemmas.Bool.{ltb-true, ltb-false}
 use Rattle.std.specs.Option.{is_some}
 use Rattle.wa_types.specs.Begun.{Goal, end_of, Inside, IsBefore, settled, closing, passed, next, Steps}
@@ -29,6 +29,16 @@ turned_less (x ∷ xs) = ap (drop 1) (sym (turned (x ∷ xs) x (omega arith)))
 
 pub stack_top : (xs : List Wanted) (d : Wanted) → 0 < length xs → stack_of xs ≡ goal_of (get_or xs (length xs - 1) d) ∷ drop 1 (stack_of xs)
 stack_top xs d some = let e = ap (map goal_of) (turned xs d some) in e ∙ ap (λ z. goal_of (get_or xs (length xs - 1) d) ∷ drop 1 z) (sym e)
+
+-- the goal behind the first
+pub stack_second : (xs : List Wanted) (n : ℕ) (d : Wanted) → 1 < length xs → n + 2 ≡ length xs → drop 1 (stack_of xs) ≡ goal_of (get_or xs n d) ∷ drop 2 (stack_of xs)
+stack_second xs n d some place =
+    let less : List Wanted = take (length xs - 1) xs in
+    let long : length less ≡ length xs - 1 = length-take-le (length xs - 1) xs (omega arith) in
+    let shift : stack_of less ≡ drop 1 (stack_of xs) = ap (map goal_of) (turned_less xs) ∙ sym (drop-map goal_of 1 (reverse xs)) in
+    let same : get_or less (length less - 1) d ≡ get_or xs n d = get_or-take (length xs - 1) xs (length less - 1) d (omega (arith, long, some)) ∙ ap (λ k. get_or xs k d) (omega (arith, long, place)) in
+    let far : drop 1 (drop 1 (stack_of xs)) ≡ drop 2 (stack_of xs) = drop-drop 1 1 (stack_of xs) in
+    sym shift ∙ stack_top less d (omega (arith, long, some)) ∙ ap (λ z. goal_of z ∷ drop 1 (stack_of less)) same ∙ ap (λ z. goal_of (get_or xs n d) ∷ drop 1 z) shift ∙ ap (λ z. goal_of (get_or xs n d) ∷ z) far
 
 pub least_top : (gs : List Goal) (ends : List ℕ) (d : ℕ) → 0 < length ends → least_ends gs ≡ reverse ends → least_ends gs ≡ get_or ends (length ends - 1) d ∷ drop 1 (least_ends gs)
 least_top gs ends d some e = let t = e ∙ turned ends d some in t ∙ ap (λ z. get_or ends (length ends - 1) d ∷ drop 1 z) (sym t)

@@ -24,6 +24,7 @@ pub mod SectionParts
 pub mod ShortCode
 pub mod ShortEntries
 pub mod ShortFile
+pub mod ShortItems
 pub mod ShortNumbers
 pub mod Skipping
 pub mod SpelledCodeSizes

@@ -10,6 +10,7 @@ pub mod Items
 pub mod Locals
 pub mod Machine
 pub mod Marking
+pub mod Passing
 pub mod Places
 pub mod Scanning
 pub mod Shapes

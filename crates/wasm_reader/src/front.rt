@@ -2,9 +2,10 @@ ghost use Rattle.std.specs.Prelude.{◌≡◌, ℕ, ◌+◌, ◌<◌, ◌^◌, [
 ghost use Rattle.wa_types.specs.Leb.{IsUnsigned, IsSigned};
 ghost use Rattle.wasm_reader.specs.Places.{Onward, ReadsNumber, place_in};
 
+use crate::numbers;
 use std::marker::Model;
 use thiserror::Error;
-use wa_types::{LebFault, read_s32, read_s64, read_u32};
+use wa_types::LebFault;
 
 /// The bytes don't spell what was to be read.
 #[derive(Clone, Copy, Debug, PartialEq, Eq, Error)]
@@ -85,7 +86,7 @@ impl<'a> Cursor<'a> {
         ensures fits { IfOk result (λ n. n < 2 ^ 32) }
         ensures onward { Onward self.old self.new }
     {
-        Ok(read_u32(self.bytes, &mut self.at)?)
+        Ok(numbers::unsigned_32(self.bytes, &mut self.at)?)
     }
 
     /// A signed number of 32 bits, in two's complement.
@@ -93,7 +94,7 @@ impl<'a> Cursor<'a> {
         ensures read { ReadsNumber (IsSigned 32) result self.old self.new }
         ensures onward { Onward self.old self.new }
     {
-        let n = read_s32(self.bytes, &mut self.at)?;
+        let n = numbers::signed_32(self.bytes, &mut self.at)?;
         Ok(n.cast_unsigned())
     }
 
@@ -102,7 +103,7 @@ impl<'a> Cursor<'a> {
         ensures read { ReadsNumber (IsSigned 64) result self.old self.new }
         ensures onward { Onward self.old self.new }
     {
-        let n = read_s64(self.bytes, &mut self.at)?;
+        let n = numbers::signed_64(self.bytes, &mut self.at)?;
         Ok(n.cast_unsigned())
     }
 

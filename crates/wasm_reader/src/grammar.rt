@@ -5,6 +5,7 @@ mod goals;
 mod items;
 pub(crate) mod machine;
 mod next;
+mod short;
 mod stack;
 
 pub(crate) use machine::{CheckFault, check};

@@ -14,6 +14,7 @@ mod front;
 mod grammar;
 mod locals;
 mod marks;
+mod numbers;
 mod opcodes;
 mod read_fault;
 mod reader;

@@ -26,6 +26,7 @@ pub(crate) enum Shape {
 }
 
 /// What follows this opcode.
+#[inline(always)]
 pub(crate) fn operand_shape(op: u8) -> Option<Shape>
     ensures { follows_of result ≡ follows op }
 {

@@ -24,9 +24,9 @@ use wa_types::{Bounds, LimitKind, Module};
 /// for what the module holds and for the constructs that are open at once.
 ///
 /// Else the first of these: `Limit` of `File`; `Malformed`, exactly where the bytes spell no module, with the least
-/// number of first bytes that no module's bytes begin with, or all of them; `Float` and `Deep` with the least offset;
-/// the other limits in the order of `LimitKind`, `Deep` before `Locals`, each with the first number past its bound.
-/// `Memory` may come in the place of any answer.
+/// number of first bytes that aren't the beginning of items in an order of the grammar (`Begun`), or the input's length
+/// where there is none; `Float` and `Deep` with the least offset; the other limits in the order of `LimitKind`, `Deep`
+/// before `Locals`, each with the first number past its bound. `Memory` may come in the place of any answer.
 pub fn read(alloc: Global, bytes: &[u8], bounds: &Bounds) -> Result<Module, ReadFault>
     ensures ok { IfOk result (λ r. IsAccepted bounds.now bytes.now (module_of r)) }
     ensures sizes { IfOk result (λ r. SizeRule (module_of r)) }

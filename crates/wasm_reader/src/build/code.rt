@@ -28,6 +28,7 @@ pub(crate) enum Mark {
 
 /// An expression (standard, section 5.4.6): the instructions up to their end.
 #[cycle(code)]
+#[inline(always)]
 pub(crate) fn expression(alloc: Global, input: &mut Cursor<'_>) -> Result<Vec<Instr>, BuildFault>
     ensures built { Builds (λ v. code v.items) SpelledExpression result input.old input.new }
     ensures left { length input.new.left ≤ length input.old.left }
@@ -45,7 +46,8 @@ fn sequence(alloc: Global, input: &mut Cursor<'_>) -> Result<(Vec<Instr>, Mark),
     ensures built { BuildsSequence result input.old input.new }
     ensures left { length input.new.left ≤ length input.old.left }
 {
-    let mut body = Vec::new(alloc);
+    // A level of one instruction takes room for no more.
+    let mut body = Vec::with_capacity(alloc, 1)?;
     loop {
         match next_of(alloc, input)? {
             Next::Instr(instr) => body.push(instr)?,
@@ -87,6 +89,7 @@ fn next_of(alloc: Global, input: &mut Cursor<'_>) -> Result<Next, BuildFault>
 
 // The result and the body of a block or a loop, behind its opcode.
 #[cycle(code)]
+#[inline(always)]
 fn construct(
     alloc: Global,
     input: &mut Cursor<'_>,

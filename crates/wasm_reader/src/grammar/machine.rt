@@ -1,11 +1,14 @@
-ghost use Rattle.std.specs.Prelude.{◌≡◌, ℕ, List, ◌∷◌, ◌<◌, ◌≤◌, ◌-◌, ◌++◌, length, take, drop, OnOk, IfOk, IfErr, MatchBool};
-ghost use Rattle.wa_types.specs.Begun.{Begun, IsWhole, wants, Inside, Goal as Wanted};
+ghost use Rattle.std.specs.Prelude.{◌≡◌, ℕ, Bool, List, ◌∷◌, ◌<◌, ◌≤◌, ◌-◌, ◌++◌, length, take, drop, OnOk, IfOk, IfErr, MatchBool};
+ghost use Rattle.std.specs.Bool.{OnTrue};
+ghost use Rattle.wa_types.specs.Begun.{Begun, IsWhole, wants, Inside, code, Goal as Wanted};
 ghost use Rattle.wasm_reader.specs.Goals.{goal_of};
 ghost use Rattle.wasm_reader.specs.Items.{FrontIs};
 ghost use Rattle.wasm_reader.specs.Machine.{Stands, Waits, IsFault, IsCause};
+ghost use Rattle.wasm_reader.specs.Passing.{Below};
 
 use crate::grammar::goals::Goal;
 use crate::grammar::items::{Front, read_item, wants};
+use crate::grammar::short::{closes, opened, pass_short, short_entries};
 use crate::grammar::stack::Goals;
 use std::alloc::{AllocError, Global};
 use thiserror::Error;
@@ -56,7 +59,7 @@ impl Machine {
         ensures more { OnOk result ((piece : List ℕ) → Stands (bytes.now ++ piece) self.new.at self.new.goals) }
         ensures err { IfErr result (IsFault bytes.now) }
     {
-        while self.advance(alloc, bytes)? {}
+        while self.go_on(alloc, bytes)? {}
         Ok(())
     }
 
@@ -74,6 +77,94 @@ impl Machine {
             return Err(cut);
         }
         Ok(())
+    }
+
+    // Takes what is short, and one more item; false where that isn't whole yet.
+    fn go_on(&mut self, alloc: Global, bytes: &[u8]) -> Result<bool, CheckFault>
+        requires { Stands bytes.now self.old.at self.old.goals }
+        ensures on { IfOk result (λ on. MatchBool on (Stands bytes.now self.new.at self.new.goals) (Waits bytes.now self.new.at self.new.goals)) }
+        ensures more { IfOk result (λ on. MatchBool on ((self.old.at < self.new.at) × (self.new.at ≤ length bytes.now)) Unit) }
+        ensures err { IfErr result (IsFault bytes.now) }
+    {
+        self.pass(alloc, bytes)?;
+        self.advance(alloc, bytes)
+    }
+
+    // Takes what is short.
+    fn pass(&mut self, alloc: Global, bytes: &[u8]) -> Result<(), AllocError>
+        requires { Stands bytes.now self.old.at self.old.goals }
+        ensures ok { OnOk result (Stands bytes.now self.new.at self.new.goals) }
+        ensures ahead { self.old.at ≤ self.new.at }
+    {
+        let Some(stop) = self.goals.end_within(bytes.len()) else {
+            return Ok(());
+        };
+        self.pass_entries(alloc, bytes, stop)?;
+        while self.pass_code(alloc, bytes, stop)? {}
+        Ok(())
+    }
+
+    // Takes entries of one byte each, with one left.
+    fn pass_entries(&mut self, alloc: Global, bytes: &[u8], stop: usize) -> Result<(), AllocError>
+        requires stands { Stands bytes.now self.old.at self.old.goals }
+        requires below { Below stop self.old.goals }
+        requires stop { stop ≤ length bytes.now }
+        ensures ok { OnOk result (Stands bytes.now self.new.at self.new.goals) }
+        ensures below { OnOk result (Below stop self.new.goals) }
+        ensures ahead { self.old.at ≤ self.new.at }
+    {
+        let Some(goal) = self.goals.top() else {
+            return Ok(());
+        };
+        match goal {
+            Goal::Entries(kind, n) => {
+                let passed = short_entries(kind, n, bytes, self.at, stop);
+                if passed == 0 {
+                    return Ok(());
+                }
+                self.goals.pop();
+                self.goals.push(alloc, Goal::Entries(kind, n - passed))?;
+                self.at += passed as usize;
+                Ok(())
+            }
+            _ => Ok(()),
+        }
+    }
+
+    // Takes short instructions of one level, and opens or closes a level behind them; false where neither stands there.
+    fn pass_code(&mut self, alloc: Global, bytes: &[u8], stop: usize) -> Result<bool, AllocError>
+        requires stands { Stands bytes.now self.old.at self.old.goals }
+        requires below { Below stop self.old.goals }
+        requires stop { stop ≤ length bytes.now }
+        ensures ok { OnOk result (Stands bytes.now self.new.at self.new.goals) }
+        ensures below { OnOk result (Below stop self.new.goals) }
+        ensures ahead { self.old.at ≤ self.new.at }
+        ensures more { IfOk result (λ on. OnTrue on (self.old.at < self.new.at)) }
+    {
+        let Some(goal) = self.goals.top() else {
+            return Ok(false);
+        };
+        if !is_code(goal) {
+            return Ok(false);
+        }
+        self.at = pass_short(bytes, self.at, stop);
+        if let Some(first_arm) = opened(bytes, self.at, stop) {
+            self.goals.push(alloc, Goal::Code { first_arm })?;
+            self.at += 2;
+            return Ok(true);
+        }
+        if !closes(bytes, self.at, stop) {
+            return Ok(false);
+        }
+        let Some(second) = self.goals.second() else {
+            return Ok(false);
+        };
+        if !is_code(second) {
+            return Ok(false);
+        }
+        self.goals.pop();
+        self.at += 1;
+        Ok(true)
     }
 
     // Takes one more item; false where it isn't whole yet.
@@ -129,6 +220,16 @@ fn item_between(goal: Goal, bytes: &[u8], at: usize, stop: usize) -> Front
     ensures { FrontIs (wants (goal_of goal)) (take (stop - at) (drop at bytes.now)) result }
 {
     read_item(wants(goal), &bytes[at..stop])
+}
+
+// Whether instructions are wanted.
+fn is_code(goal: Goal) -> bool
+    ensures { OnTrue result ((first_arm : Bool) × (goal_of goal ≡ code first_arm)) }
+{
+    match goal {
+        Goal::Code { .. } => true,
+        _ => false,
+    }
 }
 
 /// Whether the bytes are a whole file (standard, section 5.5.15), or else where they fail.

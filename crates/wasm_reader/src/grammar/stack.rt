@@ -66,6 +66,17 @@ impl Goals {
         }
     }
 
+    /// The goal behind the first.
+    pub(crate) fn second(&self) -> Option<Goal>
+        ensures { IfSome result (λ g. drop 1 self.now ≡ goal_of g ∷ drop 2 self.now) }
+    {
+        let count = self.stack.len();
+        if count < 2 {
+            return None;
+        }
+        Some(self.stack[count - 2])
+    }
+
     // The least end of a content.
     fn least_end(&self) -> Option<u64>
         ensures { IsLeastEnd self.now result }
@@ -134,8 +145,9 @@ impl Goals {
         }
     }
 
-    // Puts a goal before the others, or leaves them.
-    fn push(&mut self, _alloc: Global, goal: Goal) -> Result<(), AllocError>
+    /// Puts a goal before the others, or leaves them.
+    #[inline(always)]
+    pub(crate) fn push(&mut self, _alloc: Global, goal: Goal) -> Result<(), AllocError>
         ensures ok { OnOk result (self.new ≡ goal_of goal ∷ self.old) }
         ensures err { OnErr result (self.new ≡ self.old) }
     {
@@ -174,8 +186,8 @@ impl Goals {
         self.push_some(alloc, goals.0)
     }
 
-    // Takes the first goal away.
-    fn pop(&mut self)
+    /// Takes the first goal away.
+    pub(crate) fn pop(&mut self)
         ensures { self.new ≡ drop 1 self.old }
     {
         if let Some(goal) = self.stack.pop() {

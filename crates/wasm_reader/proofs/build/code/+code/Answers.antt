@@ -107,11 +107,11 @@ next_of-returns-in_ok-plain-in_default-clause-built t c =
 
 pub sequence-loop-body-init : goal.sequence-loop-body-init
 sequence-loop-body-init t c =
-    record { left = omega arith; taken = taken_none _ _ c.new-body.ensures.items }
+    record { left = omega arith; taken = taken_none _ _ c.in_ok-body.ensures.items }
 
 pub sequence-returns-in_err-instr-clause-built : goal.sequence-returns-in_err-instr-clause-built
 sequence-returns-in_err-instr-clause-built t c =
-    let p = err_from_is_err_and c.from_residual.result c.from_residual.ensures.1 in
+    let p = err_from_is_err_and c.from_residual-in_err-instr.result c.from_residual-in_err-instr.ensures.1 in
     taken_stop c.loop-body.invariant.taken p.1 p.2 c.in_err-instr.ensures.built
 
 pub sequence-loop-body-preserved : goal.sequence-loop-body-preserved

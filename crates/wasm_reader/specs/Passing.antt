@@ -1,0 +1,33 @@
+-- What is passed over at once, before a stop: so many bytes lead from some goals to others.
+use Rattle.std.specs.Prelude.{◌≡◌, ℕ, ◌+◌, ◌-◌, ◌<◌, List, [], ◌∷◌, Some, Bool}
+use Rattle.wa_types.specs.Begun.{Goal, code, entries, Kind, first_of, IsItem, Inside, entry}
+use Rattle.wasm_reader.specs.Machine.{Stands}
+
+-- no content ends before this place
+abbrev pub Below : ℕ → List Goal → Type 0
+Below stop gs = (j : ℕ) → j < stop → Inside j gs
+
+-- instructions of one level
+abbrev pub Passes : List ℕ → (at end stop : ℕ) → Type 0
+Passes bytes at end stop =
+    (first_arm : Bool) (gs : List Goal) → Below stop gs → Stands bytes at (code first_arm ∷ gs) → Stands bytes end (code first_arm ∷ gs)
+
+-- the head of a construct, whose level is in a first arm or not
+abbrev pub Opens : List ℕ → (at : ℕ) → (inner : Bool) → (stop : ℕ) → Type 0
+Opens bytes at inner stop =
+    (first_arm : Bool) (gs : List Goal) → Below stop gs → Stands bytes at (code first_arm ∷ gs) → Stands bytes (at + 2) (code inner ∷ code first_arm ∷ gs)
+
+-- an end
+abbrev pub Closes : List ℕ → (at stop : ℕ) → Type 0
+Closes bytes at stop =
+    (inner first_arm : Bool) (gs : List Goal) → Below stop gs → Stands bytes at (code inner ∷ code first_arm ∷ gs) → Stands bytes (at + 1) (code first_arm ∷ gs)
+
+-- so many of n entries
+abbrev pub PassesEntries : List ℕ → Kind → (n at passed stop : ℕ) → Type 0
+PassesEntries bytes k n at passed stop =
+    (gs : List Goal) → Below stop gs → Stands bytes at (entries k n ∷ gs) → Stands bytes (at + passed) (entries k (n - passed) ∷ gs)
+
+-- an entry of this kind is this byte alone
+pub record IsAlone (k : Kind) (byte : ℕ) : Type 0 where
+  pub is_item : IsItem (first_of k) (byte ∷ []) byte
+  pub leaves_none : (at : ℕ) → entry k byte at ≡ Some []

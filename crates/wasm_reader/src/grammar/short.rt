@@ -1,0 +1,124 @@
+// Runs of items of one byte each, taken at once. They stop before the end of a content.
+ghost use Rattle.std.specs.Prelude.{ℕ, ◌≡◌, ◌+◌, ◌<◌, ◌≤◌, length, get_or, IfSome};
+ghost use Rattle.std.specs.Bool.{OnTrue};
+ghost use Rattle.wa_types.specs.Opcodes.{is_block_type};
+ghost use Rattle.wasm_reader.specs.Goals.{kind_of};
+ghost use Rattle.wasm_reader.specs.Passing.{Passes, Opens, Closes, PassesEntries, IsAlone};
+
+use crate::grammar::goals::Kind;
+use crate::opcodes::{Shape, operand_shape};
+
+// The place behind a number of one byte.
+#[inline(always)]
+fn behind_byte(bytes: &[u8], at: usize) -> Option<usize>
+    requires { at < length bytes.now }
+    ensures { IfSome result (λ end. (end ≡ at + 1) × (get_or bytes.now at 0 < 128)) }
+{
+    if bytes[at] < 128 { Some(at + 1) } else { None }
+}
+
+// Where the instruction that begins here ends, if it holds no other, and each of its numbers has one byte.
+#[inline(always)]
+fn short_end(bytes: &[u8], at: usize, stop: usize) -> Option<usize>
+    requires { stop ≤ length bytes.now }
+    ensures ahead { IfSome result (λ end. (at < end) × (end < stop)) }
+    ensures passes { IfSome result (λ end. Passes bytes.now at end stop) }
+{
+    if stop.saturating_sub(at) < 4 {
+        return None;
+    }
+    match operand_shape(bytes[at])? {
+        Shape::Nothing => Some(at + 1),
+        Shape::Index => behind_byte(bytes, at + 1),
+        Shape::Constant32 => behind_byte(bytes, at + 1),
+        Shape::Constant64 => behind_byte(bytes, at + 1),
+        Shape::Access => behind_byte(bytes, behind_byte(bytes, at + 1)?),
+        _ => None,
+    }
+}
+
+/// Passes over short instructions (standard, sections 5.4.1 to 5.4.5): the place behind them.
+#[inline]
+pub(crate) fn pass_short(bytes: &[u8], at: usize, stop: usize) -> usize
+    requires { stop ≤ length bytes.now }
+    ensures ahead { at ≤ result }
+    ensures passes { Passes bytes.now at result stop }
+{
+    let mut place = at;
+    while let Some(end) = short_end(bytes, place, stop) {
+        place = end;
+    }
+    place
+}
+
+// Whether this byte is the result of a construct (standard, section 5.3.2).
+fn is_block_type(byte: u8) -> bool
+    ensures { result ≡ is_block_type byte }
+{
+    byte == 0x40 || (0x7C <= byte && byte <= 0x7F)
+}
+
+/// Whether an else may stand in the level that a construct opens here (standard, section 5.4.1), if one does.
+#[inline]
+pub(crate) fn opened(bytes: &[u8], at: usize, stop: usize) -> Option<bool>
+    requires { stop ≤ length bytes.now }
+    ensures room { IfSome result (λ inner. at + 2 < stop) }
+    ensures opens { IfSome result (λ inner. Opens bytes.now at inner stop) }
+{
+    if stop.saturating_sub(at) < 3 {
+        return None;
+    }
+    if !is_block_type(bytes[at + 1]) {
+        return None;
+    }
+    match bytes[at] {
+        0x02 => Some(false),
+        0x03 => Some(false),
+        0x04 => Some(true),
+        _ => None,
+    }
+}
+
+/// Whether an end stands here.
+#[inline]
+pub(crate) fn closes(bytes: &[u8], at: usize, stop: usize) -> bool
+    requires { stop ≤ length bytes.now }
+    ensures room { OnTrue result (at + 1 < stop) }
+    ensures closes { OnTrue result (Closes bytes.now at stop) }
+{
+    if stop.saturating_sub(at) < 2 {
+        return false;
+    }
+    bytes[at] == 0x0B
+}
+
+// Whether an entry is this byte alone.
+#[inline(always)]
+fn is_alone(kind: Kind, byte: u8) -> bool
+    ensures { OnTrue result (IsAlone (kind_of kind) byte) }
+{
+    match kind {
+        Kind::Bytes => true,
+        Kind::Indices => byte < 128,
+        Kind::Functions => byte < 128,
+        _ => false,
+    }
+}
+
+/// How many entries of so many can be passed over, each of one byte, with one left.
+#[inline]
+pub(crate) fn short_entries(kind: Kind, n: u32, bytes: &[u8], at: usize, stop: usize) -> u32
+    requires { stop ≤ length bytes.now }
+    ensures room { 0 < result → at + result < stop }
+    ensures fewer { result ≤ n }
+    ensures passes { PassesEntries bytes.now (kind_of kind) n at result stop }
+{
+    let room = stop.saturating_sub(at).saturating_sub(1);
+    let most = room.min(n.saturating_sub(1) as usize);
+    for index in 0..most {
+        if !is_alone(kind, bytes[at + index]) {
+            return index as u32;
+        }
+    }
+    most as u32
+}
