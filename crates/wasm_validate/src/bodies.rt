@@ -151,22 +151,22 @@ fn check_instr(
     }
 }
 
-/// Whether a body has its type; if not, its first fault.
+/// Whether a body has its type; if not, its first fault. The stacks are emptied first, so that one pair of them serves
+/// all bodies.
 pub(crate) fn check_whole(
-    alloc: Global,
     context: &Context<'_>,
+    labels: &mut Vec<Option<ValType>>,
+    o: &mut Operands,
     body: &[Instr],
 ) -> Result<(), BodyFail>
     requires { size (code body.now) < 2 ^ 64 }
     ensures { Judged result (body_verdict context.now (code body.now)) fine }
 {
-    let mut labels = Vec::new(alloc);
-    let mut o = Operands {
-        types: Vec::new(alloc),
-        base: 0,
-        free: false,
-    };
+    labels.clear();
+    o.types.clear();
+    o.base = 0;
+    o.free = false;
     let mut at = 0;
     let result = context.result();
-    check_body(context, &mut labels, &mut o, body, result, result, &mut at)
+    check_body(context, labels, o, body, result, result, &mut at)
 }
