@@ -2,9 +2,10 @@
 # Times reading and validating: `asyncify transform` of valid modules that it refuses behind both as not yet built (status
 # 14), beside `wasm-opt` reading and writing the same file and `wasm-validate` (Debian's binaryen and wabt). Each shape is
 # made at an eighth, a quarter, half and the whole of its bound: a body of 1 MB, blocks nested 1,000 deep, 100,000
-# functions, as many small bodies of 50,000 locals each, runs of one local each, and tables of 10,000 labels. User time,
-# the least of some runs. Fails where twice the size takes more than 2.6 times the time, and where 8 MB take more than half
-# the time of `wasm-opt` or of `wasm-validate`, whichever is less.
+# functions, as many small bodies of 50,000 locals each, and tables of 10,000 labels; and, for its growth alone, bodies
+# with a run for each of 50,000 locals. User time, the least of RUNS runs (5). SHAPES names the shapes to time.
+# Fails where twice the size takes more than 2.6 times the time, and where 8 MB take more than half the time of `wasm-opt`
+# or of `wasm-validate`, whichever is less.
 set -euo pipefail
 bench=$(cd "$(dirname "$0")" && pwd)
 temp=$(mktemp -d)
@@ -101,16 +102,17 @@ sys.exit(other != "none" and float(time) > float(times) * float(other) + 0.004)'
 
 "$bench/../asyncify" >/dev/null || true # builds it where it isn't there
 failed=0
-for shape in ${SHAPES:-long deep functions locals runs labels}; do
+for shape in ${SHAPES:-long deep functions locals labels runs}; do
     half=none
     for part in 1 2 4 8 whole; do
         [ "$part" = whole ] && [ "$shape" != long ] && continue
         make_module "$shape" "$part" "$temp/in.wasm"
         time=$(measure 14 "$runs" "$bench/../asyncify" transform "$temp/in.wasm" "$temp/out.wasm")
-        echo "$shape: $part eighths, $(stat -c %s "$temp/in.wasm") bytes in $time s"
+        echo "$shape: $(stat -c %s "$temp/in.wasm") bytes in $time s"
         [ "$part" = whole ] || within "$time" 2.6 "$half" || { echo "$shape: twice the size takes more than 2.6 times the time"; failed=1; }
         half=$time
     done
+    [ "$shape" = runs ] && continue
     if command -v wasm-opt >/dev/null && command -v wasm-validate >/dev/null; then
         opt=$(measure 0 1 wasm-opt "$temp/in.wasm" -o "$temp/out.wasm")
         valid=$(measure 0 "$runs" wasm-validate "$temp/in.wasm")
