@@ -32,65 +32,41 @@ fn rules_outside_the_bodies_are_told(rt: HostRuntime) -> Result<(), Fail> {
     let rows = [
         // a function of a type that isn't there
         (
-            HEAD,
             &b"\x03\x02\x01\0\x0a\x04\x01\x02\0\x0b"[..],
             "invalid rule 1 module\n",
         ),
         // a start function that isn't there
-        (HEAD, b"\x08\x01\0", "invalid rule 2 module\n"),
+        (b"\x08\x01\0", "invalid rule 2 module\n"),
         // an export of a table that isn't there
-        (HEAD, b"\x07\x05\x01\x01a\x01\0", "invalid rule 3 module\n"),
+        (b"\x07\x05\x01\x01a\x01\0", "invalid rule 3 module\n"),
         // data for a memory that isn't there
-        (
-            HEAD,
-            b"\x0b\x06\x01\0\x41\0\x0b\0",
-            "invalid rule 4 module\n",
-        ),
+        (b"\x0b\x06\x01\0\x41\0\x0b\0", "invalid rule 4 module\n"),
         // a global that begins as one that isn't there
-        (
-            HEAD,
-            b"\x06\x06\x01\x7f\0\x23\x01\x0b",
-            "invalid rule 5 module\n",
-        ),
+        (b"\x06\x06\x01\x7f\0\x23\x01\x0b", "invalid rule 5 module\n"),
         // a memory of two pages at least and one at most
-        (
-            HEAD,
-            b"\x05\x04\x01\x01\x02\x01",
-            "invalid rule 11 module\n",
-        ),
+        (b"\x05\x04\x01\x01\x02\x01", "invalid rule 11 module\n"),
         // two memories
-        (
-            HEAD,
-            b"\x05\x05\x02\0\x01\0\x01",
-            "invalid rule 12 module\n",
-        ),
+        (b"\x05\x05\x02\0\x01\0\x01", "invalid rule 12 module\n"),
         // a global of type i32 that begins as an i64
-        (
-            HEAD,
-            b"\x06\x06\x01\x7f\0\x42\0\x0b",
-            "invalid rule 13 module\n",
-        ),
+        (b"\x06\x06\x01\x7f\0\x42\0\x0b", "invalid rule 13 module\n"),
         // a memory that is exported twice under one name
         (
-            HEAD,
             b"\x05\x03\x01\0\x01\x07\x09\x02\x01a\x02\0\x01a\x02\0",
             "invalid rule 14 module\n",
         ),
         // a start function with a parameter
         (
-            HEAD,
             b"\x01\x05\x01\x60\x01\x7f\0\x03\x02\x01\0\x08\x01\0\x0a\x04\x01\x02\0\x0b",
             "invalid rule 15 module\n",
         ),
         // a type of two results
         (
-            HEAD,
             b"\x01\x06\x01\x60\0\x02\x7f\x7f",
             "invalid rule 16 module\n",
         ),
     ];
-    for (head, rest, line) in rows {
-        assert_eq!(rt; tells(alloc, head, rest, line)?, (5, true), "{line}");
+    for (rest, line) in rows {
+        assert_eq!(rt; tells(alloc, HEAD, rest, line)?, (5, true), "{line}");
     }
     Ok(())
 }
