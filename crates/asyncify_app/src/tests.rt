@@ -1,5 +1,7 @@
 //! The worked rows of `transform`, over files and output in memory.
 
+mod rules;
+
 use super::*;
 use std::alloc::{AllocError, Global};
 use std::test::Fail;

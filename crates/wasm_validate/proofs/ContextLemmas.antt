@@ -1,6 +1,6 @@
 -- The types of functions and locals, found by index.
-use Rattle.std.proofs.Common.{arith, ◌≡◌, ℕ, zero, suc, ◌+◌, ◌-◌, ◌<◌, ◌≤◌, List, [], ◌∷◌, ◌++◌, All, length, take, get_or, map, replicate, slice_get, Option, Some, None, refl, ap, sym, ◌∙◌, subst, true, nat_lt, ltb-true}
-use Rattle.std.proofs.lemmas.List.{length-replicate, take_all}
+use Rattle.std.proofs.Common.{arith, ◌≡◌, ℕ, zero, suc, ◌+◌, ◌-◌, ◌<◌, ◌≤◌, List, [], ◌∷◌, ◌++◌, All, length, take, drop, get_or, map, replicate, add-one, drop-cons, slice_get, Option, Some, None, refl, ap, sym, ◌∙◌, subst, true, nat_lt, ltb-true}
+use Rattle.std.proofs.lemmas.List.{length-replicate, take_all, drop_all}
 use Rattle.std.proofs.lemmas.List.Elements.{All-get_or}
 use Rattle.std.proofs.lemmas.List.Sums.{sum_by-cons}
 use Rattle.std.proofs.lemmas.Option.{slice_get-map, slice_get-get_or}
@@ -20,7 +20,7 @@ use Rattle.wa_types.specs.View.{func_of, func_type_of, module_of}
 use Rattle.wa_types.specs.Modules.{declared_locals, imported, imported_func, func_sorts, func_types, type_at, or_empty, all_tables, all_memories, around}
 use Rattle.wasm_validate.specs.declared.spaces.GlobalType.{GlobalType as GlobalValue}
 use Rattle.wasm_validate.specs.declared.spaces.Spaces.{Spaces}
-use Rattle.wasm_validate.specs.Spaces.{total, ends_from, global_type_of, SpacesOf}
+use Rattle.wasm_validate.specs.Spaces.{total, ends_from, ends_of, global_type_of, SpacesOf}
 
 pub ends_length : (n : ℕ) (rs : List Run) → length (ends_from n rs) ≡ length rs
 unfolding ends_from
@@ -55,6 +55,9 @@ get_on : {X : Type 0} (xs ys : List X) (i j : ℕ) → i ≡ length xs + j → s
 get_on [] ys i j e = let f : i ≡ j = omega arith in ap (slice_get ys) f
 get_on (x ∷ xs) ys zero j e = absurd (omega arith)
 get_on (x ∷ xs) ys (suc i) j e = get_on xs ys i j (omega arith)
+
+next_run : (rs : List Run) (i : ℕ) (r d : Run) → i < length rs → r ≡ get_or rs i d → drop i rs ≡ r ∷ drop (i + 1) rs
+next_run rs i r d h e = rw (add-one, drop-cons rs i d) (ap (λ (q : Run). q ∷ drop (suc i) rs) (sym e))
 
 -- the local x lies in run i
 in_run : (rs : List Run) (i x : ℕ) (r : Run) → slice_get rs i ≡ Some r → total (take i rs) ≤ x → x < total (take (suc i) rs) → slice_get (declared_locals rs) x ≡ Some r.ty
@@ -92,6 +95,23 @@ found_run rs low high x d le ge lt before behind =
 pub no_run : (rs : List Run) (low x : ℕ) → total (take low rs) ≤ x → length rs ≤ low → None ≡ slice_get (declared_locals rs) x
 no_run rs low x before past = sym (past_runs rs x (subst (λ (ys : List Run). total ys ≤ x) (take_all low rs past) before))
 
+-- a local of the next run
+pub walk_in : (rs : List Run) (i x : ℕ) (r d : Run) → i < length rs → r ≡ get_or rs i d → x < r.count → slice_get (declared_locals (drop i rs)) x ≡ Some r.ty
+walk_in rs i x r d h e low =
+    ap (λ z. slice_get (declared_locals z) x) (next_run rs i r d h e)
+    ∙ get_front (replicate r.count r.ty) (declared_locals (drop (i + 1) rs)) x (omega (arith, length-replicate r.count r.ty)) ∙ get_same r.ty r.count x low
+
+-- one behind it
+pub walk_on : (rs : List Run) (i x y : ℕ) (r d : Run) → i < length rs → r ≡ get_or rs i d → r.count ≤ x → y ≡ x - r.count → slice_get (declared_locals (drop i rs)) x ≡ slice_get (declared_locals (drop (i + 1) rs)) y
+walk_on rs i x y r d h e high f =
+    ap (λ z. slice_get (declared_locals z) x) (next_run rs i r d h e)
+    ∙ get_on (replicate r.count r.ty) (declared_locals (drop (i + 1) rs)) x y (omega (arith, length-replicate r.count r.ty))
+
+pub walk_end : (rs : List Run) (i x : ℕ) → length rs ≤ i → slice_get (declared_locals (drop i rs)) x ≡ None
+walk_end rs i x h = ap (λ z. slice_get (declared_locals z) x) (drop_all i rs h)
+
+pub ruleset walking = (walk_end, walk_end)
+
 pub ruleset halving = (ends_length, ends_at, found_run, no_run)
 
 pub local_front : (ps ls : List ValType) (i : ℕ) (d : ValType) → i < length ps → slice_get (ps ++ ls) i ≡ Some (get_or ps i d)
@@ -121,13 +141,13 @@ sort_there m i f h lt e =
     let is : get_or (front ++ sorts) (length front + i) f.sort ≡ f.sort = get_or-append-add front sorts i f.sort ∙ get_or-map (λ (g : Func). g.sort) (map func_of m.funcs.items) i (func_of f) f.sort (omega (arith, length-map m.funcs.items func_of)) ∙ ap (λ (g : Func). g.sort) (get_or-map func_of m.funcs.items i f (func_of f) lt ∙ ap func_of (sym e)) in
     omega (arith, subst (λ n. n < length (module_of m).types) is (sorts_there (module_of m) h (length front + i) f.sort at), length-map m.types.items func_type_of)
 
-pub ends_are : (fs : List FuncValue) (es : List (Vec ℕ Global)) (i : ℕ) (f : FuncValue) (v : Vec ℕ Global) → map (λ (w : Vec ℕ Global). w.items) es ≡ map (λ (g : Func). ends_from 0 g.locals) (map func_of fs) → i < length fs → f ≡ get_or fs i f → v ≡ get_or es i v → v.items ≡ ends_from 0 f.locals.items
+pub ends_are : (fs : List FuncValue) (es : List (Vec ℕ Global)) (i : ℕ) (f : FuncValue) (v : Vec ℕ Global) → map (λ (w : Vec ℕ Global). w.items) es ≡ map (λ (g : Func). ends_of g.locals) (map func_of fs) → i < length fs → f ≡ get_or fs i f → v ≡ get_or es i v → v.items ≡ ends_of f.locals.items
 ends_are fs es i f v h lt e g =
-    let n : i < length es = omega (arith, ap length h, length-map es (λ (w : Vec ℕ Global). w.items), length-map (map func_of fs) (λ (g : Func). ends_from 0 g.locals), length-map fs func_of) in
+    let n : i < length es = omega (arith, ap length h, length-map es (λ (w : Vec ℕ Global). w.items), length-map (map func_of fs) (λ (g : Func). ends_of g.locals), length-map fs func_of) in
     ap (λ (w : Vec ℕ Global). w.items) g ∙ sym (get_or-map (λ (w : Vec ℕ Global). w.items) es i v v.items n)
     ∙ ap (λ z. get_or z i v.items) h
-    ∙ get_or-map (λ (g : Func). ends_from 0 g.locals) (map func_of fs) i (func_of f) v.items (omega (arith, length-map fs func_of))
-    ∙ ap (λ (q : Func). ends_from 0 q.locals) (get_or-map func_of fs i f (func_of f) lt ∙ ap func_of (sym e))
+    ∙ get_or-map (λ (g : Func). ends_of g.locals) (map func_of fs) i (func_of f) v.items (omega (arith, length-map fs func_of))
+    ∙ ap (λ (q : Func). ends_of q.locals) (get_or-map func_of fs i f (func_of f) lt ∙ ap func_of (sym e))
 
 -- the context that such fields stand for
 abbrev pub made : List TypeValue → List ℕ → (tables memories : ℕ) → List GlobalValue → List ValType → List Run → Option ValType → Around

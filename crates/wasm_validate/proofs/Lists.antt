@@ -1,10 +1,11 @@
 -- The operands as a list, and the vector that holds them.
-use Rattle.std.proofs.Common.{arith, ◌≡◌, ℕ, suc, ◌<◌, ◌≤◌, List, [], ◌∷◌, ◌++◌, length, take, drop, reverse, get_or, ◌-◌, slice_get, Option, Some, None, Bool, true, false, if◌then◌else◌, refl, ap, sym, ◌∙◌, subst, length-drop}
+use Rattle.std.proofs.Common.{arith, ◌≡◌, ℕ, suc, ◌<◌, ◌≤◌, List, [], ◌∷◌, ◌++◌, length, take, drop, reverse, get_or, ◌-◌, slice_get, Option, Some, None, Bool, true, false, if◌then◌else◌, ◌&&◌, nat_lt, refl, ap, sym, ◌∙◌, subst, length-drop}
 use Rattle.std.proofs.lemmas.List.{length-reverse, get_or-reverse, reverse-append, drop-append-le, drop_all}
-use Rattle.std.proofs.lemmas.Option.{slice_get-map, slice_get-get_or, slice_get_past}
+use Rattle.std.proofs.lemmas.Bool.{lt-ltb}
+use Rattle.std.proofs.lemmas.Option.{slice_get-map, slice_get-get_or, slice_get_past, slice_get_within}
 use Rattle.std.proofs.Math.Seq.{take-suc}
 use Rattle.wa_types.specs.declared.values.ValType.{ValType}
-use Rattle.wa_types.specs.Typing.{listed}
+use Rattle.wa_types.specs.Typing.{listed, all_there, all_alike, agrees_with, same_result}
 use Rattle.wasm_validate.specs.Running.{may_be, pop1, ended}
 use Rattle.wasm_validate.specs.declared.stack.Operands.{Operands}
 use Rattle.wasm_validate.specs.Stack.{known_at, Level}
@@ -84,3 +85,18 @@ unfolding known_at
 known_length b xs = length-reverse (drop b xs) ∙ length-drop b xs
 
 pub ruleset ending = (end_some, end_none, end_empty, end_more, known_length)
+
+and_right : (a b : Bool) → (a && b) ≡ true → b ≡ true
+and_right true b e = e
+and_right false b e = cc
+
+-- labels that all take one result are there
+pub alike_there : (ls : List (Option ValType)) (r : Option ValType) (table : List ℕ) → all_alike ls r table ≡ true → all_there ls table ≡ true
+alike_there ls r [] e = refl
+alike_there ls r (l ∷ table) e = by_test (slice_get ls l) refl e (alike_there ls r table)
+  where
+    by_test : (o : Option (Option ValType)) → slice_get ls l ≡ o → (agrees_with r o && all_alike ls r table) ≡ true → (all_alike ls r table ≡ true → all_there ls table ≡ true) → (nat_lt l (length ls) && all_there ls table) ≡ true
+    by_test None f h more = cc
+    by_test (Some s) f h more = ap (λ b. b && all_there ls table) (lt-ltb l (length ls) (slice_get_within ls l s f)) ∙ more (and_right (same_result r s) (all_alike ls r table) h)
+
+pub ruleset jumps_on = (reverse_listed, alike_there)

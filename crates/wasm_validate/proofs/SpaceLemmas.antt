@@ -10,7 +10,8 @@ use Rattle.wa_types.specs.declared.syntax.Func.{Func as FuncValue}
 use Rattle.wa_types.specs.Sizes.{SizeRule}
 use Rattle.wa_types.specs.Syntax.{Func as PlainFunc, Module}
 use Rattle.wa_types.specs.View.{func_of}
-use Rattle.wasm_validate.specs.Spaces.{total, ends_from}
+use Rattle.wasm_validate.specs.Spaces.{total, ends_from, ends_of}
+use Rattle.std.proofs.lemmas.Bool.{lt-ltb, le-ltb}
 
 abbrev opt_list : {Y : Type 0} → Option Y → List Y
 opt_list None = []
@@ -124,5 +125,15 @@ sum_next rs i r d h e = total_more ∙ ap (λ (q : Run). total (take i rs) + q.c
 
 pub sum_within : (rs : List Run) (i : ℕ) (r : Run) → i < length rs → r ≡ get_or rs i r → total (take i rs) + r.count ≤ total rs
 sum_within rs i r h e = subst (λ (q : Run). total (take i rs) + q.count ≤ total rs) (sym e) (sum_by_more_le (λ (q : Run). q.count) rs i r h)
+
+pub few_ends : (rs : List Run) → length rs ≤ 4 → ends_of rs ≡ []
+unfolding ends_of
+few_ends rs h = ap (λ b. if b then ends_from 0 rs else []) (le-ltb 4 (length rs) h)
+
+pub many_ends : (rs : List Run) → 4 < length rs → ends_of rs ≡ ends_from 0 rs
+unfolding ends_of
+many_ends rs h = ap (λ b. if b then ends_from 0 rs else []) (lt-ltb 4 (length rs) h)
+
+pub ruleset choosing = (few_ends, many_ends)
 
 pub ruleset ending = (ends_on, ends_end, sum_next, sum_within, on_more, on_end)

@@ -12,8 +12,8 @@ use Rattle.wa_types.specs.View.{in_front, onto, code}
 use Rattle.wa_types.specs.Typing.{Around, sig, listed, label}
 use Rattle.wa_types.specs.FirstFault.{size, mid}
 use Rattle.wa_types.proofs.ViewLemmas.{in_block, in_loop, in_if, code_step, code_empty, code_none}
-use Rattle.wasm_validate.specs.declared.bodies.BodyFail.{BodyFail}
-use Rattle.wasm_validate.specs.declared.bodies.BodyFail.TheVariants.{Memory, Invalid}
+use Rattle.wasm_validate.specs.declared.bodies.Flaw.{Flaw}
+use Rattle.wasm_validate.specs.declared.bodies.Flaw.TheVariants.{Memory, Breaks}
 use Rattle.wasm_validate.specs.declared.table.Asks as D
 use Rattle.wasm_validate.specs.Running.{Next, goes, stops, next, Verdict, fine, fault, both, onward, ended, knows, pop1, checks, body_verdict}
 use Rattle.wasm_validate.specs.Stack.{Applied, sig_of, popped}
@@ -120,13 +120,13 @@ pub checks_done : (c : Around) (ls : List (Option ValType)) (outs : List ValType
 unfolding checks
 checks_done c ls outs os free k = refl
 
-blames_on : (e : BodyFail) (v w y : Verdict) → Blames e v → y ≡ both v w → Blames e y
-blames_on Memory v w y j h = tt
-blames_on (Invalid q at) v w y j h = h ∙ ap (λ z. both z w) j
+blames_on : (e : Flaw) (k : ℕ) (v w y : Verdict) → Blames e k v → y ≡ both v w → Blames e k y
+blames_on Memory k v w y j h = tt
+blames_on (Breaks q) k v w y j h = h ∙ ap (λ z. both z w) j
 
-pub judged_err : {B : Type 0} (res : Result B BodyFail) (e : BodyFail) (v w x y : Verdict) → IsErrAnd res (λ f. f ≡ e) → Blames e v → y ≡ both v w → Judged res y x
-judged_err (Ok u) e v w x y i j h = absurd i
-judged_err (Err f) e v w x y i j h = blames_on f v w y (subst (λ (g : BodyFail). Blames g v) (sym i) j) h
+pub judged_err : {B : Type 0} (res : Result B Flaw) (e : Flaw) (k : ℕ) (v w x y : Verdict) → IsErrAnd res (λ f. f ≡ e) → Blames e k v → y ≡ both v w → Judged res k y x
+judged_err (Ok u) e k v w x y i j h = absurd i
+judged_err (Err f) e k v w x y i j h = blames_on f k v w y (subst (λ (g : Flaw). Blames g k v) (sym i) j) h
 
 at_number : (c : Around) (ls : List (Option ValType)) (k : Code) (outs : List ValType) (os : List (Option ValType)) (free : Bool) (m n : ℕ) → m ≡ n → checks c ls k outs os free m ≡ checks c ls k outs os free n
 at_number c ls k outs os free m n e = ap (checks c ls k outs os free) e
@@ -192,9 +192,9 @@ pub stop_at : (n : Next) (k q : ℕ) (go : List (Option ValType) → Bool → Ve
 stop_at (goes os' free') k q go os free h = absurd h
 stop_at (stops r) k q go os free h = ap (λ z. fault z k) (sym h)
 
-pub judged_same : {B : Type 0} (res : Result B BodyFail) (e : BodyFail) (v x y : Verdict) → IsErrAnd res (λ f. f ≡ e) → Blames e v → y ≡ v → Judged res y x
-judged_same (Ok u) e v x y i j h = absurd i
-judged_same (Err f) e v x y i j h = subst (Blames f) (sym h) (subst (λ (g : BodyFail). Blames g v) (sym i) j)
+pub judged_same : {B : Type 0} (res : Result B Flaw) (e : Flaw) (k : ℕ) (v x y : Verdict) → IsErrAnd res (λ f. f ≡ e) → Blames e k v → y ≡ v → Judged res k y x
+judged_same (Ok u) e k v x y i j h = absurd i
+judged_same (Err f) e k v x y i j h = subst (Blames f k) (sym h) (subst (λ (g : Flaw). Blames g k v) (sym i) j)
 
 pub passed_by : (y v w : Verdict) → y ≡ both v w → v ≡ fine → y ≡ w
 passed_by y v w h e = h ∙ ap (λ z. both z w) e
@@ -228,10 +228,11 @@ popped_none b x os e f = e ∙ ap (λ z. popped z os) f
 pub popped_some : (b : Bool) (x : Option (List (Option ValType))) (os : List (Option ValType)) → x ≡ popped b os → b ≡ true → x ≡ Some os
 popped_some b x os e f = e ∙ ap (λ z. popped z os) f
 
-pub whole : {B : Type 0} (res : Result B BodyFail) (c : Around) (body : Code) (ls : List (Option ValType)) (r : Option ValType) → ls ≡ [] → r ≡ c.result → Judged res (checks c (r ∷ reverse ls) body (listed r) [] false 0) fine → Judged res (body_verdict c body) fine
-whole res c body ls r e f h =
-    subst (λ (z : Option ValType). Judged res (checks c (z ∷ []) body (listed z) [] false 0) fine) f
-    (subst (λ (z : List (Option ValType)). Judged res (checks c (r ∷ reverse z) body (listed r) [] false 0) fine) e h)
+-- the verdict on a body, checked under no other labels
+pub whole : (c : Around) (body : Code) (ls : List (Option ValType)) (r : Option ValType) (v : Verdict) → ls ≡ [] → r ≡ c.result → checks c (r ∷ reverse ls) body (listed r) [] false 0 ≡ v → body_verdict c body ≡ v
+whole c body ls r v e f h =
+    subst (λ (z : Option ValType). checks c (z ∷ []) body (listed z) [] false 0 ≡ v) f
+    (subst (λ (z : List (Option ValType)). checks c (r ∷ reverse z) body (listed r) [] false 0 ≡ v) e h)
 
 pub ruleset bodies = (size_step, size_empty, code_step, code_empty, checks_done)
 

@@ -4,7 +4,7 @@ ghost use Rattle.wa_types.specs.FirstFault.{size, mid};
 ghost use Rattle.wa_types.specs.Syntax.{Code, done};
 ghost use Rattle.wa_types.specs.Typing.{listed};
 ghost use Rattle.wa_types.specs.View.{code, in_front};
-ghost use Rattle.wasm_validate.specs.Judging.{Judged};
+ghost use Rattle.wasm_validate.specs.Judging.{Finds, Judged};
 ghost use Rattle.wasm_validate.specs.Running.{body_verdict, checks, fine};
 ghost use Rattle.wasm_validate.specs.Stack.{known, Deep, Level};
 
@@ -22,25 +22,32 @@ pub(crate) enum BodyFail {
     Invalid { rule: u8, at: u64 },
 }
 
-impl From<AllocError> for BodyFail {
+/// The same without the place, where the check stops: small enough to be handed up in a register.
+#[derive(Clone, Copy, Debug, PartialEq, Eq)]
+enum Flaw {
+    Memory,
+    Breaks(u8),
+}
+
+impl From<AllocError> for Flaw {
     ghost use Rattle.std.specs.Prelude.{◌≡◌};
-    ghost use Rattle.wasm_validate.specs.declared.bodies.BodyFail.TheVariants.{Memory};
+    ghost use Rattle.wasm_validate.specs.declared.bodies.Flaw.TheVariants.{Memory};
 
     ghost from_gives = { λ _ e. e ≡ Memory };
 
-    fn from(_error: AllocError) -> BodyFail {
-        BodyFail::Memory
+    fn from(_error: AllocError) -> Flaw {
+        Flaw::Memory
     }
 }
 
-impl From<AllocFailed<Option<ValType>>> for BodyFail {
+impl From<AllocFailed<Option<ValType>>> for Flaw {
     ghost use Rattle.std.specs.Prelude.{◌≡◌};
-    ghost use Rattle.wasm_validate.specs.declared.bodies.BodyFail.TheVariants.{Memory};
+    ghost use Rattle.wasm_validate.specs.declared.bodies.Flaw.TheVariants.{Memory};
 
     ghost from_gives = { λ _ e. e ≡ Memory };
 
-    fn from(_error: AllocFailed<Option<ValType>>) -> BodyFail {
-        BodyFail::Memory
+    fn from(_error: AllocFailed<Option<ValType>>) -> Flaw {
+        Flaw::Memory
     }
 }
 
@@ -62,7 +69,7 @@ fn check_body(
     label: Option<ValType>,
     gives: Option<ValType>,
     at: &mut u64,
-) -> Result<(), BodyFail>
+) -> Result<(), Flaw>
     requires deep { Deep o.old }
     requires room { at.old + size (code body.now) < 2 ^ 64 }
     ensures labels { IfOk result (λ _. labels.new.items ≡ labels.old.items) }
@@ -70,7 +77,7 @@ fn check_body(
     ensures free { IfOk result (λ _. o.new.free ≡ o.old.free) }
     ensures known { IfOk result (λ _. known o.new ≡ known o.old) }
     ensures place { IfOk result (λ _. at.new ≡ at.old + size (code body.now)) }
-    ensures judged { Judged result (checks context.now (label ∷ reverse labels.old.items) (code body.now) (listed gives) [] false at.old) fine }
+    ensures judged { Judged result at.new (checks context.now (label ∷ reverse labels.old.items) (code body.now) (listed gives) [] false at.old) fine }
 {
     let base = o.base;
     let free = o.free;
@@ -82,7 +89,7 @@ fn check_body(
         check_instr(context, labels, o, instr, at)?;
     }
     if !ends(o, gives) {
-        return Err(BodyFail::Invalid { rule: 8, at: *at });
+        return Err(Flaw::Breaks(8));
     }
     o.types.truncate(height);
     o.base = base;
@@ -99,13 +106,13 @@ fn check_instr(
     o: &mut Operands,
     instr: &Instr,
     at: &mut u64,
-) -> Result<(), BodyFail>
+) -> Result<(), Flaw>
     requires deep { Deep o.old }
     requires room { at.old + size (in_front instr.now done) < 2 ^ 64 }
     ensures labels { IfOk result (λ _. labels.new.items ≡ labels.old.items) }
     ensures level { IfOk result (λ _. Level o.old o.new) }
     ensures place { IfOk result (λ _. at.new ≡ at.old + size (in_front instr.now done)) }
-    ensures judged { (rest : Code) (outs : List ValType) → Judged result (checks context.now (reverse labels.old.items) (in_front instr.now rest) outs (known o.old) o.old.free at.old) (checks context.now (reverse labels.old.items) rest outs (known o.new) o.new.free at.new) }
+    ensures judged { (rest : Code) (outs : List ValType) → Judged result at.new (checks context.now (reverse labels.old.items) (in_front instr.now rest) outs (known o.old) o.old.free at.old) (checks context.now (reverse labels.old.items) rest outs (known o.new) o.new.free at.new) }
 {
     match instr {
         Instr::Block { result, body } => {
@@ -128,7 +135,7 @@ fn check_instr(
             else_arm,
         } => {
             if !pop(o, ValType::I32) {
-                return Err(BodyFail::Invalid { rule: 8, at: *at });
+                return Err(Flaw::Breaks(8));
             }
             *at += 1;
             check_body(context, labels, o, then_arm, *result, *result, at)?;
@@ -145,28 +152,32 @@ fn check_instr(
                     *at += 1;
                     Ok(())
                 }
-                Some(rule) => Err(BodyFail::Invalid { rule, at: *at }),
+                Some(rule) => Err(Flaw::Breaks(rule)),
             }
         }
     }
 }
 
-/// Whether a body has its type; if not, its first fault.
+/// Whether a body has its type; if not, its first fault. The stacks are emptied first, so that one pair of them serves
+/// all bodies.
 pub(crate) fn check_whole(
-    alloc: Global,
     context: &Context<'_>,
+    labels: &mut Vec<Option<ValType>>,
+    o: &mut Operands,
     body: &[Instr],
 ) -> Result<(), BodyFail>
     requires { size (code body.now) < 2 ^ 64 }
-    ensures { Judged result (body_verdict context.now (code body.now)) fine }
+    ensures { Finds result (body_verdict context.now (code body.now)) }
 {
-    let mut labels = Vec::new(alloc);
-    let mut o = Operands {
-        types: Vec::new(alloc),
-        base: 0,
-        free: false,
-    };
+    labels.clear();
+    o.types.clear();
+    o.base = 0;
+    o.free = false;
     let mut at = 0;
     let result = context.result();
-    check_body(context, &mut labels, &mut o, body, result, result, &mut at)
+    match check_body(context, labels, o, body, result, result, &mut at) {
+        Ok(()) => Ok(()),
+        Err(Flaw::Memory) => Err(BodyFail::Memory),
+        Err(Flaw::Breaks(rule)) => Err(BodyFail::Invalid { rule, at }),
+    }
 }

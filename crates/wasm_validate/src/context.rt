@@ -3,9 +3,9 @@ ghost use Rattle.wa_types.specs.View.{func_type_of, module_of};
 ghost use Rattle.wa_types.specs.Modules.{around, declared_locals};
 ghost use Rattle.wa_types.specs.Syntax.{Func as PlainFunc};
 ghost use Rattle.wa_types.specs.Validity.{types_there};
-ghost use Rattle.wasm_validate.specs.Spaces.{ends_from, global_type_of, SpacesOf};
+ghost use Rattle.wasm_validate.specs.Spaces.{ends_from, ends_of, global_type_of, SpacesOf};
 
-use crate::spaces::{GlobalType, Spaces};
+use crate::spaces::{FEW_RUNS, GlobalType, Spaces};
 use std::marker::Model;
 use wa_types::{FuncType, Module, Run, ValType};
 
@@ -28,7 +28,7 @@ impl<'m> Model for Context<'m> {
     ghost use Rattle.wa_types.specs.Typing.{Around};
     ghost use Rattle.wa_types.specs.Modules.{declared_locals, or_empty};
     ghost use Rattle.wa_types.specs.View.{func_type_of};
-    ghost use Rattle.wasm_validate.specs.Spaces.{ends_from, global_type_of};
+    ghost use Rattle.wasm_validate.specs.Spaces.{ends_of, global_type_of};
 
     ghost Value = { Around };
 
@@ -42,7 +42,7 @@ impl<'m> Model for Context<'m> {
       result = c.result;
     } };
 
-    ghost invariant = { λ c. (c.ends.now ≡ ends_from 0 c.runs.now) × All (λ s. s < length c.types.now) c.sorts.now };
+    ghost invariant = { λ c. (c.ends.now ≡ ends_of c.runs.now) × All (λ s. s < length c.types.now) c.sorts.now };
 }
 
 impl<'m> Context<'m> {
@@ -133,9 +133,37 @@ fn first_result(ty: &FuncType) -> Option<ValType>
     ty.results.get(0).copied()
 }
 
-/// The type of the declared local of this index: that of the run in which it lies, found by halving.
-#[tactic(auto, using(crate::proofs::ContextLemmas::halving))]
+/// The type of the declared local of this index: that of the run in which it lies.
+#[tactic(auto, using(crate::proofs::SpaceLemmas::choosing))]
 fn declared(runs: &[Run], ends: &[u64], x: u64) -> Option<ValType>
+    requires { ends.now ≡ ends_of runs.now }
+    ensures { result ≡ slice_get (declared_locals runs.now) x }
+{
+    if runs.len() <= FEW_RUNS {
+        return gone_through(runs, x);
+    }
+    halved(runs, ends, x)
+}
+
+/// The same, run by run.
+#[tactic(auto, using(crate::proofs::ContextLemmas::walking))]
+fn gone_through(runs: &[Run], x: u64) -> Option<ValType>
+    ensures { result ≡ slice_get (declared_locals runs.now) x }
+{
+    let mut left = x;
+    for run in runs {
+        let count = run.count as u64;
+        if left < count {
+            return Some(run.ty);
+        }
+        left -= count;
+    }
+    None
+}
+
+/// The same, found by halving.
+#[tactic(auto, using(crate::proofs::ContextLemmas::halving))]
+fn halved(runs: &[Run], ends: &[u64], x: u64) -> Option<ValType>
     requires { ends.now ≡ ends_from 0 runs.now }
     ensures { result ≡ slice_get (declared_locals runs.now) x }
 {

@@ -6,10 +6,13 @@ ghost use Rattle.wa_types.specs.Modules.{imported_func, imported_table, imported
 ghost use Rattle.wa_types.specs.Sizes.{SizeRule};
 ghost use Rattle.wa_types.specs.Syntax.{Func as PlainFunc};
 ghost use Rattle.wa_types.specs.View.{func_of, global_of, module_of};
-ghost use Rattle.wasm_validate.specs.Spaces.{ends_from, global_type_of, total, SpacesOf};
+ghost use Rattle.wasm_validate.specs.Spaces.{ends_from, ends_of, global_type_of, total, SpacesOf};
 
 use std::alloc::{AllocError, Global};
 use wa_types::{Func, GlobalDef, Import, ImportKind, Module, Run, ValType};
+
+/// So many runs of locals are gone through as fast as halved.
+pub(crate) const FEW_RUNS: usize = 4;
 
 /// A global type (standard, section 2.3.6).
 #[derive(Clone, Copy, Debug, PartialEq, Eq)]
@@ -30,7 +33,7 @@ pub(crate) struct Spaces {
     pub(crate) tables: usize,
     /// How many memories there are.
     pub(crate) memories: usize,
-    /// Where each run of locals ends, for each defined function.
+    /// Where each run of locals ends, for each defined function that has more than a few.
     pub(crate) ends: Vec<Vec<u64>>,
 }
 
@@ -181,13 +184,25 @@ fn imported_memories(imports: &[Import]) -> usize
 #[tactic(auto, using(crate::proofs::SpaceLemmas::ending))]
 fn all_ends(alloc: Global, funcs: &[Func]) -> Result<Vec<Vec<u64>>, AllocError>
     requires { All (λ (f : FuncValue). total f.locals.items < 2 ^ 64) funcs.now }
-    ensures { IfOk result (λ v. map (λ w. w.items) v.items ≡ map (λ (f : PlainFunc). ends_from 0 f.locals) (map func_of funcs.now)) }
+    ensures { IfOk result (λ v. map (λ w. w.items) v.items ≡ map (λ (f : PlainFunc). ends_of f.locals) (map func_of funcs.now)) }
 {
     let mut all = Vec::with_capacity(alloc, funcs.len())?;
     for func in funcs {
-        all.push(run_ends(alloc, &func.locals)?)?;
+        all.push(kept_ends(alloc, &func.locals)?)?;
     }
     Ok(all)
+}
+
+/// Where each run ends, where there are more than a few.
+#[tactic(auto, using(crate::proofs::SpaceLemmas::choosing))]
+fn kept_ends(alloc: Global, runs: &[Run]) -> Result<Vec<u64>, AllocError>
+    requires { total runs.now < 2 ^ 64 }
+    ensures { IfOk result (λ v. v.items ≡ ends_of runs.now) }
+{
+    if runs.len() <= FEW_RUNS {
+        return Ok(Vec::new(alloc));
+    }
+    run_ends(alloc, runs)
 }
 
 /// Where each run ends.

@@ -103,17 +103,17 @@ fn all_alike(labels: &[Option<ValType>], r: Option<ValType>, table: &[u32]) -> b
     true
 }
 
-#[tactic(auto, using(crate::proofs::Lists::listing))]
+#[tactic(auto, using(crate::proofs::Lists::jumps_on))]
 fn jumping(labels: &[Option<ValType>], table: &[u32], last: u32) -> Asks<'static>
     ensures { sig_of result ≡ jumps (reverse labels.now) table.now (slice_get (reverse labels.now) last) }
 {
     let Some(r) = label_at(labels, last) else {
         return Asks::Lacks(7);
     };
-    if !all_there(labels, table) {
-        return Asks::Lacks(7);
-    }
     if !all_alike(labels, r, table) {
+        if !all_there(labels, table) {
+            return Asks::Lacks(7);
+        }
         return Asks::Lacks(8);
     }
     Asks::Leaves {

@@ -14,10 +14,11 @@ use crate::bodies::{BodyFail, check_whole};
 use crate::context::Context;
 use crate::rules::broken_outside;
 use crate::spaces::Spaces;
+use crate::stack::Operands;
 use std::alloc::{AllocError, Global};
 use std::marker::Model;
 use thiserror::Error;
-use wa_types::Module;
+use wa_types::{Module, ValType};
 
 /// A valid module (standard, section 3.4) that meets the size rule. Contracts see the module.
 #[derive(Debug, Drop)]
@@ -133,8 +134,14 @@ fn check_funcs(alloc: Global, module: &Module, spaces: &Spaces) -> Result<(), Va
     requires sorts { types_there (module_of «module».now) ≡ true }
     ensures { Answers result (funcs_answer (module_of «module».now) (func_imports (module_of «module».now)) (module_of «module».now).funcs) }
 {
+    let mut labels = Vec::new(alloc);
+    let mut operands = Operands {
+        types: Vec::new(alloc),
+        base: 0,
+        free: false,
+    };
     for index in 0..module.funcs.len() {
-        check_func(alloc, module, spaces, index)?;
+        check_func(module, spaces, &mut labels, &mut operands, index)?;
     }
     Ok(())
 }
@@ -142,9 +149,10 @@ fn check_funcs(alloc: Global, module: &Module, spaces: &Spaces) -> Result<(), Va
 /// Checks the body of the defined function of this index, counted without imported ones.
 #[tactic(auto, using(crate::proofs::FuncLemmas::checking))]
 fn check_func(
-    alloc: Global,
     module: &Module,
     spaces: &Spaces,
+    labels: &mut Vec<Option<ValType>>,
+    operands: &mut Operands,
     index: usize,
 ) -> Result<(), ValidateFault>
     requires sizes { SizeRule (module_of «module».now) }
@@ -154,7 +162,7 @@ fn check_func(
     ensures { (f : PlainFunc) → slice_get (module_of «module».now).funcs index ≡ Some f → Tells result (func_imports (module_of «module».now) + index) (body_verdict (around (module_of «module».now) f) f.body) }
 {
     let context = Context::of(module, spaces, index);
-    match check_whole(alloc, &context, &module.funcs[index].body) {
+    match check_whole(&context, labels, operands, &module.funcs[index].body) {
         Ok(()) => Ok(()),
         Err(BodyFail::Memory) => Err(ValidateFault::Memory),
         Err(BodyFail::Invalid { rule, at }) => Err(ValidateFault::Invalid {

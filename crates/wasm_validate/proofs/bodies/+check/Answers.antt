@@ -21,7 +21,7 @@ check_body-check_instr-requires t c = (search (rules, the_lemmas), (c.loop-instr
 
 pub check_body-returns-in_err-check_instr-clause-judged : goal.check_body-returns-in_err-check_instr-clause-judged
 check_body-returns-in_err-check_instr-clause-judged t c =
-    judged_same _ _ _ _ _ c.from_residual-in_err-check_instr.ensures.1 (c.in_err-check_instr.ensures.judged (code (drop (c.loop-instr.instr-index + 1) c.args.body.now)) (listed c.args.gives))
+    judged_same _ _ _ _ _ _ c.from_residual-in_err-check_instr.ensures.1 (c.in_err-check_instr.ensures.judged (code (drop (c.loop-instr.instr-index + 1) c.args.body.now)) (listed c.args.gives))
     (body_on _ _ _ c.args.body.now c.loop-instr.instr-index _ _ _ _ _ (labels_are _ _ _ _ c.in_ok-push.ensures.items c.loop-instr.invariant.labels) c.loop-instr.invariant.judged _ (omega arith) c.instr-item.is)
 
 pub check_body-returns-then-not-ends-clause-judged : goal.check_body-returns-then-not-ends-clause-judged
@@ -49,12 +49,12 @@ check_instr-check_body-requires-in-If-2 t c = (search (rules, the_lemmas), grind
 pub check_instr-returns-in_err-check_body-in-Block-clause-judged :
     goal.check_instr-returns-in_err-check_body-in-Block-clause-judged
 check_instr-returns-in_err-check_body-in-Block-clause-judged t c =
-    λ rest outs. judged_err _ _ _ _ _ _ c.from_residual.ensures.1 c.in_err-check_body-in-Block.ensures.judged (block_arm _ _ outs _ _ _ _ rest _ _ _ c.in-Block.is c.deref.ensures.value)
+    λ rest outs. judged_err _ _ _ _ _ _ _ c.from_residual.ensures.1 c.in_err-check_body-in-Block.ensures.judged (block_arm _ _ outs _ _ _ _ rest _ _ _ c.in-Block.is c.deref.ensures.value)
 
 pub check_instr-returns-in_err-check_body-in-Loop-clause-judged :
     goal.check_instr-returns-in_err-check_body-in-Loop-clause-judged
 check_instr-returns-in_err-check_body-in-Loop-clause-judged t c =
-    λ rest outs. judged_err _ _ _ _ _ _ c.from_residual-in_err-check_body-in-Loop.ensures.1 c.in_err-check_body-in-Loop.ensures.judged (loop_arm _ _ outs _ _ _ _ rest _ _ _ c.in-Loop.is c.deref-in-Loop.ensures.value)
+    λ rest outs. judged_err _ _ _ _ _ _ _ c.from_residual-in_err-check_body-in-Loop.ensures.1 c.in_err-check_body-in-Loop.ensures.judged (loop_arm _ _ outs _ _ _ _ rest _ _ _ c.in-Loop.is c.deref-in-Loop.ensures.value)
 
 pub check_instr-returns-then-not-pop-clause-judged : goal.check_instr-returns-then-not-pop-clause-judged
 check_instr-returns-then-not-pop-clause-judged t c =
@@ -65,7 +65,7 @@ pub check_instr-returns-in_err-check_body-in-If-clause-judged :
     goal.check_instr-returns-in_err-check_body-in-If-clause-judged
 check_instr-returns-in_err-check_body-in-If-clause-judged t c =
     let e : c.pop.result ≡ true = search rules in
-    λ rest outs. judged_err _ _ _ _ _ _ c.from_residual-in_err-check_body-in-If.ensures.1 c.in_err-check_body-in-If.ensures.judged
+    λ rest outs. judged_err _ _ _ _ _ _ _ c.from_residual-in_err-check_body-in-If.ensures.1 c.in_err-check_body-in-If.ensures.judged
     (if_arm _ _ outs _ _ _ _ rest _ _ _ _ c.in-If.else_arm.items _ c.in-If.is c.deref-in-If.ensures.value refl (popped_some _ _ _ c.pop.ensures.popped e))
 
 pub check_instr-returns-in_err-check_body-in-If-2-clause-judged :
@@ -76,7 +76,7 @@ check_instr-returns-in_err-check_body-in-If-2-clause-judged t c =
     let n : c.check_body-in-If.new.at + c.middle.result ≡ c.args.at.now + 1 + size (code c.deref-in-If.result.now) + mid (code c.deref-in-If-3.result.now) = omega (arith, m, c.middle.ensures, c.in_ok-check_body-in-If.ensures.place) in
     λ rest outs.
     let y = if_arm _ _ outs _ _ _ _ rest _ _ _ _ c.deref-in-If-3.result.now _ c.in-If.is c.deref-in-If.ensures.value c.deref-in-If-3.ensures.value (popped_some _ _ _ c.pop.ensures.popped e) in
-    judged_err _ _ _ _ _ _ c.from_residual-in_err-check_body-in-If-2.ensures.1 c.in_err-check_body-in-If-2.ensures.judged
+    judged_err _ _ _ _ _ _ _ c.from_residual-in_err-check_body-in-If-2.ensures.1 c.in_err-check_body-in-If-2.ensures.judged
     (passed_then _ _ _ _ _ y c.in_ok-check_body-in-If.ensures.judged (moved_checks _ _ _ _ _ _ _ _ (sym (ap reverse c.in_ok-check_body-in-If.ensures.labels)) (sym n)))
 
 pub check_instr-returns-in_ok-push_result-in-Block-clause-judged : goal.check_instr-returns-in_ok-push_result-in-Block-clause-judged

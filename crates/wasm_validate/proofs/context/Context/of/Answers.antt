@@ -1,7 +1,7 @@
 use Rattle.std.proofs.Common.{rules, arith, ap, sym, ◌∙◌}
 use Rattle.std.proofs.lemmas.List.{length-map}
 use Rattle.wa_types.specs.View.{module_of, func_type_of}
-use Rattle.wasm_validate.specs.Spaces.{ends_from}
+use Rattle.wasm_validate.specs.Spaces.{ends_of}
 use Rattle.wasm_validate.proofs.ContextLemmas.{sort_there, sorts_in, ends_are, around_is}
 use Rattle.wasm_validate.proofs.context.Context.of.Goals as goal
 
@@ -11,7 +11,7 @@ index-ty-requires c = let h = sort_there c.args.module.now c.args.index c.index-
 pub invariant_of-result : goal.invariant_of-result
 invariant_of-result c =
     let e = ends_are c.args.module.now.funcs.items c.args.spaces.now.ends.items c.args.index c.index-func.result.now c.index.result.now c.requires.spaces.ends c.requires.index c.index-func.ensures c.index.ensures in (
-      c.deref-6.ensures.value ∙ e ∙ ap (ends_from 0) (sym c.deref-5.ensures.value),
+      c.deref-6.ensures.value ∙ e ∙ ap ends_of (sym c.deref-5.ensures.value),
       λ k d lt. rw (c.deref.ensures.value) (omega (arith, sorts_in (module_of c.args.module.now) c.deref-2.result.now (c.deref-2.ensures.value ∙ c.requires.spaces.sorts) c.requires.sorts k d lt, length-map c.args.module.now.types.items func_type_of)),
     )
 

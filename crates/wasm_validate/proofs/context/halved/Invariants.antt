@@ -1,6 +1,6 @@
 use Rattle.std.proofs.Common.{◌≤◌, ◌<◌, ◌-◌, suc, take, length}
 use Rattle.wasm_validate.specs.Spaces.{total}
-use Rattle.wasm_validate.proofs.context.declared.Given as goal
+use Rattle.wasm_validate.proofs.context.halved.Given as goal
 
 abbrev pub invariant-loop-low : goal.invariant-loop-low
 invariant-loop-low l = record {
