@@ -94,8 +94,9 @@ impl<'m> Instance<'m> {
         self.valid.module();
     }
 
-    /// Calls a function of the module on an empty stack, in place of what waits, with arguments of its types. It goes on to
-    /// the first return, trap or call of an import, or up to a reduction that costs more than is left.
+    /// Calls a function of the module on an empty stack, in place of what waits, with arguments of its types (standard,
+    /// section 4.5.5). It goes on to the first return, trap or call of an import, or up to a reduction that costs more than
+    /// is left. After want of memory or `StepsSpent` no further turn is asked of the instance.
     pub fn begin(
         &mut self,
         func: u32,
@@ -116,7 +117,8 @@ impl<'m> Instance<'m> {
         Ok(turn)
     }
 
-    /// Calls a function on an empty stack, and leaves what waits as it is.
+    /// Calls a function as `begin` does, and leaves what waits as it is. After a trap or a call of an import too no further
+    /// turn is asked of the instance.
     pub fn aside(
         &mut self,
         func: u32,

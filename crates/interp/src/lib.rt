@@ -10,8 +10,8 @@
 //! so that a stack that waits shows the operands just before the call. `reduce` does one reduction: its flow tells what
 //! came next, with what it costs past 1 (`specs/Told.antt`). It answers `Flow::Spent` also where no reduction is
 //! defined; no configuration that fits comes there (`reductions_fit` of `wa_model`), which is why `run` ends exactly as
-//! the definition says. So each call asks that the store and what waits fit the module, as `make` and every
-//! turn leave them, and that arguments and answers have their types (`specs/Instance.antt`).
+//! the definition says. So what a call promises it promises where the store and what waits fit the module, as `make` and
+//! every turn leave them, and where arguments and answers have their types (`specs/Instance.antt`).
 //!
 //! An activation has room for the greatest height of its operands and depth of its labels (`specs/Rooms.antt`), which are
 //! computed once a function when its program is made (`rooms`), so that between calls and `memory.grow` no reduction takes
