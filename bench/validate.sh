@@ -70,7 +70,8 @@ open(path, "wb").write(module)
 PY
 }
 
-# least user seconds, of so many runs, of a command that ends with this status; `none` where it fails
+# least user seconds, of so many runs within 4 GB, of a command that ends with this status; `none` where it fails, as
+# `wasm-opt` does on many bodies of 50,000 locals
 measure() {
     python3 - "$@" <<'PY'
 import os, resource, subprocess, sys
