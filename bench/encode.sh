@@ -56,8 +56,9 @@ print("%.3f %d" % (used.ru_utime, used.ru_maxrss))
 PY
 }
 
-(cd "$bench/../crates/encode_bench" && rt run) >"$temp/log" 2>&1 || true # with no words it ends with status 1
-cp "$bench/../crates/encode_bench/out/encode_bench" "$temp/encode" || { cat "$temp/log"; exit 1; }
+# proves and builds it, and tries it
+(cd "$bench/../crates/encode_bench" && rt run -- data/empty.wasm "$temp/out.wasm") >"$temp/log" 2>&1 || { cat "$temp/log"; exit 1; }
+cp "$bench/../crates/encode_bench/out/encode_bench" "$temp/encode"
 failed=0
 for kind in small long data; do
     before=

@@ -1,5 +1,5 @@
 -- What is accepted can be written.
-use Rattle.std.proofs.Common.{◌≡◌, ◌<◌, subst, arith}
+use Rattle.std.proofs.Common.{subst, arith}
 use Rattle.wa_types.specs.View.{module_of}
 use Rattle.wasm_reader.specs.Answers.{IsAccepted}
 use Rattle.encode_bench.proofs.RoundTrips.{well_formed, few_locals}
