@@ -3,8 +3,6 @@ use Rattle.std.proofs.Common.{◌≡◌, ℕ, ◌+◌, ◌-◌, ◌^◌, ◌<◌
 use Rattle.std.specs.Option.{option_map}
 use Rattle.std.proofs.lemmas.List.Elements.{All-nil, All-cons, All-head, All-tail}
 use Rattle.std.proofs.lemmas.Option.{slice_get-map, get_or_from_slice_get}
-use Rattle.std.specs.Ordering.{ord_max, ord_min, nat_cmp}
-use Rattle.std.proofs.lemmas.Bool.Decides.{nat_tests}
 use Rattle.std.specs.declared.vec.Vec.{Vec}
 use Rattle.std.specs.declared.alloc.Global.{Global}
 use Rattle.wa_types.specs.declared.syntax.Func.{Func as FuncValue}
@@ -16,7 +14,7 @@ use Rattle.wa_types.specs.declared.instrs.Instr.TheVariants.{Unreachable, Nop, D
 use Rattle.wa_types.specs.Counts.{count_of}
 use Rattle.wa_types.specs.Modules.{type_at, func_type_at, func_imports, defined_at}
 use Rattle.wa_types.specs.Operators.{operand_types}
-use Rattle.wa_types.specs.Syntax.{Module, Basic, nop, drop as drop_operand, select, const, num, global_get, global_set, load, store, memory_size, memory_grow, a_block, a_loop, Plain, basic, local_get, local_set, local_tee, br, br_if, br_table, return, unreachable, call, call_indirect, Code, done, plain, nest, branch, Func}
+use Rattle.wa_types.specs.Syntax.{Module, Basic, nop, drop as drop_operand, select, const, num, global_get, global_set, load, store, memory_size, memory_grow, Plain, basic, local_get, local_set, local_tee, br, br_if, br_table, return, unreachable, call, call_indirect, Code, done, plain, nest, branch, Func}
 use Rattle.wa_types.specs.Sizes.{FuncSizes}
 use Rattle.wa_types.specs.View.{code, in_front, func_of}
 use Rattle.wa_types.proofs.SizeBounds.{count_fits}
@@ -129,13 +127,6 @@ most_other m x h not_block not_loop not_if = elim (kind x) [
   | is_plain p e ↦ ap (λ c. most_operands m c h) (e done) ∙ ap (max h) (sym (ap (λ c. behind m c h) (e done)))
 ]
 
--- the greater and the lesser of two numbers, as the program computes them
-pub max_is : (a b : ℕ) → ord_max nat_cmp a b ≡ max a b
-max_is a b = grind (arith, nat_tests)
-
-pub min_is : (a b : ℕ) → ord_min nat_cmp a b ≡ min a b
-min_is a b = grind (arith, nat_tests)
-
 -- how high operands stand behind each instruction
 pub after_get : (m : Module) (h : ℕ) (x : ℕ) → behind m (in_front (LocalGet x) done) h ≡ h + 1
 unfolding behind in_front
@@ -233,13 +224,6 @@ pub after_if : (m : Module) (h : ℕ) (r : Option ValType) (v w : Vec Instr Glob
 unfolding behind
 after_if m h r v w = ap (λ c. behind m c h) (in_if r v w done)
 
--- a result counts as one operand
-pub arity_some : (r : Option ValType) (t : ValType) → r ≡ Some t → arity_of r ≡ 1
-arity_some r t e = ap arity_of e
-
-pub arity_none : (r : Option ValType) → r ≡ None → arity_of r ≡ 0
-arity_none r e = ap arity_of e
-
 -- an instruction counts as one at least
 pub count_some : (x : Instr) → 1 ≤ count_of (in_front x done)
 unfolding count_of
@@ -274,6 +258,6 @@ all_few m [] h = All-nil HasFewInstrs
 all_few m (f ∷ fs) h =
     All-cons HasFewInstrs f fs (few_instrs m f (All-head (FuncSizes (2 ^ 32) (2 ^ 56) m) (func_of f) (map func_of fs) h)) (all_few m fs (All-tail (FuncSizes (2 ^ 32) (2 ^ 56) m) (func_of f) (map func_of fs) h))
 
-pub ruleset passing = (min_is, after_get, after_global_get, after_const, after_size, after_num, after_select, after_load, after_grow, after_set, after_global_set, after_drop, after_br_if, after_store, after_call, after_indirect, after_tee, after_nop, after_br, after_br_table, after_return, after_unreachable, after_block, after_loop, after_if)
+pub ruleset passing = (after_get, after_global_get, after_const, after_size, after_num, after_select, after_load, after_grow, after_set, after_global_set, after_drop, after_br_if, after_store, after_call, after_indirect, after_tee, after_nop, after_br, after_br_table, after_return, after_unreachable, after_block, after_loop, after_if)
 
-pub ruleset walking = (max_is, most_least, most_step, most_empty, most_block, most_loop, most_if, most_other, behind_few, count_some, count_step, count_empty, count_block, count_loop, count_if)
+pub ruleset walking = (most_least, most_step, most_empty, most_block, most_loop, most_if, most_other, behind_few, count_some, count_step, count_empty, count_block, count_loop, count_if)

@@ -1,4 +1,4 @@
-use Rattle.std.proofs.Common.{rules, arith, ◌≡◌, ◌+◌, ◌<◌, ◌≤◌, length, drop, ap, sym, ◌∙◌}
+use Rattle.std.proofs.Common.{rules, arith, ◌+◌, ◌<◌, length, drop, ap, sym, ◌∙◌}
 use Rattle.wa_types.specs.declared.instrs.Instr.{the_lemmas}
 use Rattle.wa_types.specs.Counts.{count_of}
 use Rattle.wa_types.specs.Syntax.{done}

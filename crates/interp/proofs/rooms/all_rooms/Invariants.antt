@@ -1,4 +1,4 @@
-use Rattle.std.proofs.Common.{◌≡◌, ◌++◌, [], take, map}
+use Rattle.std.proofs.Common.{◌≡◌, take, map}
 use Rattle.wa_types.specs.View.{module_of}
 use Rattle.interp.specs.Rooms.{room_at}
 use Rattle.interp.proofs.rooms.all_rooms.Given as goal
