@@ -22,17 +22,11 @@ use Rattle.wa_types.proofs.ViewLemmas.{is_block, is_loop, is_if, is_plain, kind,
 use Rattle.wasm_tree.proofs.MeasureLemmas.{count_step, count_empty, count_block, count_loop, count_if}
 use Rattle.wa_model.specs.Store.{gives}
 use Rattle.wa_model.specs.Step.{arity_of}
+use Rattle.wa_model.proofs.HeightLemmas.{most_least}
 use Rattle.interp.specs.declared.rooms.Room.{Room}
-use Rattle.interp.specs.Rooms.{behind, behind_plain, most_operands, room_of, room_at, HasFewInstrs}
+use Rattle.wa_model.specs.Heights.{behind, behind_plain, most_operands}
+use Rattle.interp.specs.Rooms.{room_of, room_at, HasFewInstrs}
 use Rattle.interp.proofs.MakeLemmas.{map_map}
-
--- no code has less operands at most than it begins with
-pub most_least : (m : Module) (k : Code) (h : ℕ) → h ≤ most_operands m k h
-unfolding most_operands
-most_least m done h = omega arith
-most_least m (plain p rest) h = omega arith
-most_least m (nest s r body rest) h = omega (arith, most_least m body h)
-most_least m (branch r a b rest) h = omega arith
 
 -- those of an instruction and of the code behind it
 most_behind : (m : Module) (x : Instr) (rest : Code) (h : ℕ) → most_operands m (in_front x rest) h ≡ max (most_operands m (in_front x done) h) (most_operands m rest (behind m (in_front x done) h))

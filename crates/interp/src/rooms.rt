@@ -3,7 +3,8 @@ ghost use Rattle.wa_types.specs.Counts.{count_of};
 ghost use Rattle.wa_types.specs.Modules.{func_sorts};
 ghost use Rattle.wa_types.specs.Syntax.{done};
 ghost use Rattle.wa_types.specs.View.{code, in_front, module_of};
-ghost use Rattle.interp.specs.Rooms.{behind, most_operands, room_at, HasFewInstrs};
+ghost use Rattle.wa_model.specs.Heights.{behind, most_operands};
+ghost use Rattle.interp.specs.Rooms.{room_at, HasFewInstrs};
 
 use crate::numeric::operand_count;
 use crate::types::{func_params, func_results, sort_params, sort_results};

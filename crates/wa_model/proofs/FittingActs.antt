@@ -155,29 +155,29 @@ moves_where true rule ps rs ins outs h = h
 moves_where false rule ps rs ins outs h = absurd h
 
 -- there is a global, and its type is given
-got_moves : (o : Option GlobalType) (ins outs : List ValType) → Takes (gets_global o) ins outs → (g : GlobalType) × (o ≡ Some g) × Takes (moves [] (g.ty ∷ [])) ins outs
+pub got_moves : (o : Option GlobalType) (ins outs : List ValType) → Takes (gets_global o) ins outs → (g : GlobalType) × (o ≡ Some g) × Takes (moves [] (g.ty ∷ [])) ins outs
 got_moves None ins outs h = absurd h
 got_moves (Some g) ins outs h = (g, refl, h)
 
 -- there is a global, and its type is taken
-set_moves : (o : Option GlobalType) (ins outs : List ValType) → Takes (sets_global o) ins outs → (g : GlobalType) × (o ≡ Some g) × Takes (moves (g.ty ∷ []) []) ins outs
+pub set_moves : (o : Option GlobalType) (ins outs : List ValType) → Takes (sets_global o) ins outs → (g : GlobalType) × (o ≡ Some g) × Takes (moves (g.ty ∷ []) []) ins outs
 set_moves None ins outs h = absurd h
 set_moves (Some g) ins outs h = (g, refl, moves_where g.mutable 10 (g.ty ∷ []) [] ins outs h)
 
 -- there is a row of the load, and its type is given
-load_moves : (memory : Bool) (align : ℕ) (o : Option AccessRow) (ins outs : List ValType) → Takes (loads memory align o) ins outs → (row : AccessRow) × (o ≡ Some row) × Takes (moves (I32 ∷ []) (row.ty ∷ [])) ins outs
+pub load_moves : (memory : Bool) (align : ℕ) (o : Option AccessRow) (ins outs : List ValType) → Takes (loads memory align o) ins outs → (row : AccessRow) × (o ≡ Some row) × Takes (moves (I32 ∷ []) (row.ty ∷ [])) ins outs
 load_moves false align o ins outs h = absurd h
 load_moves true align None ins outs h = absurd h
 load_moves true align (Some row) ins outs h = (row, refl, moves_where (nat_le align row.natural) 9 (I32 ∷ []) (row.ty ∷ []) ins outs h)
 
 -- there is a row of the store, and its type is taken
-store_moves : (memory : Bool) (align : ℕ) (o : Option AccessRow) (ins outs : List ValType) → Takes (stores memory align o) ins outs → (row : AccessRow) × (o ≡ Some row) × Takes (moves (row.ty ∷ I32 ∷ []) []) ins outs
+pub store_moves : (memory : Bool) (align : ℕ) (o : Option AccessRow) (ins outs : List ValType) → Takes (stores memory align o) ins outs → (row : AccessRow) × (o ≡ Some row) × Takes (moves (row.ty ∷ I32 ∷ []) []) ins outs
 store_moves false align o ins outs h = absurd h
 store_moves true align None ins outs h = absurd h
 store_moves true align (Some row) ins outs h = (row, refl, moves_where (nat_le align row.natural) 9 (row.ty ∷ I32 ∷ []) [] ins outs h)
 
 -- there is a memory
-memory_moves : (memory : Bool) (ps rs ins outs : List ValType) → Takes (in_memory memory ps rs) ins outs → Takes (moves ps rs) ins outs
+pub memory_moves : (memory : Bool) (ps rs ins outs : List ValType) → Takes (in_memory memory ps rs) ins outs → Takes (moves ps rs) ins outs
 memory_moves false ps rs ins outs h = absurd h
 memory_moves true ps rs ins outs h = h
 

@@ -14,6 +14,7 @@ pub mod GrownInstances
 pub mod GrownRuns
 pub mod GrownSteps
 pub mod GrownStretches
+pub mod HeightLemmas
 pub mod Moments
 pub mod NamedModules
 pub mod PrunedRuns

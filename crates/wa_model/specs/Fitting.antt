@@ -1,8 +1,9 @@
 -- Configurations that fit a valid module: each value has its type, and all code that stands has its type over the operands
 -- there (standard, section 7.5, soundness). From such a configuration there is always a reduction.
-use Rattle.std.specs.Prelude.{◌≡◌, ◌<◌, ℕ, List, [], ◌∷◌, ◌++◌, length, map, Option, Some, None, slice_get}
+use Rattle.std.specs.Prelude.{◌≡◌, ◌<◌, ◌≤◌, ℕ, suc, List, [], ◌∷◌, ◌++◌, length, map, Option, Some, None, slice_get}
 use Rattle.wa_types.specs.declared.values.ValType.{ValType}
 use Rattle.wa_types.specs.declared.values.Value.{Value}
+use Rattle.wa_types.specs.Counts.{depth_of}
 use Rattle.wa_types.specs.Syntax.{Code, Func, Module}
 use Rattle.wa_types.specs.Typing.{GlobalType, Around, listed, type_of, Types}
 use Rattle.wa_types.specs.Modules.{imported, imported_global, func_sorts, func_imports, all_globals, func_type_at, defined_at, locals_of, around}
@@ -10,6 +11,7 @@ use Rattle.wa_types.specs.Validity.{Valid}
 use Rattle.wa_model.specs.Store.{Store}
 use Rattle.wa_model.specs.Configuration.{Label, block_label, loop_label, Activation, Configuration}
 use Rattle.wa_model.specs.Step.{Next, steps, asks, returns, traps, stuck, arity_of, entered, step}
+use Rattle.wa_model.specs.Heights.{most_operands, Within}
 use Rattle.wa_model.specs.Instantiation.{opening, opens}
 use Rattle.wa_model.specs.Blocking.{resumed}
 use Rattle.wa_model.specs.Alone.{Goes, Finish, it_returned, it_trapped, it_asks, it_spent, EndsAs}
@@ -34,19 +36,25 @@ pub record StoreFits (m : Module) (s : Store) : Type 0 where
 
 -- Code inside labels. It takes its own operands, of the types `own`, to the result of its construct; what stands behind the
 -- construct goes on from that result above its own operands, and so on outwards. `below` are the types of all operands below
--- `own`: a label's height counts them. `results` are what branches to the labels take, the function's own last.
-unfoldable pub Stands : Around → (results : List (Option ValType)) → List Label → Code → (own below : List ValType) → Type 0
-Stands c results [] code own below = (results ≡ c.result ∷ []) × (below ≡ []) × Types c results code (listed c.result) own
-Stands c results (block_label height arity rest skipped ∷ labels) code own below =
+-- `own`: a label's height counts them. `results` are what branches to the labels take, the function's own last. No code that
+-- stands there goes higher than `top` operands or deeper than `deep` labels.
+unfoldable pub Stands : Module → (top deep : ℕ) → Around → (results : List (Option ValType)) → List Label → Code → (own below : List ValType) → Type 0
+Stands m top deep c results [] code own below =
+    (results ≡ c.result ∷ []) × (below ≡ []) × Types c results code (listed c.result) own × Within m top deep code (length (own ++ below)) 0
+Stands m top deep c results (block_label height arity rest skipped ∷ labels) code own below =
     (r : Option ValType) × (outer : List (Option ValType)) × (outer_own : List ValType) × (outer_below : List ValType)
     × (results ≡ r ∷ outer) × (below ≡ outer_own ++ outer_below) × (height ≡ length below) × (arity ≡ arity_of r)
-    × Types c results code (listed r) own × Stands c outer labels rest (listed r ++ outer_own) outer_below
-Stands c results (loop_label height body rest ∷ labels) code own below =
+    × Types c results code (listed r) own × Within m top deep code (length (own ++ below)) (suc (length labels))
+    × Stands m top deep c outer labels rest (listed r ++ outer_own) outer_below
+Stands m top deep c results (loop_label height body rest ∷ labels) code own below =
     (r : Option ValType) × (outer : List (Option ValType)) × (outer_own : List ValType) × (outer_below : List ValType)
-    × (results ≡ None ∷ outer) × (below ≡ outer_own ++ outer_below) × (height ≡ length below) × Types c results body (listed r) []
-    × Types c results code (listed r) own × Stands c outer labels rest (listed r ++ outer_own) outer_below
+    × (results ≡ None ∷ outer) × (below ≡ outer_own ++ outer_below) × (height ≡ length below)
+    × Types c results body (listed r) [] × Within m top deep body (length below) (suc (length labels))
+    × Types c results code (listed r) own × Within m top deep code (length (own ++ below)) (suc (length labels))
+    × Stands m top deep c outer labels rest (listed r ++ outer_own) outer_below
 
--- An activation of a defined function, with its code inside its labels over operands of these types (7.5.3, 7.5.4).
+-- An activation of a defined function, with its code inside its labels over operands of these types (7.5.3, 7.5.4). It goes
+-- no higher and no deeper than the function's body does from its start.
 pub record ActFits (m : Module) (fn : ℕ) (locals : List Value) (code : Code) (labels : List Label) (types : List ValType) : Type 0 where
   pub func : Func
   pub func_is : defined_at m fn ≡ Some func
@@ -55,7 +63,7 @@ pub record ActFits (m : Module) (fn : ℕ) (locals : List Value) (code : Code) (
   pub own : List ValType
   pub below : List ValType
   pub types_are : types ≡ own ++ below
-  pub stands : Stands (around m func) results labels code own below
+  pub stands : Stands m (most_operands m func.body 0) (depth_of func.body) (around m func) results labels code own below
 
 -- Activations that wait, the innermost first, which gets operands of these types from what it waits for. The outermost
 -- returns values of the types `outs`.
@@ -121,3 +129,13 @@ StretchesFit = (m : Module) (outs : List ValType) (c d : Configuration) (cost : 
 -- And so do the ends.
 abbrev pub EndsFit : Type 0
 EndsFit = (m : Module) (outs : List ValType) (c : Configuration) (left used : ℕ) (end : Finish) → Valid m → Fits m outs c → EndsAs m c left used end → EndFits m outs end
+
+-- The operands and labels of an activation that fits are no more than those of its function's body at most.
+pub record ActWithin (m : Module) (a : Activation) (types : List ValType) : Type 0 where
+  pub func : Func
+  pub func_is : defined_at m a.func ≡ Some func
+  pub operands : length types ≤ most_operands m func.body 0
+  pub labels : length a.labels ≤ depth_of func.body
+
+abbrev pub HeightsWithin : Type 0
+HeightsWithin = (m : Module) (a : Activation) (types : List ValType) → ActFits m a.func a.locals a.code a.labels types → ActWithin m a types

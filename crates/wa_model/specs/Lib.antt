@@ -7,6 +7,7 @@ pub mod Fitting
 pub mod Flat
 pub mod FlatView
 pub mod Growth
+pub mod Heights
 pub mod Instantiation
 pub mod Laws
 pub mod Machine

@@ -1,4 +1,4 @@
-ghost use Rattle.wa_model.specs.Fitting.{AnswersFit, CallsFit, EndsFit, OpeningsFit, StepsFit, StretchesFit};
+ghost use Rattle.wa_model.specs.Fitting.{AnswersFit, CallsFit, EndsFit, HeightsWithin, OpeningsFit, StepsFit, StretchesFit};
 
 /// From a configuration that fits a valid module there is a reduction: it goes on to one that fits again, or returns, traps
 /// or asks. So none is stuck that calls and answers of the right types lead to (standard, section 7.5.6).
@@ -17,4 +17,9 @@ pub fn calls_fit()
 /// An instance of a valid module fits, where its imported globals have values of their types (standard, section 4.5.4).
 pub fn openings_fit()
     ensures { OpeningsFit }
+{}
+
+/// The operands and labels of an activation that fits are no more than the body of its function has at most.
+pub fn heights_within()
+    ensures { HeightsWithin }
 {}

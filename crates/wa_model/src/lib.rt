@@ -28,7 +28,7 @@ mod quiet_laws;
 
 pub use answers::{Answer, AnswerLine, Area, Detach, Poke};
 pub use events::{Call, End, Event, Line};
-pub use fitting_laws::{calls_fit, openings_fit, reductions_fit};
+pub use fitting_laws::{calls_fit, heights_within, openings_fit, reductions_fit};
 pub use flat::{FlatFunc, FlatModule, Operand, Stmt};
 pub use growth_laws::{base_is_valid, calls_are_named, instances_stay, reductions_stay};
 pub use laws::{

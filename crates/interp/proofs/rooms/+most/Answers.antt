@@ -4,7 +4,7 @@ use Rattle.wa_types.specs.Counts.{count_of}
 use Rattle.wa_types.specs.Syntax.{done}
 use Rattle.wa_types.specs.View.{code, in_front, module_of}
 use Rattle.wasm_tree.proofs.MeasureLemmas.{count_step, count_block, count_loop, count_if}
-use Rattle.interp.specs.Rooms.{most_operands}
+use Rattle.wa_model.specs.Heights.{most_operands}
 use Rattle.interp.proofs.RoomLemmas.{behind_few, count_some, most_reached, most_step}
 use Rattle.interp.proofs.rooms.+most.Goals as goal
 
