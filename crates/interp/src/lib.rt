@@ -15,7 +15,8 @@
 //!
 //! An activation has room for the greatest height of its operands and depth of its labels (`specs/Rooms.antt`), which are
 //! computed once a function when its program is made (`rooms`), so that between calls and `memory.grow` no reduction takes
-//! memory. That none does isn't proved.
+//! memory. No configuration that fits goes past them (`heights_within` of `wa_model`); that no push takes memory isn't a
+//! clause yet.
 //!
 //! Read in the order `activation`, `flow`, `operands`, `numeric`, `locals`, `memory`, `control`, `branches`, `calls`,
 //! `reduce`, `run`, `go_on`, `instance`, and for `make` `spaces`, `types`, `rooms`, `program`, `segments`, `make`.

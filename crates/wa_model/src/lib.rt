@@ -14,7 +14,7 @@
 //! types: no configuration that fits a valid module is stuck, and calls and answers of the right types reach no other
 //! (`specs/Fitting.antt`). Those of `quiet_laws` say the headline for
 //! modules of which nothing may pause. Read in the order `Machine`,
-//! `Store`, `Configuration`, `Step`, `Alone`, `Fitting`, `Plan`, `Instantiation`, `Blocking`, `Untouched`, `Protocol`, `Expected`,
+//! `Store`, `Configuration`, `Step`, `Alone`, `Heights`, `Fitting`, `Plan`, `Instantiation`, `Blocking`, `Untouched`, `Protocol`, `Expected`,
 //! `Behaves`, `Rewrites`. `proofs/Cases.antt` has small runs that these definitions compute.
 #![tactic(auto)]
 
