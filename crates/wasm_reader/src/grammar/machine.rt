@@ -420,6 +420,34 @@ mod tests {
         Ok(())
     }
 
+    // Where the file fails whose one function has this code and then does nothing without an end.
+    fn padded_fails(alloc: Global, code: &[u8]) -> Result<Option<usize>, CheckFault> {
+        let mut padded = Vec::new(alloc);
+        padded.extend_from_slice(code)?;
+        for _index in code.len()..29 {
+            padded.extend_from_slice(b"\x01")?;
+        }
+        code_fails(alloc, &padded)
+    }
+
+    #[test]
+    fn numbers_of_all_lengths_are_passed(rt: HostRuntime) -> Result<(), Fail> {
+        let alloc = rt.alloc();
+        assert_eq!(rt; padded_fails(alloc, b"\x20\x7F\x06")?, Some(3));
+        assert_eq!(rt; padded_fails(alloc, b"\x20\xFF\x7F\x06")?, Some(4));
+        assert_eq!(rt; padded_fails(alloc, b"\x42\xFF\xFF\x7F\x06")?, Some(5));
+        assert_eq!(rt; padded_fails(alloc, b"\x41\xFF\xFF\xFF\x7F\x06")?, Some(6));
+        assert_eq!(rt;
+            padded_fails(alloc, b"\x28\xFF\xFF\xFF\x7F\x80\x80\0\x06")?,
+            Some(9)
+        );
+        assert_eq!(rt; padded_fails(alloc, b"\x41\xFF\xFF\xFF\x7F")?, Some(29));
+        // Five bytes have unused bits.
+        assert_eq!(rt; padded_fails(alloc, b"\x41\xFF\xFF\xFF\xFF\x4F")?, Some(6));
+        assert_eq!(rt; padded_fails(alloc, b"\x20\xFF\xFF\xFF\xFF\x10")?, Some(6));
+        Ok(())
+    }
+
     #[test]
     fn deep_code_takes_one_goal_a_level(rt: HostRuntime) -> Result<(), Fail> {
         let alloc = rt.alloc();
