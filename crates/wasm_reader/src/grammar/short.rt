@@ -125,33 +125,45 @@ pub(crate) fn closes(bytes: &[u8], at: usize, stop: usize) -> bool
     bytes[at] == 0x0B
 }
 
-// Whether an entry is this byte alone.
+// Where the entry that begins here ends, if it is one item, and short.
 #[inline(always)]
-fn is_alone(kind: Kind, byte: u8) -> bool
-    ensures { OnTrue result (IsAlone (kind_of kind) byte) }
+fn entry_end(kind: Kind, bytes: &[u8], at: usize, stop: usize) -> Option<usize>
+    requires { stop ≤ length bytes.now }
+    ensures ahead { IfSome result (λ end. (at < end) × (end < stop)) }
+    ensures alone { IfSome result (λ end. IsAlone (kind_of kind) (take (end - at) (drop at bytes.now))) }
 {
+    if stop.saturating_sub(at) < 2 {
+        return None;
+    }
     match kind {
-        Kind::Bytes => true,
-        Kind::Indices => byte < 128,
-        Kind::Functions => byte < 128,
-        _ => false,
+        Kind::Bytes => Some(at + 1),
+        Kind::Indices => behind_number(bytes, at, stop),
+        Kind::Functions => behind_number(bytes, at, stop),
+        _ => None,
     }
 }
 
-/// How many entries of so many can be passed over, each of one byte, with one left.
+/// How many entries of so many can be passed over, with one left, and the place behind them.
 #[inline]
-pub(crate) fn short_entries(kind: Kind, n: u32, bytes: &[u8], at: usize, stop: usize) -> u32
+pub(crate) fn short_entries(
+    kind: Kind,
+    n: u32,
+    bytes: &[u8],
+    at: usize,
+    stop: usize,
+) -> (u32, usize)
     requires { stop ≤ length bytes.now }
-    ensures room { 0 < result → at + result < stop }
-    ensures fewer { result ≤ n }
-    ensures passes { PassesEntries bytes.now (kind_of kind) n at result stop }
+    ensures ahead { at ≤ result.1 }
+    ensures fewer { result.0 ≤ n }
+    ensures passes { PassesEntries bytes.now (kind_of kind) n at result.0 result.1 stop }
 {
-    let room = stop.saturating_sub(at).saturating_sub(1);
-    let most = room.min(n.saturating_sub(1) as usize);
+    let mut place = at;
+    let most = n.saturating_sub(1);
     for index in 0..most {
-        if !is_alone(kind, bytes[at + index]) {
-            return index as u32;
-        }
+        let Some(end) = entry_end(kind, bytes, place, stop) else {
+            return (index, place);
+        };
+        place = end;
     }
-    most as u32
+    (most, place)
 }
