@@ -28,7 +28,7 @@ pub length_between : (bytes : List ℕ) (at k : ℕ) → at ≤ k → k ≤ leng
 length_between bytes at k h fits = length-take-le (k - at) (drop at bytes) (omega (arith, length-drop at bytes))
 
 -- the front of what stands between two places
-front_between : (bytes : List ℕ) (at stop used : ℕ) → at + used ≤ stop → stop ≤ length bytes → take used (between bytes at stop) ≡ between bytes at (at + used)
+pub front_between : (bytes : List ℕ) (at stop used : ℕ) → at + used ≤ stop → stop ≤ length bytes → take used (between bytes at stop) ≡ between bytes at (at + used)
 front_between bytes at stop used h fits =
     let long : length (between bytes at (at + used)) ≡ used = length_between bytes at (at + used) (omega arith) (omega arith) ∙ omega arith in
     ap (take used) (cut_between bytes at (at + used) stop (omega arith) h)

@@ -1,22 +1,26 @@
--- Items of one byte, passed over at once.
-use Rattle.std.proofs.Common.{◌≡◌, ℕ, suc, zero, ◌+◌, ◌-◌, ◌^◌, ◌<◌, ◌≤◌, inl, inr, List, [], ◌∷◌, ◌++◌, Option, Some, None, IfSome, Ok, refl, ap, sym, ◌∙◌, subst, arith, length, take, drop, get_or, Bool, true, false, nat_le}
+-- Short items, passed over at once.
+use Rattle.std.proofs.Common.{◌≡◌, ℕ, suc, zero, ◌+◌, ◌-◌, ◌*◌, ◌^◌, ◌<◌, ◌≤◌, inl, inr, List, [], ◌∷◌, ◌++◌, Option, Some, None, IfSome, Ok, refl, ap, sym, ◌∙◌, subst, arith, length, take, drop, get_or, Bool, true, false, nat_le}
 use Rattle.std.specs.Bool.{OnTrue}
-use Rattle.std.proofs.lemmas.List.{drop_more}
+use Rattle.std.proofs.lemmas.List.{drop_more, append_assoc}
 use Rattle.std.proofs.lemmas.Bool.{lt-ltb, le-ltb, cases_lt}
 use Rattle.std.proofs.Math.Pow.{pow_mono}
 use Rattle.wa_types.specs.Leb.{IsUnsigned, IsSigned, last_signed}
 use Rattle.wa_types.specs.Opcodes.{Follows, no_operand, an_index, an_access, a_constant, follows, is_block_type}
-use Rattle.wa_types.specs.Begun.{Goal, code, block_type, number, signed, entries, Kind, Item, a_byte, an_unsigned, a_signed, a_name, a_constant_of, wants, IsItem, next, Inside, settled, operands, where_true, and_then, others}
+use Rattle.wa_types.specs.Begun.{Goal, code, block_type, number, signed, entries, Kind, some_functions, some_indices, some_bytes, Item, a_byte, an_unsigned, a_signed, a_name, a_constant_of, wants, IsItem, next, Inside, Steps, settled, operands, where_true, and_then, others}
 use Rattle.wa_types.proofs.CodeReads.{refuted, none_nest}
 use Rattle.wasm_reader.specs.Items.{IsTold, IsWholeItem}
 use Rattle.wasm_reader.specs.Ends.{IsReached}
 use Rattle.wasm_reader.specs.Machine.{Stands}
-use Rattle.wasm_reader.specs.Passing.{Below, Passes, Opens, Closes, PassesEntries, IsAlone}
-use Rattle.wasm_reader.proofs.Faults.{between, length_between, Ready, goes_on}
+use Rattle.wasm_reader.specs.Passing.{IsShort, AreShort, Below, Passes, Opens, Closes, PassesEntries, IsAlone}
+use Rattle.wasm_reader.proofs.Faults.{between, length_between, front_between, Ready, goes_on}
 
 pub some_by : (o : Option ℕ) (P Q : ℕ → Type 0) → ((x : ℕ) → P x → Q x) → IfSome o P → IfSome o Q
 some_by None P Q f h = tt
 some_by (Some x) P Q f h = f x h
+
+pub some_both : (o : Option ℕ) (P Q R : ℕ → Type 0) → ((x : ℕ) → P x → Q x → R x) → IfSome o P → IfSome o Q → IfSome o R
+some_both None P Q R f h k = tt
+some_both (Some x) P Q R f h k = f x h k
 
 pub true_by : (b : Bool) (Q : Type 0) → (b ≡ true → Q) → OnTrue b Q
 true_by true Q f = f refl
@@ -54,28 +58,34 @@ told_self (a_signed bits) v = tt
 told_self (a_name n) v = refl
 told_self (a_constant_of n) v = refl
 
-first_taken : (n : ℕ) (x : ℕ) (xs : List ℕ) → 0 < n → take 1 (take n (x ∷ xs)) ≡ x ∷ []
-first_taken zero x xs h = absurd (omega (arith, h))
-first_taken (suc n) x xs h = refl
+one_between : (bytes : List ℕ) (at end : ℕ) → at < length bytes → end ≡ at + 1 → between bytes at end ≡ get_or bytes at 0 ∷ []
+one_between bytes at end h e =
+    let one : end - at ≡ 1 = omega (arith, e) in
+    ap (λ n. take n (drop at bytes)) one ∙ ap (take 1) (drop_more bytes at 0 h)
 
--- an item of one byte leads on
-one_on : (bytes : List ℕ) (at stop : ℕ) (g : Goal) (gs new hs : List Goal) (v : ℕ) → at + 1 < stop → stop ≤ length bytes → Below stop (g ∷ gs) → Stands bytes at (g ∷ gs) → IsItem (wants g) (get_or bytes at 0 ∷ []) v → next g v (at + 1) ≡ Some new → settled (at + 1) (new ++ gs) ≡ Some hs → Below stop hs → Stands bytes (at + 1) hs
-one_on bytes at stop g gs new hs v room fits below s it e t inside =
-    let y : Ready bytes at stop g gs = record { room = omega (arith, room); fits = fits; leads = s.leads; below = below } in
-    let long = length_between bytes at stop (omega (arith, room)) fits in
-    let front : take 1 (between bytes at stop) ≡ get_or bytes at 0 ∷ [] =
-    ap (λ z. take 1 (take (stop - at) z)) (drop_more bytes at 0 (omega (arith, room, fits))) ∙ first_taken (stop - at) (get_or bytes at 0) (drop (at + 1) bytes) (omega (arith, room)) in
-    let w : IsWholeItem (wants g) (between bytes at stop) v 1 = record {
+-- an item leads on
+item_on : (bytes : List ℕ) (at end stop : ℕ) (g : Goal) (gs new hs : List Goal) (v : ℕ) → at ≤ end → end < stop → stop ≤ length bytes → Below stop (g ∷ gs) → Stands bytes at (g ∷ gs) → IsItem (wants g) (between bytes at end) v → next g v end ≡ Some new → settled end (new ++ gs) ≡ Some hs → Below stop hs → Stands bytes end hs
+item_on bytes at end stop g gs new hs v ahead room fits below s it e t inside =
+    let y : Ready bytes at stop g gs = record { room = omega (arith, ahead, room); fits = fits; leads = s.leads; below = below } in
+    let long = length_between bytes at stop (omega (arith, ahead, room)) fits in
+    let place : at + (end - at) ≡ end = omega (arith, ahead) in
+    let front : take (end - at) (between bytes at stop) ≡ between bytes at end =
+    front_between bytes at stop (end - at) (omega (arith, ahead, room)) fits ∙ ap (between bytes at) place in
+    let w : IsWholeItem (wants g) (between bytes at stop) v (end - at) = record {
       within = omega (arith, long, room);
       value = v;
       is_item = subst (λ z. IsItem (wants g) z v) (sym front) it;
       is_told = told_self (wants g) v;
     } in
-    goes_on bytes at stop g gs y v 1 hs w (record { new = new; pushed = e; settles = t; inside = inside (at + 1) room })
+    let steps : Steps g gs v end hs = record { new = new; pushed = e; settles = t; inside = inside end room } in
+    subst (λ k. Stands bytes k hs) place
+    (goes_on bytes at stop g gs y v (end - at) hs w (subst (λ k. Steps g gs v k hs) (sym place) steps))
 
--- numbers of one byte
-one_unsigned : (b : ℕ) → b < 128 → IsUnsigned 32 (b ∷ []) b
-one_unsigned b h = inl (h, omega (arith, h), refl, refl)
+-- an item of one byte leads on
+one_on : (bytes : List ℕ) (at stop : ℕ) (g : Goal) (gs new hs : List Goal) (v : ℕ) → at + 1 < stop → stop ≤ length bytes → Below stop (g ∷ gs) → Stands bytes at (g ∷ gs) → IsItem (wants g) (get_or bytes at 0 ∷ []) v → next g v (at + 1) ≡ Some new → settled (at + 1) (new ++ gs) ≡ Some hs → Below stop hs → Stands bytes (at + 1) hs
+one_on bytes at stop g gs new hs v room fits below s it e t inside =
+    item_on bytes at (at + 1) stop g gs new hs v (omega arith) room fits below s
+    (subst (λ z. IsItem (wants g) z v) (sym (one_between bytes at (at + 1) (omega (arith, room, fits)) refl)) it) e t inside
 
 -- a signed number of one byte that isn't negative
 pub low_signed : (bits b : ℕ) → 7 < bits → b < 64 → last_signed bits b ≡ Ok b
@@ -91,8 +101,26 @@ signed_value bits b many h =
       | inr ge ↦ (b + 2 ^ bits - 128, rw (le-ltb b 64 ge, le-ltb (b + 2 ^ (bits - 1)) 128 (omega (arith, p))) refl)
     ]
 
-one_signed : (bits b : ℕ) → 7 < bits → b < 128 → (n : ℕ) × IsSigned bits (b ∷ []) n
-one_signed bits b many h = let s = signed_value bits b many h in (s.0, inl (h, refl, s.1))
+-- short numbers
+unsigned_by : (k bits : ℕ) (a : List ℕ) → 7 * k < bits → IsShort k a → (n : ℕ) × IsUnsigned bits a n
+unsigned_by zero bits a many h = absurd h
+unsigned_by (suc k) bits [] many h = absurd h
+unsigned_by (suc k) bits (b ∷ bs) many (inl h) =
+    let p : 128 ≤ 2 ^ bits = pow_mono {i = 7} {j = bits} (omega (arith, many)) in
+    (b, inl (h.0, omega (arith, h.0, p), h.1, refl))
+unsigned_by (suc k) bits (b ∷ bs) many (inr h) =
+    let high = unsigned_by k (bits - 7) bs (omega (arith, many)) h.2 in
+    (b + 128 * high.0 - 128, inr (h.0, h.1, omega (arith, many), high.0, omega (arith, h.0), high.1))
+
+signed_by : (k bits : ℕ) (a : List ℕ) → 7 * k < bits → IsShort k a → (n : ℕ) × IsSigned bits a n
+signed_by zero bits a many h = absurd h
+signed_by (suc k) bits [] many h = absurd h
+signed_by (suc k) bits (b ∷ bs) many (inl h) =
+    let s = signed_value bits b (omega (arith, many)) h.0 in
+    (s.0, inl (h.0, h.1, s.1))
+signed_by (suc k) bits (b ∷ bs) many (inr h) =
+    let high = signed_by k (bits - 7) bs (omega (arith, many)) h.2 in
+    (b + 128 * high.0 - 128, inr (h.0, h.1, omega (arith, many), high.0, omega (arith, h.0), high.1))
 
 -- code
 settled_code : (at : ℕ) (b : Bool) (gs : List Goal) → settled at (code b ∷ gs) ≡ Some (code b ∷ gs)
@@ -119,46 +147,46 @@ plain_next : (first_arm : Bool) (op at : ℕ) (f : Follows) → follows op ≡ S
 unfolding next follows
 plain_next first_arm op at f e = rw (refuted op 0x0B f e refl, refuted op 0x05 f e refl, none_nest op f e, refuted op 0x04 f e refl, e) refl
 
--- a number behind an opcode, before code
-number_on : (bytes : List ℕ) (at stop : ℕ) (b : Bool) (gs : List Goal) → at + 1 < stop → stop ≤ length bytes → get_or bytes at 0 < 128 → Below stop gs → Stands bytes at (number ∷ code b ∷ gs) → Stands bytes (at + 1) (code b ∷ gs)
+-- a number behind an opcode
+number_on : (bytes : List ℕ) (at end stop : ℕ) (g : Goal) (gs : List Goal) → at < end → end < stop → stop ≤ length bytes → IsShort 4 (between bytes at end) → Below stop (g ∷ gs) → settled end (g ∷ gs) ≡ Some (g ∷ gs) → Stands bytes at (number ∷ g ∷ gs) → Stands bytes end (g ∷ gs)
 unfolding next
-number_on bytes at stop b gs room fits low below s =
-    one_on bytes at stop number (code b ∷ gs) [] (code b ∷ gs) (get_or bytes at 0) room fits (below_number (code b ∷ gs) stop (below_code b gs stop below)) s (one_unsigned _ low) refl (settled_code (at + 1) b gs) (below_code b gs stop below)
+number_on bytes at end stop g gs ahead room fits short below t s =
+    let n = unsigned_by 4 32 (between bytes at end) (omega arith) short in
+    item_on bytes at end stop number (g ∷ gs) [] (g ∷ gs) n.0 (omega (arith, ahead)) room fits (below_number (g ∷ gs) stop below) s n.1 refl t below
+
+-- an opcode, and what its numbers have to lead to
+opcode_on : (bytes : List ℕ) (at stop : ℕ) (f : Follows) (b : Bool) (gs : List Goal) → at + 1 < stop → stop ≤ length bytes → Some f ≡ follows (get_or bytes at 0) → Below stop gs → settled (at + 1) (operands f ++ code b ∷ gs) ≡ Some (operands f ++ code b ∷ gs) → Below stop (operands f ++ code b ∷ gs) → Stands bytes at (code b ∷ gs) → Stands bytes (at + 1) (operands f ++ code b ∷ gs)
+opcode_on bytes at stop f b gs room fits e below t inside s =
+    one_on bytes at stop (code b) gs (operands f ++ code b ∷ []) (operands f ++ code b ∷ gs) (get_or bytes at 0) room fits (below_code b gs stop below) s refl (plain_next b _ (at + 1) f (sym e))
+    (ap (settled (at + 1)) (append_assoc (operands f) (code b ∷ []) gs) ∙ t) inside
 
 pub passes_nothing : (bytes : List ℕ) (at stop : ℕ) → at + 1 < stop → stop ≤ length bytes → Some no_operand ≡ follows (get_or bytes at 0) → Passes bytes at (at + 1) stop
 passes_nothing bytes at stop room fits e b gs below s =
-    one_on bytes at stop (code b) gs (code b ∷ []) (code b ∷ gs) (get_or bytes at 0) room fits (below_code b gs stop below) s refl (plain_next b _ (at + 1) no_operand (sym e)) (settled_code (at + 1) b gs) (below_code b gs stop below)
+    opcode_on bytes at stop no_operand b gs room fits e below (settled_code (at + 1) b gs) (below_code b gs stop below) s
 
-pub passes_index : (bytes : List ℕ) (at stop : ℕ) → at + 2 < stop → stop ≤ length bytes → Some an_index ≡ follows (get_or bytes at 0) → get_or bytes (at + 1) 0 < 128 → Passes bytes at (at + 2) stop
-passes_index bytes at stop room fits e low b gs below s =
-    let one : Stands bytes (at + 1) (number ∷ code b ∷ gs) =
-    one_on bytes at stop (code b) gs (number ∷ code b ∷ []) (number ∷ code b ∷ gs) (get_or bytes at 0) (omega (arith, room)) fits (below_code b gs stop below) s refl (plain_next b _ (at + 1) an_index (sym e)) (settled_number (at + 1) (code b ∷ gs)) (below_number (code b ∷ gs) stop (below_code b gs stop below)) in
-    let place : at + 1 + 1 ≡ at + 2 = omega arith in
-    subst (λ k. Stands bytes k (code b ∷ gs)) place (number_on bytes (at + 1) stop b gs (omega (arith, room)) fits low below one)
+pub passes_index : (bytes : List ℕ) (at end stop : ℕ) → at + 1 < end → end < stop → stop ≤ length bytes → Some an_index ≡ follows (get_or bytes at 0) → IsShort 4 (between bytes (at + 1) end) → Passes bytes at end stop
+passes_index bytes at end stop ahead room fits e short b gs below s =
+    let inside = below_code b gs stop below in
+    number_on bytes (at + 1) end stop (code b) gs ahead room fits short inside (settled_code end b gs)
+    (opcode_on bytes at stop an_index b gs (omega (arith, ahead, room)) fits e below (settled_number (at + 1) (code b ∷ gs)) (below_number (code b ∷ gs) stop inside) s)
 
-pub passes_access : (bytes : List ℕ) (at stop : ℕ) → at + 3 < stop → stop ≤ length bytes → Some an_access ≡ follows (get_or bytes at 0) → get_or bytes (at + 1) 0 < 128 → get_or bytes (at + 2) 0 < 128 → Passes bytes at (at + 3) stop
+pub passes_access : (bytes : List ℕ) (at end stop : ℕ) → end < stop → stop ≤ length bytes → Some an_access ≡ follows (get_or bytes at 0) → AreShort bytes (at + 1) end → Passes bytes at end stop
+passes_access bytes at end stop room fits e short b gs below s =
+    let inside = below_code b gs stop below in
+    let one = below_number (code b ∷ gs) stop inside in
+    let room_before : at + 1 < stop = omega (arith, short.ahead, short.more, room) in
+    number_on bytes short.second end stop (code b) gs short.more room fits short.second_short inside (settled_code end b gs)
+    (number_on bytes (at + 1) short.second stop number (code b ∷ gs) short.ahead (omega (arith, short.more, room)) fits short.first_short one (settled_number short.second (code b ∷ gs))
+    (opcode_on bytes at stop an_access b gs room_before fits e below (settled_number (at + 1) (number ∷ code b ∷ gs)) (below_number (number ∷ code b ∷ gs) stop one) s))
+
+pub passes_constant : (bits : ℕ) (bytes : List ℕ) (at end stop : ℕ) → 28 < bits → at + 1 < end → end < stop → stop ≤ length bytes → Some (a_constant bits) ≡ follows (get_or bytes at 0) → IsShort 4 (between bytes (at + 1) end) → Passes bytes at end stop
 unfolding next
-passes_access bytes at stop room fits e low high b gs below s =
-    let all = below_number (code b ∷ gs) stop (below_code b gs stop below) in
-    let one : Stands bytes (at + 1) (number ∷ number ∷ code b ∷ gs) =
-    one_on bytes at stop (code b) gs (number ∷ number ∷ code b ∷ []) (number ∷ number ∷ code b ∷ gs) (get_or bytes at 0) (omega (arith, room)) fits (below_code b gs stop below) s refl (plain_next b _ (at + 1) an_access (sym e)) (settled_number (at + 1) (number ∷ code b ∷ gs)) (below_number (number ∷ code b ∷ gs) stop all) in
-    let place : at + 1 + 1 ≡ at + 2 = omega arith in
-    let two : Stands bytes (at + 2) (number ∷ code b ∷ gs) =
-    subst (λ k. Stands bytes k (number ∷ code b ∷ gs)) place
-    (one_on bytes (at + 1) stop number (number ∷ code b ∷ gs) [] (number ∷ code b ∷ gs) (get_or bytes (at + 1) 0) (omega (arith, room)) fits (below_number (number ∷ code b ∷ gs) stop all) one (one_unsigned _ low) refl (settled_number (at + 1 + 1) (code b ∷ gs)) all) in
-    let last : at + 2 + 1 ≡ at + 3 = omega arith in
-    subst (λ k. Stands bytes k (code b ∷ gs)) last (number_on bytes (at + 2) stop b gs (omega (arith, room)) fits high below two)
-
-pub passes_constant : (bits : ℕ) (bytes : List ℕ) (at stop : ℕ) → 7 < bits → at + 2 < stop → stop ≤ length bytes → Some (a_constant bits) ≡ follows (get_or bytes at 0) → get_or bytes (at + 1) 0 < 128 → Passes bytes at (at + 2) stop
-unfolding next
-passes_constant bits bytes at stop many room fits e low b gs below s =
-    let all = below_code b gs stop below in
-    let one : Stands bytes (at + 1) (signed bits ∷ code b ∷ gs) =
-    one_on bytes at stop (code b) gs (signed bits ∷ code b ∷ []) (signed bits ∷ code b ∷ gs) (get_or bytes at 0) (omega (arith, room)) fits all s refl (plain_next b _ (at + 1) (a_constant bits) (sym e)) (settled_signed (at + 1) bits (code b ∷ gs)) (below_signed bits (code b ∷ gs) stop all) in
-    let n = one_signed bits (get_or bytes (at + 1) 0) many low in
-    let place : at + 1 + 1 ≡ at + 2 = omega arith in
-    subst (λ k. Stands bytes k (code b ∷ gs)) place
-    (one_on bytes (at + 1) stop (signed bits) (code b ∷ gs) [] (code b ∷ gs) n.0 (omega (arith, room)) fits (below_signed bits (code b ∷ gs) stop all) one n.1 refl (settled_code (at + 1 + 1) b gs) all)
+passes_constant bits bytes at end stop many ahead room fits e short b gs below s =
+    let inside = below_code b gs stop below in
+    let n = signed_by 4 bits (between bytes (at + 1) end) (omega (arith, many)) short in
+    item_on bytes (at + 1) end stop (signed bits) (code b ∷ gs) [] (code b ∷ gs) n.0 (omega (arith, ahead)) room fits (below_signed bits (code b ∷ gs) stop inside)
+    (opcode_on bytes at stop (a_constant bits) b gs (omega (arith, ahead, room)) fits e below (settled_signed (at + 1) bits (code b ∷ gs)) (below_signed bits (code b ∷ gs) stop inside) s)
+    n.1 refl (settled_code end b gs) inside
 
 -- the head of a construct
 opens_level : (bytes : List ℕ) (at stop : ℕ) (inner : Bool) → at + 2 < stop → stop ≤ length bytes → ((b : Bool) → next (code b) (get_or bytes at 0) (at + 1) ≡ Some (block_type ∷ code inner ∷ code b ∷ [])) → is_block_type (get_or bytes (at + 1) 0) ≡ true → Opens bytes at inner stop
@@ -194,11 +222,19 @@ closes_level bytes at stop room fits e inner b gs below s =
     one_on bytes at stop (code inner) (code b ∷ gs) [] (code b ∷ gs) (get_or bytes at 0) room fits (below_code inner (code b ∷ gs) stop outside) s refl (ap (λ z. next (code inner) z (at + 1)) e ∙ h) (settled_code (at + 1) b gs) outside
 
 -- entries
-pub passes_none : (bytes : List ℕ) (k : Kind) (n at stop : ℕ) → PassesEntries bytes k n at 0 stop
+pub byte_alone : (bytes : List ℕ) (at end : ℕ) → at < length bytes → end ≡ at + 1 → IsAlone some_bytes (between bytes at end)
+byte_alone bytes at end h e = record { value = get_or bytes at 0; is_item = one_between bytes at end h e; leaves_none = λ _. refl }
+
+pub index_alone : (bytes : List ℕ) → IsShort 4 bytes → IsAlone some_indices bytes
+index_alone bytes h = let n = unsigned_by 4 32 bytes (omega arith) h in record { value = n.0; is_item = n.1; leaves_none = λ _. refl }
+
+pub function_alone : (bytes : List ℕ) → IsShort 4 bytes → IsAlone some_functions bytes
+function_alone bytes h = let n = unsigned_by 4 32 bytes (omega arith) h in record { value = n.0; is_item = n.1; leaves_none = λ _. refl }
+
+pub passes_none : (bytes : List ℕ) (k : Kind) (n at stop : ℕ) → PassesEntries bytes k n at 0 at stop
 passes_none bytes k n at stop gs below s =
-    let place : at ≡ at + 0 = omega arith in
     let left : n ≡ n - 0 = omega arith in
-    subst (λ z. Stands bytes (at + 0) (entries k z ∷ gs)) left (subst (λ z. Stands bytes z (entries k n ∷ gs)) place s)
+    subst (λ z. Stands bytes at (entries k z ∷ gs)) left s
 
 past : (a b : ℕ) → b < a → nat_le a b ≡ false
 past a b h = grind (arith)
@@ -206,22 +242,21 @@ past a b h = grind (arith)
 more_left : (k : Kind) (m : ℕ) → 1 < m → others k m ≡ entries k (m - 1) ∷ []
 more_left k m h = rw (past m 1 h) refl
 
-pub passes_more : (bytes : List ℕ) (k : Kind) (n at i stop : ℕ) → at + i + 1 < stop → stop ≤ length bytes → i + 1 < n → IsAlone k (get_or bytes (at + i) 0) → PassesEntries bytes k n at i stop → PassesEntries bytes k n at (i + 1) stop
+pub passes_more : (bytes : List ℕ) (k : Kind) (n at i place end stop : ℕ) → place < end → end < stop → stop ≤ length bytes → i + 1 < n → IsAlone k (between bytes place end) → PassesEntries bytes k n at i place stop → PassesEntries bytes k n at (i + 1) end stop
 unfolding next
-passes_more bytes k n at i stop room fits more a before gs below s =
-    let e : next (entries k (n - i)) (get_or bytes (at + i) 0) (at + i + 1) ≡ Some (entries k (n - i - 1) ∷ []) =
-    ap (λ z. and_then z (others k (n - i))) (a.leaves_none (at + i + 1)) ∙ ap Some (more_left k (n - i) (omega (arith, more))) in
-    let place : at + i + 1 ≡ at + (i + 1) = omega arith in
+passes_more bytes k n at i place end stop ahead room fits more a on gs below s =
+    let e : next (entries k (n - i)) a.value end ≡ Some (entries k (n - i - 1) ∷ []) =
+    ap (λ z. and_then z (others k (n - i))) (a.leaves_none end) ∙ ap Some (more_left k (n - i) (omega (arith, more))) in
     let left : n - i - 1 ≡ n - (i + 1) = omega arith in
-    let there : Stands bytes (at + i + 1) (entries k (n - i - 1) ∷ gs) =
-    one_on bytes (at + i) stop (entries k (n - i)) gs (entries k (n - i - 1) ∷ []) (entries k (n - i - 1) ∷ gs) (get_or bytes (at + i) 0) room fits (below_entries k (n - i) gs stop below) (before gs below s) a.is_item e (settled_entries (at + i + 1) k (n - i - 1) gs) (below_entries k (n - i - 1) gs stop below) in
-    subst (λ z. Stands bytes (at + (i + 1)) (entries k z ∷ gs)) left (subst (λ z. Stands bytes z (entries k (n - i - 1) ∷ gs)) place there)
+    let there : Stands bytes end (entries k (n - i - 1) ∷ gs) =
+    item_on bytes place end stop (entries k (n - i)) gs (entries k (n - i - 1) ∷ []) (entries k (n - i - 1) ∷ gs) a.value (omega (arith, ahead)) room fits (below_entries k (n - i) gs stop below) (on gs below s) a.is_item e (settled_entries end k (n - i - 1) gs) (below_entries k (n - i - 1) gs stop below) in
+    subst (λ z. Stands bytes end (entries k z ∷ gs)) left there
 
 -- the machine's goals
-pub entries_on : (bytes : List ℕ) (all popped new : List Goal) (g : Goal) (k : Kind) (n at passed stop : ℕ) → all ≡ g ∷ drop 1 all → g ≡ entries k n → popped ≡ drop 1 all → new ≡ entries k (n - passed) ∷ popped → Stands bytes at all → Below stop all → PassesEntries bytes k n at passed stop → Stands bytes (at + passed) new
-entries_on bytes all popped new g k n at passed stop top is less more s below on =
+pub entries_on : (bytes : List ℕ) (all popped new : List Goal) (g : Goal) (k : Kind) (n at passed end stop : ℕ) → all ≡ g ∷ drop 1 all → g ≡ entries k n → popped ≡ drop 1 all → new ≡ entries k (n - passed) ∷ popped → Stands bytes at all → Below stop all → PassesEntries bytes k n at passed end stop → Stands bytes end new
+entries_on bytes all popped new g k n at passed end stop top is less more s below on =
     let whole : all ≡ entries k n ∷ drop 1 all = top ∙ ap (λ z. z ∷ drop 1 all) is in
-    subst (Stands bytes (at + passed)) (sym (more ∙ ap (λ z. entries k (n - passed) ∷ z) less))
+    subst (Stands bytes end) (sym (more ∙ ap (λ z. entries k (n - passed) ∷ z) less))
     (on (drop 1 all) (below_more (entries k n) (drop 1 all) stop (subst (Below stop) whole below)) (subst (Stands bytes at) whole s))
 
 pub entries_below : (all popped new : List Goal) (g : Goal) (k : Kind) (n stop : ℕ) → all ≡ g ∷ drop 1 all → popped ≡ drop 1 all → new ≡ entries k n ∷ popped → Below stop all → Below stop new

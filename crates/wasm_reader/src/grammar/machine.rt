@@ -104,7 +104,7 @@ impl Machine {
         Ok(())
     }
 
-    // Takes entries of one byte each, with one left.
+    // Takes short entries, with one left.
     fn pass_entries(&mut self, alloc: Global, bytes: &[u8], stop: usize) -> Result<(), AllocError>
         requires stands { Stands bytes.now self.old.at self.old.goals }
         requires below { Below stop self.old.goals }
@@ -119,12 +119,12 @@ impl Machine {
         match goal {
             Goal::Entries(kind, n) => {
                 let passed = short_entries(kind, n, bytes, self.at, stop);
-                if passed == 0 {
+                if passed.0 == 0 {
                     return Ok(());
                 }
                 self.goals.pop();
-                self.goals.push(alloc, Goal::Entries(kind, n - passed))?;
-                self.at += passed as usize;
+                self.goals.push(alloc, Goal::Entries(kind, n - passed.0))?;
+                self.at = passed.1;
                 Ok(())
             }
             _ => Ok(()),
@@ -417,6 +417,34 @@ mod tests {
         assert_eq!(rt; code_fails(alloc, b"\x43\x06\x06\x06\x06\x06")?, Some(6));
         // A body is complete before its end.
         assert_eq!(rt; code_fails(alloc, b"\x01\x0B\x01")?, Some(2));
+        Ok(())
+    }
+
+    // Where the file fails whose one function has this code and then does nothing without an end.
+    fn padded_fails(alloc: Global, code: &[u8]) -> Result<Option<usize>, CheckFault> {
+        let mut padded = Vec::new(alloc);
+        padded.extend_from_slice(code)?;
+        for _index in code.len()..29 {
+            padded.extend_from_slice(b"\x01")?;
+        }
+        code_fails(alloc, &padded)
+    }
+
+    #[test]
+    fn numbers_of_all_lengths_are_passed(rt: HostRuntime) -> Result<(), Fail> {
+        let alloc = rt.alloc();
+        assert_eq!(rt; padded_fails(alloc, b"\x20\x7F\x06")?, Some(3));
+        assert_eq!(rt; padded_fails(alloc, b"\x20\xFF\x7F\x06")?, Some(4));
+        assert_eq!(rt; padded_fails(alloc, b"\x42\xFF\xFF\x7F\x06")?, Some(5));
+        assert_eq!(rt; padded_fails(alloc, b"\x41\xFF\xFF\xFF\x7F\x06")?, Some(6));
+        assert_eq!(rt;
+            padded_fails(alloc, b"\x28\xFF\xFF\xFF\x7F\x80\x80\0\x06")?,
+            Some(9)
+        );
+        assert_eq!(rt; padded_fails(alloc, b"\x41\xFF\xFF\xFF\x7F")?, Some(29));
+        // Five bytes have unused bits.
+        assert_eq!(rt; padded_fails(alloc, b"\x41\xFF\xFF\xFF\xFF\x4F")?, Some(6));
+        assert_eq!(rt; padded_fails(alloc, b"\x20\xFF\xFF\xFF\xFF\x10")?, Some(6));
         Ok(())
     }
 

@@ -1,38 +1,71 @@
-// Runs of items of one byte each, taken at once. They stop before the end of a content.
-ghost use Rattle.std.specs.Prelude.{ℕ, ◌≡◌, ◌+◌, ◌<◌, ◌≤◌, length, get_or, IfSome};
+// Runs of short items, taken at once. They stop before the end of a content.
+ghost use Rattle.std.specs.Prelude.{ℕ, ◌≡◌, ◌+◌, ◌-◌, ◌<◌, ◌≤◌, length, take, drop, get_or, IfSome};
 ghost use Rattle.std.specs.Bool.{OnTrue};
 ghost use Rattle.wa_types.specs.Opcodes.{is_block_type};
 ghost use Rattle.wasm_reader.specs.Goals.{kind_of};
-ghost use Rattle.wasm_reader.specs.Passing.{Passes, Opens, Closes, PassesEntries, IsAlone};
+ghost use Rattle.wasm_reader.specs.Passing.{IsShort, AreShort, Passes, Opens, Closes, PassesEntries, IsAlone};
 
 use crate::grammar::goals::Kind;
 use crate::opcodes::{Shape, operand_shape};
 
-// The place behind a number of one byte.
+// The place behind a number of at most four bytes, which isn't judged: all of its bits are within its width.
 #[inline(always)]
-fn behind_byte(bytes: &[u8], at: usize) -> Option<usize>
-    requires { at < length bytes.now }
-    ensures { IfSome result (λ end. (end ≡ at + 1) × (get_or bytes.now at 0 < 128)) }
+fn behind_number(bytes: &[u8], at: usize, stop: usize) -> Option<usize>
+    requires stop { stop ≤ length bytes.now }
+    requires room { at + 1 < stop }
+    ensures ahead { IfSome result (λ end. (at < end) × (end < stop)) }
+    ensures short { IfSome result (λ end. IsShort 4 (take (end - at) (drop at bytes.now))) }
 {
-    if bytes[at] < 128 { Some(at + 1) } else { None }
+    if bytes[at] < 128 {
+        return Some(at + 1);
+    }
+    if stop - at < 5 {
+        return None;
+    }
+    if bytes[at + 1] < 128 {
+        return Some(at + 2);
+    }
+    if bytes[at + 2] < 128 {
+        return Some(at + 3);
+    }
+    if bytes[at + 3] < 128 {
+        Some(at + 4)
+    } else {
+        None
+    }
 }
 
-// Where the instruction that begins here ends, if it holds no other, and each of its numbers has one byte.
+// The place behind two numbers of at most four bytes.
+#[inline(always)]
+fn behind_numbers(bytes: &[u8], at: usize, stop: usize) -> Option<usize>
+    requires stop { stop ≤ length bytes.now }
+    requires room { at + 1 < stop }
+    ensures ahead { IfSome result (λ end. (at < end) × (end < stop)) }
+    ensures short { IfSome result (λ end. AreShort bytes.now at end) }
+{
+    let second = behind_number(bytes, at, stop)?;
+    if stop - second < 2 {
+        return None;
+    }
+    behind_number(bytes, second, stop)
+}
+
+// Where the instruction that begins here ends, if it holds no other, and each of its numbers is short.
 #[inline(always)]
 fn short_end(bytes: &[u8], at: usize, stop: usize) -> Option<usize>
     requires { stop ≤ length bytes.now }
     ensures ahead { IfSome result (λ end. (at < end) × (end < stop)) }
     ensures passes { IfSome result (λ end. Passes bytes.now at end stop) }
 {
-    if stop.saturating_sub(at) < 4 {
+    if stop.saturating_sub(at) < 3 {
         return None;
     }
     match operand_shape(bytes[at])? {
         Shape::Nothing => Some(at + 1),
-        Shape::Index => behind_byte(bytes, at + 1),
-        Shape::Constant32 => behind_byte(bytes, at + 1),
-        Shape::Constant64 => behind_byte(bytes, at + 1),
-        Shape::Access => behind_byte(bytes, behind_byte(bytes, at + 1)?),
+        Shape::Index => behind_number(bytes, at + 1, stop),
+        Shape::Constant32 => behind_number(bytes, at + 1, stop),
+        Shape::Constant64 => behind_number(bytes, at + 1, stop),
+        Shape::Access => behind_numbers(bytes, at + 1, stop),
         _ => None,
     }
 }
@@ -92,33 +125,45 @@ pub(crate) fn closes(bytes: &[u8], at: usize, stop: usize) -> bool
     bytes[at] == 0x0B
 }
 
-// Whether an entry is this byte alone.
+// Where the entry that begins here ends, if it is one item, and short.
 #[inline(always)]
-fn is_alone(kind: Kind, byte: u8) -> bool
-    ensures { OnTrue result (IsAlone (kind_of kind) byte) }
+fn entry_end(kind: Kind, bytes: &[u8], at: usize, stop: usize) -> Option<usize>
+    requires { stop ≤ length bytes.now }
+    ensures ahead { IfSome result (λ end. (at < end) × (end < stop)) }
+    ensures alone { IfSome result (λ end. IsAlone (kind_of kind) (take (end - at) (drop at bytes.now))) }
 {
+    if stop.saturating_sub(at) < 2 {
+        return None;
+    }
     match kind {
-        Kind::Bytes => true,
-        Kind::Indices => byte < 128,
-        Kind::Functions => byte < 128,
-        _ => false,
+        Kind::Bytes => Some(at + 1),
+        Kind::Indices => behind_number(bytes, at, stop),
+        Kind::Functions => behind_number(bytes, at, stop),
+        _ => None,
     }
 }
 
-/// How many entries of so many can be passed over, each of one byte, with one left.
+/// How many entries of so many can be passed over, with one left, and the place behind them.
 #[inline]
-pub(crate) fn short_entries(kind: Kind, n: u32, bytes: &[u8], at: usize, stop: usize) -> u32
+pub(crate) fn short_entries(
+    kind: Kind,
+    n: u32,
+    bytes: &[u8],
+    at: usize,
+    stop: usize,
+) -> (u32, usize)
     requires { stop ≤ length bytes.now }
-    ensures room { 0 < result → at + result < stop }
-    ensures fewer { result ≤ n }
-    ensures passes { PassesEntries bytes.now (kind_of kind) n at result stop }
+    ensures ahead { at ≤ result.1 }
+    ensures fewer { result.0 ≤ n }
+    ensures passes { PassesEntries bytes.now (kind_of kind) n at result.0 result.1 stop }
 {
-    let room = stop.saturating_sub(at).saturating_sub(1);
-    let most = room.min(n.saturating_sub(1) as usize);
+    let mut place = at;
+    let most = n.saturating_sub(1);
     for index in 0..most {
-        if !is_alone(kind, bytes[at + index]) {
-            return index as u32;
-        }
+        let Some(end) = entry_end(kind, bytes, place, stop) else {
+            return (index, place);
+        };
+        place = end;
     }
-    most as u32
+    (most, place)
 }
