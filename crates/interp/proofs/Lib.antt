@@ -8,6 +8,7 @@ pub mod NumberLemmas
 pub mod OperandLemmas
 pub mod ProgramLemmas
 pub mod ReduceLemmas
+pub mod RoomKept
 pub mod RoomLemmas
 pub mod RunLemmas
 pub mod TypeLemmas

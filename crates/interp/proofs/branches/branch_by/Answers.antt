@@ -7,8 +7,8 @@ use Rattle.interp.specs.View.{label_of, waiting_of, running_of}
 use Rattle.interp.proofs.JumpLemmas.{table_unpaid}
 use Rattle.interp.proofs.branches.branch_by.Goals as goal
 
-pub returns-then-left-more : goal.returns-then-left-more
-returns-then-left-more c =
+pub returns-then-left-more-clause-tells : goal.returns-then-left-more-clause-tells
+returns-then-left-more-clause-tells c =
     let m = module_of c.args.program.now.source.now in
     let k = c.args.stack.now in
     let size = c.args.labels.now.ok.0 in
@@ -18,8 +18,8 @@ returns-then-left-more c =
       refl,
     )
 
-pub returns : goal.returns
-returns c =
+pub returns-clause-tells : goal.returns-clause-tells
+returns-clause-tells c =
     let m = module_of c.args.program.now.source.now in
     let k = c.args.stack.now in
     let under = map waiting_of (reverse k.under.items) in
@@ -36,6 +36,6 @@ returns c =
     let path =
     ap (λ n. jump n m s k.here.func under ls below labels c.target_of-label.result) count
     ∙ ap (jump more m s k.here.func under ls below labels) c.target_of-label.ensures
-    ∙ ap (λ v. with_number v (λ n ops. jump more m s k.here.func under ls ops labels (unwrap_or (slice_get targets n) c.args.last))) (sym c.in-Some.ensures) in
+    ∙ ap (λ v. with_number v (λ n ops. jump more m s k.here.func under ls ops labels (unwrap_or (slice_get targets n) c.args.last))) (sym c.in-Some.ensures.popped) in
     subst (λ x. Tells s x c.args.left f (running_of s c.jump.new.stack)) path (told s c.args.left enough))
-    c.jump.ensures
+    c.jump.ensures.tells

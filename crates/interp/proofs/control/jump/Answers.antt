@@ -9,8 +9,8 @@ use Rattle.interp.proofs.OperandLemmas.{last_split, keep_is, none_last}
 use Rattle.interp.proofs.JumpLemmas.{at_block, at_loop, at_next, at_none}
 use Rattle.interp.proofs.control.jump.Goals as goal
 
-pub returns-in_ok-carry-in-Block : goal.returns-in_ok-carry-in-Block
-returns-in_ok-carry-in-Block c =
+pub returns-in_ok-carry-in-Block-clause-tells : goal.returns-in_ok-carry-in-Block-clause-tells
+returns-in_ok-carry-in-Block-clause-tells c =
     let m = module_of c.args.program.now.source.now in
     let k = c.loop-entry.stack in
     let under = map waiting_of (reverse k.under.items) in
@@ -22,15 +22,15 @@ returns-in_ok-carry-in-Block c =
     let rest : c.pop.new.self.items ≡ take (length labels - 1) labels = c.pop.ensures.rest ∙ ap (λ n. take (n - 1) labels) size in
     let split = last_split labels c.pop.new.self.items c.in-Some.entry.now rest last in
     λ s left paid. (
-      sym (c.loop-entry.invariant s)
+      sym (c.loop-entry.invariant.path s)
           ∙ at_block m s c.args.more k.here.func under ls ops
           labels c.pop.new.self.items c.in-Some.entry.now c.in-Block.height c.loop-entry.passed c.in-Block.carries c.in-Block.rest c.in-Block.skipped (reverse c.carry.new.operands.items)
-          split c.in-Block.is c.if-passed-eq0.true c.in_ok-carry-in-Block.ensures,
+          split c.in-Block.is c.if-passed-eq0.true c.in_ok-carry-in-Block.ensures.keeps,
       paid,
     )
 
-pub returns-in-Loop : goal.returns-in-Loop
-returns-in-Loop c =
+pub returns-in-Loop-clause-tells : goal.returns-in-Loop-clause-tells
+returns-in-Loop-clause-tells c =
     let m = module_of c.args.program.now.source.now in
     let k = c.loop-entry.stack in
     let under = map waiting_of (reverse k.under.items) in
@@ -41,15 +41,15 @@ returns-in-Loop c =
     let split = last_split labels (take (length labels - 1) labels) c.in-Some.entry.now refl last in
     let kept = ap reverse c.truncate.ensures.items ∙ sym (keep_is c.in-Loop.height k.here.operands.items) in
     λ s left paid. (
-      sym (c.loop-entry.invariant s)
+      sym (c.loop-entry.invariant.path s)
           ∙ at_loop m s c.args.more k.here.func under ls ops
           labels (take (length labels - 1) labels) c.in-Some.entry.now c.in-Loop.height c.loop-entry.passed c.in-Loop.body c.in-Loop.rest (reverse c.truncate.new.self.items)
           split c.in-Loop.is c.if-passed-eq0.true kept,
       paid,
     )
 
-pub loop-entry-preserved : goal.loop-entry-preserved
-loop-entry-preserved c =
+pub loop-entry-preserved-path : goal.loop-entry-preserved-path
+loop-entry-preserved-path c =
     let m = module_of c.args.program.now.source.now in
     let k = c.loop-entry.stack in
     let under = map waiting_of (reverse k.under.items) in
@@ -62,10 +62,10 @@ loop-entry-preserved c =
     let split = last_split labels c.pop-in-Some.new.self.items c.in-Some.entry.now rest last in
     λ s.
     at_next m s c.args.more k.here.func under ls ops labels c.pop-in-Some.new.self.items c.in-Some.entry.now c.loop-entry.passed split c.if-passed-eq0.false
-    ∙ c.loop-entry.invariant s
+    ∙ c.loop-entry.invariant.path s
 
-pub returns : goal.returns
-returns c =
+pub returns-clause-tells : goal.returns-clause-tells
+returns-clause-tells c =
     let m = module_of c.args.program.now.source.now in
     let k = c.loop-entry.stack in
     let under = map waiting_of (reverse k.under.items) in
@@ -78,6 +78,6 @@ returns c =
     let same : leave_of s c.args.more k c.func_results.result ≡ jump_of m s c.args.more c.args.stack.now c.args.label =
     ap (λ n. leave c.args.more s ops n under) c.func_results.ensures
     ∙ sym (at_none m s c.args.more k.here.func under k.here.locals.items ops labels c.loop-entry.passed none)
-    ∙ c.loop-entry.invariant s in
+    ∙ c.loop-entry.invariant.path s in
     subst (λ x. Tells s x left f (running_of s c.leave.new.stack)) same (told s left paid))
-    c.leave.ensures
+    c.leave.ensures.tells

@@ -20,7 +20,7 @@ returns-in-Const-clause-tells c =
     let s = store_of c.args.store.now in
     let k = c.args.stack.now in
     let rest = code k.here.code.now in
-    IfOk-weaker c.constant.result _ _ (λ f told. basic_arm m s s k c.constant.new.operands c.args.instr.now (Const c.in-Const.value) (const c.in-Const.value) f c.args.left c.in-Const.is (front_const c.in-Const.value rest) c.requires.paid (λ _. refl) (told (memory_max m) s)) c.constant.ensures
+    IfOk-weaker c.constant.result _ _ (λ f told. basic_arm m s s k c.constant.new.operands c.args.instr.now (Const c.in-Const.value) (const c.in-Const.value) f c.args.left c.in-Const.is (front_const c.in-Const.value rest) c.requires.paid (λ _. refl) (told (memory_max m) s)) c.constant.ensures.shows
 
 pub returns-in-Num-clause-tells : goal.returns-in-Num-clause-tells
 returns-in-Num-clause-tells c =
@@ -28,7 +28,7 @@ returns-in-Num-clause-tells c =
     let s = store_of c.args.store.now in
     let k = c.args.stack.now in
     let rest = code k.here.code.now in
-    IfOk-weaker c.numeric.result _ _ (λ f told. basic_arm m s s k c.numeric.new.operands c.args.instr.now (Num c.in-Num.op) (num c.in-Num.op) f c.args.left c.in-Num.is (front_num c.in-Num.op rest) c.requires.paid (λ _. refl) (told (memory_max m) s)) c.numeric.ensures
+    IfOk-weaker c.numeric.result _ _ (λ f told. basic_arm m s s k c.numeric.new.operands c.args.instr.now (Num c.in-Num.op) (num c.in-Num.op) f c.args.left c.in-Num.is (front_num c.in-Num.op rest) c.requires.paid (λ _. refl) (told (memory_max m) s)) c.numeric.ensures.shows
 
 pub returns-in-Select-clause-tells : goal.returns-in-Select-clause-tells
 returns-in-Select-clause-tells c =
@@ -36,7 +36,7 @@ returns-in-Select-clause-tells c =
     let s = store_of c.args.store.now in
     let k = c.args.stack.now in
     let rest = code k.here.code.now in
-    IfOk-weaker c.choose.result _ _ (λ f told. basic_arm m s s k c.choose.new.operands c.args.instr.now Select select f c.args.left c.in-Select.is (front_select rest) c.requires.paid (λ _. refl) (told (memory_max m) s)) c.choose.ensures
+    IfOk-weaker c.choose.result _ _ (λ f told. basic_arm m s s k c.choose.new.operands c.args.instr.now Select select f c.args.left c.in-Select.is (front_select rest) c.requires.paid (λ _. refl) (told (memory_max m) s)) c.choose.ensures.shows
 
 pub returns-in-Load-clause-tells : goal.returns-in-Load-clause-tells
 returns-in-Load-clause-tells c =
@@ -44,7 +44,7 @@ returns-in-Load-clause-tells c =
     let s = store_of c.args.store.now in
     let k = c.args.stack.now in
     let rest = code k.here.code.now in
-    IfOk-weaker c.load_at.result _ _ (λ f told. basic_arm m s s k c.load_at.new.operands c.args.instr.now (Load c.in-Load.op c.in-Load.align c.in-Load.offset) (load c.in-Load.op c.in-Load.align c.in-Load.offset) f c.args.left c.in-Load.is (front_load c.in-Load.op c.in-Load.align c.in-Load.offset rest) c.requires.paid (λ _. refl) (told (memory_max m) c.in-Load.align)) c.load_at.ensures
+    IfOk-weaker c.load_at.result _ _ (λ f told. basic_arm m s s k c.load_at.new.operands c.args.instr.now (Load c.in-Load.op c.in-Load.align c.in-Load.offset) (load c.in-Load.op c.in-Load.align c.in-Load.offset) f c.args.left c.in-Load.is (front_load c.in-Load.op c.in-Load.align c.in-Load.offset rest) c.requires.paid (λ _. refl) (told (memory_max m) c.in-Load.align)) c.load_at.ensures.shows
 
 pub returns-in-MemorySize-clause-tells : goal.returns-in-MemorySize-clause-tells
 returns-in-MemorySize-clause-tells c =
@@ -52,7 +52,7 @@ returns-in-MemorySize-clause-tells c =
     let s = store_of c.args.store.now in
     let k = c.args.stack.now in
     let rest = code k.here.code.now in
-    IfOk-weaker c.memory_size.result _ _ (λ f told. basic_arm m s s k c.memory_size.new.operands c.args.instr.now MemorySize memory_size f c.args.left c.in-MemorySize.is (front_size rest) c.requires.paid (λ _. refl) (told (memory_max m))) c.memory_size.ensures
+    IfOk-weaker c.memory_size.result _ _ (λ f told. basic_arm m s s k c.memory_size.new.operands c.args.instr.now MemorySize memory_size f c.args.left c.in-MemorySize.is (front_size rest) c.requires.paid (λ _. refl) (told (memory_max m))) c.memory_size.ensures.shows
 
 pub returns-in-GlobalGet-clause-tells : goal.returns-in-GlobalGet-clause-tells
 returns-in-GlobalGet-clause-tells c =
@@ -60,7 +60,7 @@ returns-in-GlobalGet-clause-tells c =
     let s = store_of c.args.store.now in
     let k = c.args.stack.now in
     let rest = code k.here.code.now in
-    IfOk-weaker c.get_global.result _ _ (λ f told. basic_arm m s s k c.get_global.new.operands c.args.instr.now (GlobalGet c.in-GlobalGet.x) (global_get c.in-GlobalGet.x) f c.args.left c.in-GlobalGet.is (front_global_get c.in-GlobalGet.x rest) c.requires.paid (λ _. refl) (told (memory_max m))) c.get_global.ensures
+    IfOk-weaker c.get_global.result _ _ (λ f told. basic_arm m s s k c.get_global.new.operands c.args.instr.now (GlobalGet c.in-GlobalGet.x) (global_get c.in-GlobalGet.x) f c.args.left c.in-GlobalGet.is (front_global_get c.in-GlobalGet.x rest) c.requires.paid (λ _. refl) (told (memory_max m))) c.get_global.ensures.shows
 
 pub returns-in-Drop-clause-tells : goal.returns-in-Drop-clause-tells
 returns-in-Drop-clause-tells c =
@@ -68,7 +68,7 @@ returns-in-Drop-clause-tells c =
     let s = store_of c.args.store.now in
     let k = c.args.stack.now in
     let rest = code k.here.code.now in
-    basic_arm m s s k c.drop_top.new.operands c.args.instr.now Drop drop_operand c.drop_top.result c.args.left c.in-Drop.is (front_drop rest) c.requires.paid (λ _. refl) (c.drop_top.ensures (memory_max m) s)
+    basic_arm m s s k c.drop_top.new.operands c.args.instr.now Drop drop_operand c.drop_top.result c.args.left c.in-Drop.is (front_drop rest) c.requires.paid (λ _. refl) (c.drop_top.ensures.shows (memory_max m) s)
 
 pub returns-in-Nop-clause-tells : goal.returns-in-Nop-clause-tells
 returns-in-Nop-clause-tells c =
@@ -108,7 +108,7 @@ returns-in-LocalGet-clause-tells c =
     let s = store_of c.args.store.now in
     let k = c.args.stack.now in
     let rest = code k.here.code.now in
-    IfOk-weaker c.get_local.result _ _ (λ f told. code_arm m s k c.args.instr.now (LocalGet c.in-LocalGet.x) (plain (local_get c.in-LocalGet.x) rest) f c.args.left (running_of s c.get_local.new.stack) c.in-LocalGet.is (front_local_get c.in-LocalGet.x rest) (told m s c.args.left c.requires.paid)) c.get_local.ensures
+    IfOk-weaker c.get_local.result _ _ (λ f told. code_arm m s k c.args.instr.now (LocalGet c.in-LocalGet.x) (plain (local_get c.in-LocalGet.x) rest) f c.args.left (running_of s c.get_local.new.stack) c.in-LocalGet.is (front_local_get c.in-LocalGet.x rest) (told m s c.args.left c.requires.paid)) c.get_local.ensures.tells
 
 pub returns-in-BrIf-clause-tells : goal.returns-in-BrIf-clause-tells
 returns-in-BrIf-clause-tells c =
@@ -116,7 +116,7 @@ returns-in-BrIf-clause-tells c =
     let s = store_of c.args.store.now in
     let k = c.args.stack.now in
     let rest = code k.here.code.now in
-    IfOk-weaker c.branch_if.result _ _ (λ f told. code_arm m s k c.args.instr.now (BrIf c.in-BrIf.label) (plain (br_if c.in-BrIf.label) rest) f c.args.left (running_of s c.branch_if.new.stack) c.in-BrIf.is (front_br_if c.in-BrIf.label rest) (told s c.args.left c.requires.paid)) c.branch_if.ensures
+    IfOk-weaker c.branch_if.result _ _ (λ f told. code_arm m s k c.args.instr.now (BrIf c.in-BrIf.label) (plain (br_if c.in-BrIf.label) rest) f c.args.left (running_of s c.branch_if.new.stack) c.in-BrIf.is (front_br_if c.in-BrIf.label rest) (told s c.args.left c.requires.paid)) c.branch_if.ensures.tells
 
 pub returns-in-Br-clause-tells : goal.returns-in-Br-clause-tells
 returns-in-Br-clause-tells c =
@@ -124,7 +124,7 @@ returns-in-Br-clause-tells c =
     let s = store_of c.args.store.now in
     let k = c.args.stack.now in
     let rest = code k.here.code.now in
-    IfOk-weaker c.jump.result _ _ (λ f told. code_arm m s k c.args.instr.now (Br c.in-Br.label) (plain (br c.in-Br.label) rest) f c.args.left (running_of s c.jump.new.stack) c.in-Br.is (front_br c.in-Br.label rest) (told s c.args.left c.requires.paid)) c.jump.ensures
+    IfOk-weaker c.jump.result _ _ (λ f told. code_arm m s k c.args.instr.now (Br c.in-Br.label) (plain (br c.in-Br.label) rest) f c.args.left (running_of s c.jump.new.stack) c.in-Br.is (front_br c.in-Br.label rest) (told s c.args.left c.requires.paid)) c.jump.ensures.tells
 
 pub returns-in-BrTable-clause-tells : goal.returns-in-BrTable-clause-tells
 returns-in-BrTable-clause-tells c =
@@ -132,7 +132,7 @@ returns-in-BrTable-clause-tells c =
     let s = store_of c.args.store.now in
     let k = c.args.stack.now in
     let rest = code k.here.code.now in
-    IfOk-weaker c.branch_by.result _ _ (λ f told. code_arm m s k c.args.instr.now (BrTable c.in-BrTable.labels c.in-BrTable.last) (plain (br_table c.in-BrTable.labels.items c.in-BrTable.last) rest) f c.args.left (running_of s c.branch_by.new.stack) c.in-BrTable.is (in_br_table c.in-BrTable.labels c.in-BrTable.last rest) (told s)) c.branch_by.ensures
+    IfOk-weaker c.branch_by.result _ _ (λ f told. code_arm m s k c.args.instr.now (BrTable c.in-BrTable.labels c.in-BrTable.last) (plain (br_table c.in-BrTable.labels.items c.in-BrTable.last) rest) f c.args.left (running_of s c.branch_by.new.stack) c.in-BrTable.is (in_br_table c.in-BrTable.labels c.in-BrTable.last rest) (told s)) c.branch_by.ensures.tells
 
 pub returns-in-Call-clause-tells : goal.returns-in-Call-clause-tells
 returns-in-Call-clause-tells c =
@@ -140,7 +140,7 @@ returns-in-Call-clause-tells c =
     let s = store_of c.args.store.now in
     let k = c.args.stack.now in
     let rest = code k.here.code.now in
-    IfOk-weaker c.call.result _ _ (λ f told. code_arm m s k c.args.instr.now (Call c.in-Call.func) (plain (call c.in-Call.func) rest) f c.args.left (running_of s c.call.new.stack) c.in-Call.is (front_call c.in-Call.func rest) (told s)) c.call.ensures
+    IfOk-weaker c.call.result _ _ (λ f told. code_arm m s k c.args.instr.now (Call c.in-Call.func) (plain (call c.in-Call.func) rest) f c.args.left (running_of s c.call.new.stack) c.in-Call.is (front_call c.in-Call.func rest) (told s)) c.call.ensures.tells
 
 pub returns-in-CallIndirect-clause-tells : goal.returns-in-CallIndirect-clause-tells
 returns-in-CallIndirect-clause-tells c =
@@ -148,7 +148,7 @@ returns-in-CallIndirect-clause-tells c =
     let s = store_of c.args.store.now in
     let k = c.args.stack.now in
     let rest = code k.here.code.now in
-    IfOk-weaker c.call_indirect.result _ _ (λ f told. code_arm m s k c.args.instr.now (CallIndirect c.in-CallIndirect.sort) (plain (call_indirect c.in-CallIndirect.sort) rest) f c.args.left (running_of s c.call_indirect.new.stack) c.in-CallIndirect.is (front_indirect c.in-CallIndirect.sort rest) (told s refl)) c.call_indirect.ensures
+    IfOk-weaker c.call_indirect.result _ _ (λ f told. code_arm m s k c.args.instr.now (CallIndirect c.in-CallIndirect.sort) (plain (call_indirect c.in-CallIndirect.sort) rest) f c.args.left (running_of s c.call_indirect.new.stack) c.in-CallIndirect.is (front_indirect c.in-CallIndirect.sort rest) (told s refl)) c.call_indirect.ensures.tells
 
 pub returns-in-Return-clause-tells : goal.returns-in-Return-clause-tells
 returns-in-Return-clause-tells c =
@@ -156,7 +156,7 @@ returns-in-Return-clause-tells c =
     let s = store_of c.args.store.now in
     let k = c.args.stack.now in
     let rest = code k.here.code.now in
-    IfOk-weaker c.leave.result _ _ (λ f told. code_arm m s k c.args.instr.now Return (plain return rest) f c.args.left (running_of s c.leave.new.stack) c.in-Return.is (front_return rest) (subst (λ n. Tells s (leave 0 s (reverse k.here.operands.items) n (map waiting_of (reverse k.under.items))) c.args.left f (running_of s c.leave.new.stack)) c.func_results.ensures (told s c.args.left c.requires.paid))) c.leave.ensures
+    IfOk-weaker c.leave.result _ _ (λ f told. code_arm m s k c.args.instr.now Return (plain return rest) f c.args.left (running_of s c.leave.new.stack) c.in-Return.is (front_return rest) (subst (λ n. Tells s (leave 0 s (reverse k.here.operands.items) n (map waiting_of (reverse k.under.items))) c.args.left f (running_of s c.leave.new.stack)) c.func_results.ensures (told s c.args.left c.requires.paid))) c.leave.ensures.tells
 
 pub returns-in-LocalSet-clause-tells : goal.returns-in-LocalSet-clause-tells
 returns-in-LocalSet-clause-tells c =
@@ -164,7 +164,7 @@ returns-in-LocalSet-clause-tells c =
     let s = store_of c.args.store.now in
     let k = c.args.stack.now in
     let rest = code k.here.code.now in
-    code_arm m s k c.args.instr.now (LocalSet c.in-LocalSet.x) (plain (local_set c.in-LocalSet.x) rest) c.set_local.result c.args.left (running_of s c.set_local.new.stack) c.in-LocalSet.is (front_local_set c.in-LocalSet.x rest) (c.set_local.ensures m s c.args.left c.requires.paid)
+    code_arm m s k c.args.instr.now (LocalSet c.in-LocalSet.x) (plain (local_set c.in-LocalSet.x) rest) c.set_local.result c.args.left (running_of s c.set_local.new.stack) c.in-LocalSet.is (front_local_set c.in-LocalSet.x rest) (c.set_local.ensures.tells m s c.args.left c.requires.paid)
 
 pub returns-in-LocalTee-clause-tells : goal.returns-in-LocalTee-clause-tells
 returns-in-LocalTee-clause-tells c =
@@ -172,7 +172,7 @@ returns-in-LocalTee-clause-tells c =
     let s = store_of c.args.store.now in
     let k = c.args.stack.now in
     let rest = code k.here.code.now in
-    code_arm m s k c.args.instr.now (LocalTee c.in-LocalTee.x) (plain (local_tee c.in-LocalTee.x) rest) c.tee_local.result c.args.left (running_of s c.tee_local.new.stack) c.in-LocalTee.is (front_local_tee c.in-LocalTee.x rest) (c.tee_local.ensures m s c.args.left c.requires.paid)
+    code_arm m s k c.args.instr.now (LocalTee c.in-LocalTee.x) (plain (local_tee c.in-LocalTee.x) rest) c.tee_local.result c.args.left (running_of s c.tee_local.new.stack) c.in-LocalTee.is (front_local_tee c.in-LocalTee.x rest) (c.tee_local.ensures.tells m s c.args.left c.requires.paid)
 
 pub returns-in-Unreachable-clause-tells : goal.returns-in-Unreachable-clause-tells
 returns-in-Unreachable-clause-tells c =
@@ -188,7 +188,7 @@ returns-in-Block-clause-tells c =
     let s = store_of c.args.store.now in
     let k = c.args.stack.now in
     let rest = code k.here.code.now in
-    IfOk-weaker c.enter_block.result _ _ (λ f told. code_arm m s k c.args.instr.now (Block c.in-Block.result c.in-Block.body) (nest a_block c.in-Block.result (code c.deref.result.now) rest) f c.args.left (running_of s c.enter_block.new.stack) c.in-Block.is (in_block c.in-Block.result c.in-Block.body rest ∙ ap (λ b. nest a_block c.in-Block.result (code b) rest) (sym c.deref.ensures.value)) (told m s c.args.left c.requires.paid)) c.enter_block.ensures
+    IfOk-weaker c.enter_block.result _ _ (λ f told. code_arm m s k c.args.instr.now (Block c.in-Block.result c.in-Block.body) (nest a_block c.in-Block.result (code c.deref.result.now) rest) f c.args.left (running_of s c.enter_block.new.stack) c.in-Block.is (in_block c.in-Block.result c.in-Block.body rest ∙ ap (λ b. nest a_block c.in-Block.result (code b) rest) (sym c.deref.ensures.value)) (told m s c.args.left c.requires.paid)) c.enter_block.ensures.tells
 
 pub returns-in-Loop-clause-tells : goal.returns-in-Loop-clause-tells
 returns-in-Loop-clause-tells c =
@@ -196,7 +196,7 @@ returns-in-Loop-clause-tells c =
     let s = store_of c.args.store.now in
     let k = c.args.stack.now in
     let rest = code k.here.code.now in
-    IfOk-weaker c.enter_loop.result _ _ (λ f told. code_arm m s k c.args.instr.now (Loop c.in-Loop.result c.in-Loop.body) (nest a_loop c.in-Loop.result (code c.deref-in-Loop.result.now) rest) f c.args.left (running_of s c.enter_loop.new.stack) c.in-Loop.is (in_loop c.in-Loop.result c.in-Loop.body rest ∙ ap (λ b. nest a_loop c.in-Loop.result (code b) rest) (sym c.deref-in-Loop.ensures.value)) (told m s c.args.left c.requires.paid)) c.enter_loop.ensures
+    IfOk-weaker c.enter_loop.result _ _ (λ f told. code_arm m s k c.args.instr.now (Loop c.in-Loop.result c.in-Loop.body) (nest a_loop c.in-Loop.result (code c.deref-in-Loop.result.now) rest) f c.args.left (running_of s c.enter_loop.new.stack) c.in-Loop.is (in_loop c.in-Loop.result c.in-Loop.body rest ∙ ap (λ b. nest a_loop c.in-Loop.result (code b) rest) (sym c.deref-in-Loop.ensures.value)) (told m s c.args.left c.requires.paid)) c.enter_loop.ensures.tells
 
 pub returns-in-If-clause-tells : goal.returns-in-If-clause-tells
 returns-in-If-clause-tells c =

@@ -18,7 +18,7 @@ returns-in_default-clause-tells c =
     let none : code k.here.code.now ≡ done = ap code (nil_from_length _ c.in_default.ensures.cases) ∙ code_none in
     IfOk-weaker c.finish.result _ _
     (λ f told. subst (λ d. Tells s (code_of m s k d) c.args.left f (running_of s c.finish.new.stack)) (sym none) (told s c.args.left c.requires.paid))
-    c.finish.ensures
+    c.finish.ensures.tells
 
 pub returns-clause-tells : goal.returns-clause-tells
 returns-clause-tells c =
