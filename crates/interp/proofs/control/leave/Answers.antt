@@ -1,25 +1,16 @@
-use Rattle.std.proofs.Common.{rules, ◌≡◌, ◌<◌, ◌≤◌, List, vec_capacity, OnErr, IfErr, ◌++◌, ℕ, [], IfOk, length, reverse, take, drop, ◌+◌, ◌-◌, ◌*◌, ◌/◌, ◌%◌, Bool, true, false, nat_eq, nat_lt, ◌∷◌, slice_index_or, slice_set, bit_and, bit_or, Fits, w8, w32, w64, Bor, MutBor}
-use Rattle.wa_types.specs.View.{module_of}
-use Rattle.wa_model.specs.Store.{Store}
-use Rattle.wa_model.specs.Step.{keep}
-use Rattle.wa_model.specs.Blocking.{value_of_results}
-use Rattle.interp.specs.Stacks.{leave_of, jump_of, finish_of}
-use Rattle.wa_types.specs.Syntax.{Module}
-use Rattle.wa_types.specs.declared.values.ValType.{ValType}
-use Rattle.wa_model.specs.Fitting.{NextFits}
-use Rattle.interp.specs.Rooms.{StackRoom}
-use Rattle.interp.specs.Told.{Tells}
-use Rattle.interp.specs.View.{count_of, running_of}
+use Rattle.std.proofs.Common.{arith, ◌≤◌, vec_capacity, refl}
+use Rattle.interp.proofs.RoomKept.{err_any, leave_lacked, leave_holds}
 use Rattle.interp.proofs.control.leave.Goals as goal
 
--- src/control.rt:32:5
 pub returns-in_err-hand_over-clause-holds : goal.returns-in_err-hand_over-clause-holds
-returns-in_err-hand_over-clause-holds c = ?
+returns-in_err-hand_over-clause-holds c =
+    λ m h. leave_holds m c.args.stack.now c.in-Some.caller c.pop.new.self.items _ c.replace-callee.new.dest c.in-Some.ensures.items c.replace-callee.ensures.after refl refl c.hand_over.ensures.holds (omega arith) h
 
--- src/control.rt:32:5
 pub returns-in_err-hand_over-clause-lacks : goal.returns-in_err-hand_over-clause-lacks
-returns-in_err-hand_over-clause-lacks c = ?
+returns-in_err-hand_over-clause-lacks c =
+    err_any c.from_residual.result _
+    (λ e m s outs h fits. leave_lacked m outs c.args.stack.now s c.args.more c.args.arity c.in-Some.caller c.pop.new.self.items c.replace-callee.result c.replace-callee.new.dest c.in-Some.ensures.items c.replace-callee.ensures.value c.replace-callee.ensures.after c.in_err-hand_over.ensures.lacks h fits)
 
--- src/control.rt:22:1
 pub returns-clause-holds : goal.returns-clause-holds
-returns-clause-holds c = ?
+returns-clause-holds c =
+    λ m h. leave_holds m c.args.stack.now c.in-Some.caller c.pop.new.self.items _ c.replace-callee.new.dest c.in-Some.ensures.items c.replace-callee.ensures.after refl refl c.hand_over.ensures.holds (omega arith) h
