@@ -1,5 +1,5 @@
 -- What keeps the room of a stack's activations, and what refutes that room was lacking.
-use Rattle.std.proofs.Common.{arith, ◌≡◌, ℕ, zero, suc, ◌+◌, ◌<◌, ◌≤◌, List, [], ◌∷◌, ◌++◌, length, map, reverse, take, drop, Option, Some, Result, Ok, Err, IfErr, OnOk, IsOk, Vec, vec_capacity, vec_len, refl, sym, ap, ◌∙◌, subst}
+use Rattle.std.proofs.Common.{arith, ◌≡◌, ℕ, zero, suc, ◌+◌, ◌<◌, ◌≤◌, List, [], ◌∷◌, ◌++◌, length, map, reverse, take, drop, Option, Some, Result, Ok, Err, IfErr, OnOk, IsOk, Vec, Global, vec_capacity, vec_len, refl, sym, ap, ◌∙◌, subst}
 use Rattle.std.proofs.lemmas.List.{length-map, length-reverse}
 use Rattle.wa_types.specs.declared.values.ValType.{ValType}
 use Rattle.wa_types.specs.declared.values.Value.{Value}
@@ -25,6 +25,7 @@ use Rattle.interp.specs.Rooms.{HasRoom, Roomier, StackRoom, TakesMemory}
 use Rattle.interp.specs.Stacks.{leave_of, code_of}
 use Rattle.interp.specs.View.{label_of, waiting_of}
 use Rattle.interp.proofs.OperandLemmas.{top_first}
+use Rattle.interp.proofs.ReduceLemmas.{with_operands}
 
 abbrev pub WaitsRoom : Module → Waiting → Type 0
 WaitsRoom m w = HasRoom m w.activation
@@ -157,3 +158,7 @@ refuted_arm m outs s k x x' d ex ed f fits =
 -- one that takes memory
 pub taking_arm : (rest : Code) (x x' : Instr) (d : Code) → x ≡ x' → in_front x' rest ≡ d → TakesMemory d → TakesMemory (in_front x rest)
 taking_arm rest x x' d ex ed h = subst TakesMemory (sym (ap (λ i. in_front i rest) ex ∙ ed)) h
+
+-- other operands with no less room
+pub operands_hold : (m : Module) (k : Stack) (v : Vec Value Global) → vec_capacity k.here.operands ≤ vec_capacity v → StackRoom m k → StackRoom m (with_operands k v)
+operands_hold m k v e = roomier m k (with_operands k v) (record { func = refl; operands = e; labels = omega arith; under = refl })
