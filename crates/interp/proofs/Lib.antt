@@ -1,3 +1,4 @@
+pub mod AskLemmas
 pub mod CallLemmas
 pub mod FittingTurns
 pub mod Fronts

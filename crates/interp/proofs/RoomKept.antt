@@ -21,7 +21,7 @@ use Rattle.wa_model.proofs.FittingSteps.{heights_within}
 use Rattle.interp.specs.declared.activation.Activation.{Activation}
 use Rattle.interp.specs.declared.activation.Stack.{Stack}
 use Rattle.interp.specs.declared.activation.Waiting.{Waiting}
-use Rattle.interp.specs.Rooms.{HasRoom, Roomier, StackRoom, TakesMemory}
+use Rattle.interp.specs.Rooms.{room_of, HasRoom, Reserves, Roomier, StackRoom, TakesMemory}
 use Rattle.interp.specs.Stacks.{leave_of, code_of}
 use Rattle.interp.specs.View.{label_of, waiting_of}
 use Rattle.interp.proofs.OperandLemmas.{top_first}
@@ -162,3 +162,17 @@ taking_arm rest x x' d ex ed h = subst TakesMemory (sym (ap (λ i. in_front i re
 -- other operands with no less room
 pub operands_hold : (m : Module) (k : Stack) (v : Vec Value Global) → vec_capacity k.here.operands ≤ vec_capacity v → StackRoom m k → StackRoom m (with_operands k v)
 operands_hold m k v e = roomier m k (with_operands k v) (record { func = refl; operands = e; labels = omega arith; under = refl })
+
+-- an activation that has just been entered, and a stack of it alone
+pub entered_room : (m : Module) (a : Activation) (x : ℕ) (f : Func) → a.func ≡ x → defined_at m x ≡ Some f → Reserves a (room_of m f) → HasRoom m a
+entered_room m a x f ea ef r =
+    record {
+      operands = λ g d. let e : g ≡ f = is_it g d in subst (λ (h : Func). most_operands m h.body 0 ≤ vec_capacity a.operands) (sym e) (let o = r.operands in omega arith);
+      labels = λ g d. let e : g ≡ f = is_it g d in subst (λ (h : Func). depth_of h.body ≤ vec_capacity a.labels) (sym e) (let l = r.labels in omega arith);
+    }
+  where
+    is_it : (g : Func) → defined_at m a.func ≡ Some g → g ≡ f
+    is_it g d = let w : Some g ≡ Some f = sym d ∙ ap (defined_at m) ea ∙ ef in cc
+
+pub alone_room : (m : Module) (k : Stack) → HasRoom m k.here → k.under.items ≡ [] → StackRoom m k
+alone_room m k h e = record { here = h; under = subst (Each (WaitsRoom m)) (sym e) tt }

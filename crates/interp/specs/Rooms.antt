@@ -1,5 +1,6 @@
 -- What an activation reserves.
-use Rattle.std.specs.Prelude.{◌≡◌, ℕ, ◌<◌, ◌≤◌, ◌^◌, Option, Some, vec_capacity}
+use Rattle.std.specs.Coded.{le_prop}
+use Rattle.std.specs.Prelude.{List, [], ◌∷◌, ◌≡◌, ℕ, ◌<◌, ◌≤◌, ◌^◌, Option, Some, vec_capacity}
 use Rattle.wa_types.specs.declared.syntax.Func.{Func as FuncValue}
 use Rattle.wa_types.specs.Counts.{count_of, depth_of}
 use Rattle.wa_types.specs.Modules.{defined_at}
@@ -10,6 +11,8 @@ use Rattle.wa_model.specs.Heights.{most_operands}
 use Rattle.interp.specs.declared.activation.Activation.{Activation}
 use Rattle.interp.specs.declared.activation.Stack.{Stack}
 use Rattle.interp.specs.declared.activation.Waiting.{Waiting}
+use Rattle.interp.specs.declared.turns.Wait.{Wait}
+use Rattle.interp.specs.declared.turns.Wait.TheVariants.{Nothing, Outermost, Inside}
 use Rattle.interp.specs.declared.rooms.Room.{Room}
 
 -- what the activations of a function reserve
@@ -51,3 +54,25 @@ TakesMemory (plain (call x) rest) = Unit {0}
 TakesMemory (plain (call_indirect sort) rest) = Unit {0}
 TakesMemory (plain (basic memory_grow) rest) = Unit {0}
 TakesMemory _ = ⊥
+
+-- so does what waits
+abbrev pub WaitRoom : Module → Wait → Type 0
+WaitRoom m (Inside k taken) = StackRoom m k
+WaitRoom m _ = Unit {0}
+
+-- ---- of that there is one proof at most
+
+each_prop : {X : Type 0} (P : X → Type 0) → ((x : X) → IsProp (P x)) → (xs : List X) → IsProp (Each P xs)
+each_prop P p [] = hlevel
+each_prop P p (x ∷ xs) = hlevel (p x, each_prop P p xs)
+
+room_prop : (m : Module) (a : Activation) → IsProp (HasRoom m a)
+room_prop m a = hlevel le_prop
+
+stack_prop : (m : Module) (k : Stack) → IsProp (StackRoom m k)
+stack_prop m k = hlevel (room_prop m k.here, each_prop (λ (w : Waiting). HasRoom m w.activation) (λ w. room_prop m w.activation) k.under.items)
+
+pub wait_prop : (m : Module) (w : Wait) → IsProp (WaitRoom m w)
+wait_prop m Nothing = hlevel
+wait_prop m Outermost = hlevel
+wait_prop m (Inside k taken) = stack_prop m k
