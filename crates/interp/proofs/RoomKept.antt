@@ -16,11 +16,16 @@ use Rattle.wa_model.specs.Configuration as C
 use Rattle.wa_model.specs.Step.{Next, steps, leave, choose, arity_of, step_at}
 use Rattle.wa_model.specs.Heights.{most_operands}
 use Rattle.wa_model.specs.Growth.{Each}
-use Rattle.wa_model.specs.Fitting.{types_of, ActFits, Fits, NextFits}
+use Rattle.wa_model.specs.Fitting.{types_of, ActFits, StoreFits, Fits, NextFits}
 use Rattle.wa_model.proofs.FittingSteps.{heights_within}
 use Rattle.interp.specs.declared.activation.Activation.{Activation}
 use Rattle.interp.specs.declared.activation.Stack.{Stack}
 use Rattle.interp.specs.declared.activation.Waiting.{Waiting}
+use Rattle.interp.specs.declared.turns.Wait.TheVariants as WV
+use Rattle.interp.specs.Instance.{Awaits, ResumeLacks, waits_of}
+use Rattle.interp.specs.Runs.{LacksAt}
+use Rattle.std.specs.Option.{option_to_list}
+use Rattle.interp.proofs.FittingTurns.{answered_fits}
 use Rattle.interp.specs.Rooms.{room_of, HasRoom, Reserves, Roomier, StackRoom, TakesMemory}
 use Rattle.interp.specs.Stacks.{leave_of, code_of}
 use Rattle.interp.specs.View.{label_of, waiting_of}
@@ -176,3 +181,19 @@ entered_room m a x f ea ef r =
 
 pub alone_room : (m : Module) (k : Stack) → HasRoom m k.here → k.under.items ≡ [] → StackRoom m k
 alone_room m k h e = record { here = h; under = subst (Each (WaitsRoom m)) (sym e) tt }
+
+-- what waits has room for its answer
+pub answer_lacked : (m : Module) (outs : List ValType) (s : Store) (k : Stack) (taken : ℕ) (value : Option Value) → vec_capacity k.here.operands < length (option_to_list value ++ drop taken (reverse k.here.operands.items))
+    → StoreFits m s → Awaits m outs (types_of (option_to_list value)) (waits_of (WV.Inside k taken)) → StackRoom m k → ⊥
+answer_lacked m outs s k taken value lack ok a h =
+    let ops = option_to_list value ++ drop taken (reverse k.here.operands.items) in
+    let d = running s k.here.func (map waiting_of (reverse k.under.items)) k.here.locals.items ops (code k.here.code.now) (map label_of (reverse k.here.labels.items)) in
+    let w = operands_within m outs (steps 0 d) 0 d (vec_capacity k.here.operands) refl (answered_fits m outs s k taken value ops ok a refl) h.here.operands in
+    omega arith
+
+-- where it goes on from its answer and lacks memory, the answer did
+pub answered_lacks : (m : Module) (s : Store) (k : Stack) (taken : ℕ) (value : Option Value) (ops : List Value) (used : ℕ) (s' : Store) → ops ≡ option_to_list value ++ drop taken (reverse k.here.operands.items)
+    → LacksAt m (running s k.here.func (map waiting_of (reverse k.under.items)) k.here.locals.items ops (code k.here.code.now) (map label_of (reverse k.here.labels.items))) used s'
+    → ResumeLacks m s (waits_of (WV.Inside k taken)) value used s'
+answered_lacks m s k taken value ops used s' e l =
+    subst (λ o. LacksAt m (running s k.here.func (map waiting_of (reverse k.under.items)) k.here.locals.items o (code k.here.code.now) (map label_of (reverse k.here.labels.items))) used s') e l
