@@ -9,7 +9,7 @@ use Rattle.wa_types.specs.Modules.{func_imports, func_type_at, type_at, defined_
 use Rattle.wa_model.specs.Store.{Store, Did, works, fails, lacks, takes, act}
 use Rattle.wa_model.specs.Configuration.{Label, block_label, loop_label, Activation, Configuration, running, waiting}
 use Rattle.wa_model.specs.Step.{Next, steps, asks, returns, traps, stuck, result_count, leave, jump, finish, did, with_top, with_number, choose, entered, invoke, param_count, same_func_type, through, memory_max, step_plain, step_at, step}
-use Rattle.wa_model.specs.Alone.{Goes, Finish, it_returned, it_trapped, it_asks, it_spent, FinishesAt, EndsAs, by_finish, by_steps}
+use Rattle.wa_model.specs.Alone.{Finish, it_asks, FinishesAt, EndsAs, by_finish, by_steps}
 use Rattle.interp.specs.Rooms.{TakesMemory}
 use Rattle.interp.specs.Runs.{LacksAt}
 

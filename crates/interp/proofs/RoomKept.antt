@@ -1,5 +1,5 @@
 -- What keeps the room of a stack's activations, and what refutes that room was lacking.
-use Rattle.std.proofs.Common.{arith, ◌≡◌, ℕ, zero, suc, ◌+◌, ◌<◌, ◌≤◌, List, [], ◌∷◌, ◌++◌, length, map, reverse, take, drop, Option, Some, Result, Ok, Err, IfErr, OnOk, IsOk, Vec, Global, vec_capacity, vec_len, refl, sym, ap, ◌∙◌, subst}
+use Rattle.std.proofs.Common.{arith, ◌≡◌, ℕ, zero, suc, ◌<◌, ◌≤◌, List, [], ◌∷◌, ◌++◌, length, map, reverse, take, drop, Option, Some, Result, Ok, Err, IfErr, OnOk, IsOk, Vec, Global, vec_capacity, vec_len, refl, sym, ap, ◌∙◌, subst}
 use Rattle.std.proofs.lemmas.List.{length-map, length-reverse}
 use Rattle.wa_types.specs.declared.values.ValType.{ValType}
 use Rattle.wa_types.specs.declared.values.Value.{Value}
@@ -16,7 +16,7 @@ use Rattle.wa_model.specs.Configuration as C
 use Rattle.wa_model.specs.Step.{Next, steps, leave, choose, arity_of, step_at}
 use Rattle.wa_model.specs.Heights.{most_operands}
 use Rattle.wa_model.specs.Growth.{Each}
-use Rattle.wa_model.specs.Fitting.{types_of, ActFits, StoreFits, Fits, NextFits}
+use Rattle.wa_model.specs.Fitting.{types_of, StoreFits, Fits, NextFits}
 use Rattle.wa_model.proofs.FittingSteps.{heights_within}
 use Rattle.interp.specs.declared.activation.Activation.{Activation}
 use Rattle.interp.specs.declared.activation.Stack.{Stack}
@@ -117,10 +117,13 @@ arm_lacked m outs k s r a b full h fits = by_top (reverse k.here.operands.items)
   where
     rest : Code
     rest = code k.here.code.now
+
     labels : List C.Label
     labels = map label_of (reverse k.here.labels.items)
+
     under : List C.Activation
     under = map waiting_of (reverse k.under.items)
+
     by_top : (ops : List Value) → NextFits m outs (step_at m s k.here.func under k.here.locals.items ops labels (branch r a b rest)) → ⊥
     by_top [] f = f
     by_top (V.I64 n ∷ ops) f = f

@@ -1,6 +1,6 @@
 -- What an activation reserves.
 use Rattle.std.specs.Coded.{le_prop}
-use Rattle.std.specs.Prelude.{List, [], ◌∷◌, ◌≡◌, ℕ, ◌<◌, ◌≤◌, ◌^◌, Option, Some, vec_capacity}
+use Rattle.std.specs.Prelude.{List, [], ◌∷◌, ◌≡◌, ◌<◌, ◌≤◌, ◌^◌, Some, vec_capacity}
 use Rattle.wa_types.specs.declared.syntax.Func.{Func as FuncValue}
 use Rattle.wa_types.specs.Counts.{count_of, depth_of}
 use Rattle.wa_types.specs.Modules.{defined_at}

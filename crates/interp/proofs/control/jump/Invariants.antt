@@ -1,5 +1,4 @@
 use Rattle.std.proofs.Common.{◌≡◌, vec_len}
-use Rattle.wa_types.specs.Syntax.{Module}
 use Rattle.wa_types.specs.View.{module_of}
 use Rattle.wa_model.specs.Store.{Store}
 use Rattle.interp.specs.Rooms.{Roomier}

@@ -1,4 +1,4 @@
-use Rattle.std.proofs.Common.{arith, ◌≤◌, vec_capacity, refl}
+use Rattle.std.proofs.Common.{arith, refl}
 use Rattle.interp.proofs.RoomKept.{err_any, leave_lacked, leave_holds}
 use Rattle.interp.proofs.control.leave.Goals as goal
 

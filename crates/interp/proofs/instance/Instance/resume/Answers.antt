@@ -1,4 +1,4 @@
-use Rattle.std.proofs.Common.{◌≡◌, ◌-◌, ◌∙◌, sym, subst}
+use Rattle.std.proofs.Common.{◌-◌, ◌∙◌, sym, subst}
 use Rattle.std.specs.Option.{option_to_list}
 use Rattle.wa_model.specs.Fitting.{types_of}
 use Rattle.interp.specs.Host.{code_in, store_in}
