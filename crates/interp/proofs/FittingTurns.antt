@@ -1,5 +1,5 @@
 -- Behind a turn an instance of a valid module fits again.
-use Rattle.std.proofs.Common.{◌≡◌, ◌<◌, ℕ, suc, ◌+◌, ◌-◌, List, [], ◌∷◌, ◌++◌, map, reverse, take, drop, Option, Some, None, Result, Ok, Err, IfOk, Bool, true, false, length, refl, sym, ap, ◌∙◌, subst}
+use Rattle.std.proofs.Common.{◌≡◌, ◌<◌, ℕ, suc, ◌-◌, List, [], ◌++◌, map, reverse, take, drop, Option, Some, None, Result, Ok, Err, IfOk, Bool, true, false, length, refl, sym, ap, ◌∙◌, subst}
 use Rattle.std.specs.Prelude.{nat_le}
 use Rattle.std.specs.Option.{option_to_list}
 use Rattle.wa_types.specs.declared.values.ValType.{ValType}
@@ -8,7 +8,7 @@ use Rattle.wa_types.specs.Syntax.{Func, Module}
 use Rattle.wa_types.specs.Validity.{Valid}
 use Rattle.wa_types.specs.View.{code}
 use Rattle.wa_types.specs.Modules.{func_imports, func_sorts, func_type_at, defined_at}
-use Rattle.wa_model.specs.Store.{Store, with_memory}
+use Rattle.wa_model.specs.Store.{Store}
 use Rattle.wa_model.specs.Configuration.{Configuration, running, waiting}
 use Rattle.wa_model.specs.Step.{entered}
 use Rattle.wa_model.specs.Alone.{it_returned, it_trapped, it_asks, it_spent}

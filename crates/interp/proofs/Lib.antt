@@ -1,3 +1,4 @@
+pub mod AskLemmas
 pub mod CallLemmas
 pub mod FittingTurns
 pub mod Fronts
@@ -8,6 +9,7 @@ pub mod NumberLemmas
 pub mod OperandLemmas
 pub mod ProgramLemmas
 pub mod ReduceLemmas
+pub mod RoomKept
 pub mod RoomLemmas
 pub mod RunLemmas
 pub mod TypeLemmas

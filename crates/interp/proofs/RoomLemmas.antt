@@ -14,7 +14,7 @@ use Rattle.wa_types.specs.declared.instrs.Instr.TheVariants.{Unreachable, Nop, D
 use Rattle.wa_types.specs.Counts.{count_of}
 use Rattle.wa_types.specs.Modules.{type_at, func_type_at, func_imports, defined_at}
 use Rattle.wa_types.specs.Operators.{operand_types}
-use Rattle.wa_types.specs.Syntax.{Module, Basic, nop, drop as drop_operand, select, const, num, global_get, global_set, load, store, memory_size, memory_grow, Plain, basic, local_get, local_set, local_tee, br, br_if, br_table, return, unreachable, call, call_indirect, Code, done, plain, nest, branch, Func}
+use Rattle.wa_types.specs.Syntax.{Module, Basic, nop, drop as drop_operand, select, const, num, global_get, global_set, load, store, memory_size, memory_grow, Plain, basic, local_get, local_set, local_tee, br, br_if, br_table, return, unreachable, call, call_indirect, Code, done, Func}
 use Rattle.wa_types.specs.Sizes.{FuncSizes}
 use Rattle.wa_types.specs.View.{code, in_front, func_of}
 use Rattle.wa_types.proofs.SizeBounds.{count_fits}

@@ -16,6 +16,7 @@ use Rattle.interp.specs.declared.turns.Turn.{Turn}
 use Rattle.interp.specs.declared.turns.Turn.TheVariants.{Returned, Trapped, Waiting, StepsSpent}
 use Rattle.interp.specs.declared.turns.Wait as W
 use Rattle.interp.specs.declared.turns.Wait.TheVariants as WV
+use Rattle.interp.specs.Runs.{LacksAt}
 use Rattle.interp.specs.View.{label_of, waiting_of}
 
 -- What waits for the answer of an import: nothing, the host, which called it itself, or an activation with those below it.
@@ -110,3 +111,16 @@ TurnFits m outs _ w = Unit {0}
 -- behind a turn an instance of a valid module fits again
 abbrev pub FitsAgain : Module → (outs : List ValType) → Turn → Store → Waits → Type 0
 FitsAgain m outs turn s w = StoreFits m s × TurnFits m outs turn w
+
+-- ---- want of memory
+
+-- Where a call of a function from outside lacked memory: at its start, where nothing was paid and the store is as it was, or
+-- where the run of the function took memory.
+pub data CallLacks (m : Module) (s : Store) (x : ℕ) (args : List Value) (used : ℕ) (s' : Store) : Type 0 where
+  at_start : used ≡ 0 → s' ≡ s → CallLacks m s x args used s'
+  inside_run : (f : Func) → (more : ℕ) → defined_at m x ≡ Some f → used ≡ suc (length args) + more → LacksAt m (entered s [] args x f) more s' → CallLacks m s x args used s'
+
+-- where the answer of an import lacked memory
+abbrev pub ResumeLacks : Module → Store → Waits → Option Value → (used : ℕ) → Store → Type 0
+ResumeLacks m s (inside here under) value used s' = LacksAt m (resumed (record { store = s; here = here; under = under }) s (option_to_list value)) used s'
+ResumeLacks m s _ value used s' = ⊥

@@ -1,10 +1,10 @@
-ghost use Rattle.std.specs.Prelude.{◌≡◌, ◌<◌, ◌+◌, ◌^◌, ◌++◌, ℕ, Some, IfOk, MatchOption, map, slice_get, reverse, take, drop};
+ghost use Rattle.std.specs.Prelude.{◌≡◌, OnOk, ◌<◌, ◌+◌, ◌^◌, ◌++◌, ℕ, Some, IfOk, MatchOption, map, slice_get, reverse, take, drop};
 ghost use Rattle.wa_types.specs.Modules.{declared_locals, defined_at};
 ghost use Rattle.wa_types.specs.Syntax.{call, call_indirect};
 ghost use Rattle.wa_types.specs.View.{func_of, module_of};
 ghost use Rattle.wa_model.specs.Store.{Store};
 ghost use Rattle.wa_model.specs.Step.{zero_of};
-ghost use Rattle.interp.specs.Rooms.{room_of, Reserves};
+ghost use Rattle.interp.specs.Rooms.{room_of, Reserves, StackRoom};
 ghost use Rattle.interp.specs.Stacks.{IsEntered, HasNumber, LacksNumber, invoke_of, plain_of};
 ghost use Rattle.interp.specs.Told.{Tells};
 ghost use Rattle.interp.specs.View.{running_of, store_of};
@@ -82,7 +82,8 @@ fn invoke<'m>(
     left: u64,
 ) -> Result<Flow, AllocError>
     requires { own + params < 2 ^ 64 }
-    ensures { IfOk result (λ f. (s : Store) → Tells s (invoke_of (module_of program.now.source.now) s stack.old own params func) left f (running_of s stack.new)) }
+    ensures tells { IfOk result (λ f. (s : Store) → Tells s (invoke_of (module_of program.now.source.now) s stack.old own params func) left f (running_of s stack.new)) }
+    ensures holds { OnOk result (StackRoom (module_of program.now.source.now) stack.old → StackRoom (module_of program.now.source.now) stack.new) }
 {
     let more = params as u64;
     let taken = own + params;
@@ -139,7 +140,8 @@ pub fn call<'m>(
     func: u32,
     left: u64,
 ) -> Result<Flow, AllocError>
-    ensures { IfOk result (λ f. (s : Store) → Tells s (plain_of (module_of program.now.source.now) s stack.old (call func)) left f (running_of s stack.new)) }
+    ensures tells { IfOk result (λ f. (s : Store) → Tells s (plain_of (module_of program.now.source.now) s stack.old (call func)) left f (running_of s stack.new)) }
+    ensures holds { OnOk result (StackRoom (module_of program.now.source.now) stack.old → StackRoom (module_of program.now.source.now) stack.new) }
 {
     let params = program.func_params(func);
     invoke(program, stack, 0, params, func, left)
@@ -153,7 +155,8 @@ pub fn call_indirect<'m>(
     sort: u32,
     left: u64,
 ) -> Result<Flow, AllocError>
-    ensures { IfOk result (λ f. (s : Store) → s.table ≡ table.now.items → Tells s (plain_of (module_of program.now.source.now) s stack.old (call_indirect sort)) left f (running_of s stack.new)) }
+    ensures tells { IfOk result (λ f. (s : Store) → s.table ≡ table.now.items → Tells s (plain_of (module_of program.now.source.now) s stack.old (call_indirect sort)) left f (running_of s stack.new)) }
+    ensures holds { OnOk result (StackRoom (module_of program.now.source.now) stack.old → StackRoom (module_of program.now.source.now) stack.new) }
 {
     let params = program.sort_params(sort);
     let more = params as u64;

@@ -1,11 +1,13 @@
-ghost use Rattle.std.specs.Prelude.{◌≡◌, ◌<◌, ◌≤◌, ◌+◌, ◌-◌, ◌^◌, List, IfOk};
+ghost use Rattle.std.specs.Prelude.{◌≡◌, ◌<◌, ◌≤◌, ◌+◌, ◌-◌, ◌^◌, List, IfOk, IfErr};
 ghost use Rattle.wa_types.specs.declared.values.ValType.{ValType};
 ghost use Rattle.wa_types.specs.Modules.{func_type_at};
 ghost use Rattle.wa_types.specs.Validity.{Valid};
 ghost use Rattle.wa_types.specs.View.{module_of};
 ghost use Rattle.wa_model.specs.Step.{memory_max};
 ghost use Rattle.wa_model.specs.Fitting.{types_of, Fits, StoreFits};
-ghost use Rattle.interp.specs.Instance.{Calls, Turns, waits_of};
+ghost use Rattle.interp.specs.Instance.{CallLacks, Calls, Turns, waits_of};
+ghost use Rattle.interp.specs.Rooms.{StackRoom, WaitRoom};
+ghost use Rattle.interp.specs.Runs.{LacksAt};
 ghost use Rattle.interp.specs.View.{store_of, running_of};
 
 use crate::activation::Stack;
@@ -28,6 +30,8 @@ pub fn go_on<'m>(
     requires most { store.old.memory.max ≡ memory_max (module_of program.now.source.now) }
     requires fits { steps.old.left + steps.old.used < 2 ^ 64 }
     ensures turns { Valid (module_of program.now.source.now) → (outs : List ValType) × Fits (module_of program.now.source.now) outs (running_of (store_of store.old) stack.entry) → IfOk result (λ t. Turns (module_of program.now.source.now) (running_of (store_of store.old) stack.entry) steps.old.left (steps.new.used - steps.old.used) t.0 (store_of store.new) (waits_of t.1)) }
+    ensures holds { IfOk result (λ t. StackRoom (module_of program.now.source.now) stack.entry → WaitRoom (module_of program.now.source.now) t.1) }
+    ensures lacks { IfErr result (λ _. Valid (module_of program.now.source.now) → (outs : List ValType) × Fits (module_of program.now.source.now) outs (running_of (store_of store.old) stack.entry) → StackRoom (module_of program.now.source.now) stack.entry → LacksAt (module_of program.now.source.now) (running_of (store_of store.old) stack.entry) (steps.new.used - steps.old.used) (store_of store.new)) }
     ensures sum { steps.new.left + steps.new.used ≡ steps.old.left + steps.old.used }
     ensures grows { steps.old.used ≤ steps.new.used }
     ensures max { store.new.memory.max ≡ store.old.memory.max }
@@ -56,6 +60,8 @@ pub fn call_from_outside<'m>(
     requires most { store.old.memory.max ≡ memory_max (module_of program.now.source.now) }
     requires fits { steps.old.left + steps.old.used < 2 ^ 64 }
     ensures calls { Valid (module_of program.now.source.now) → StoreFits (module_of program.now.source.now) (store_of store.old) → types_of args.now ≡ (func_type_at (module_of program.now.source.now) func).params → IfOk result (λ t. Calls (module_of program.now.source.now) (store_of store.old) func args.now steps.old.left (steps.new.used - steps.old.used) t.0 (store_of store.new) (waits_of t.1)) }
+    ensures holds { IfOk result (λ t. WaitRoom (module_of program.now.source.now) t.1) }
+    ensures lacks { IfErr result (λ _. Valid (module_of program.now.source.now) → StoreFits (module_of program.now.source.now) (store_of store.old) → types_of args.now ≡ (func_type_at (module_of program.now.source.now) func).params → CallLacks (module_of program.now.source.now) (store_of store.old) func args.now (steps.new.used - steps.old.used) (store_of store.new)) }
     ensures sum { steps.new.left + steps.new.used ≡ steps.old.left + steps.old.used }
     ensures grows { steps.old.used ≤ steps.new.used }
     ensures max { store.new.memory.max ≡ store.old.memory.max }

@@ -1,4 +1,4 @@
-ghost use Rattle.std.specs.Prelude.{◌≡◌, ◌<◌, ◌≤◌, ◌+◌, ◌-◌, ◌^◌, ◌++◌, List, All, IfOk, IfErr, nat_lt, length, drop, reverse};
+ghost use Rattle.std.specs.Prelude.{◌≡◌, ◌<◌, ◌≤◌, ◌+◌, ◌-◌, ◌^◌, ◌++◌, List, All, IfOk, IfErr, OnErr, nat_lt, vec_capacity, length, drop, reverse};
 ghost use Rattle.std.specs.Bool.{OnTrue, OnFalse};
 ghost use Rattle.std.specs.Coded.{codes};
 ghost use Rattle.std.specs.Option.{option_copied, option_to_list};
@@ -7,6 +7,7 @@ ghost use Rattle.wa_types.specs.Validity.{Valid as IsValid};
 ghost use Rattle.wa_types.specs.View.{module_of};
 ghost use Rattle.wa_types.specs.contracts.instrs.Instr as instr;
 ghost use Rattle.wa_model.specs.Step.{memory_max};
+ghost use Rattle.interp.specs.Rooms.{WaitRoom, wait_prop};
 
 use crate::go_on::{call_from_outside, go_on};
 use crate::make::{MakeFault, open};
@@ -30,11 +31,12 @@ pub struct Instance<'m> {
     wait: Wait<'m>,
     ghost source_is: { program.source.now ≡ valid.now } by { Prim.hlevel (codes, instr.the_row.coded) },
     ghost most_is: { store.memory.max ≡ memory_max (module_of program.source.now) },
+    ghost room_is: { WaitRoom (module_of program.source.now) wait } by { wait_prop (module_of program.source.now) wait },
     ghost has_is: { has_memory ≡ nat_lt 0 (length (all_memories (module_of program.source.now))) },
 }
 
 impl<'m> Instance<'m> {
-    ghost use Rattle.interp.specs.Instance.{Awaits, Calls, FitsAgain, Resumes, nothing, waits_of};
+    ghost use Rattle.interp.specs.Instance.{Awaits, CallLacks, Calls, FitsAgain, ResumeLacks, Resumes, nothing, waits_of};
     ghost use Rattle.interp.specs.Faults.{FailsAs};
     ghost use Rattle.wa_types.specs.Modules.{func_sorts, func_type_at, imported, imported_global};
     ghost use Rattle.wa_model.specs.Fitting.{types_of, global_types, results_of, StoreFits};
@@ -105,6 +107,7 @@ impl<'m> Instance<'m> {
     ) -> Result<Turn, AllocError>
         requires sum_fits { steps.old.left + steps.old.used < 2 ^ 64 }
         ensures calls { StoreFits (code_in self.old) (store_in self.old) → types_of args.now ≡ (func_type_at (code_in self.old) func).params → IfOk result (λ t. Calls (code_in self.old) (store_in self.old) func args.now steps.old.left (steps.new.used - steps.old.used) t (store_in self.new) (waits_in self.new)) }
+        ensures lacks { IfErr result (λ _. StoreFits (code_in self.old) (store_in self.old) → types_of args.now ≡ (func_type_at (code_in self.old) func).params → CallLacks (code_in self.old) (store_in self.old) func args.now (steps.new.used - steps.old.used) (store_in self.new)) }
         ensures again { func < length (func_sorts (code_in self.old)) → StoreFits (code_in self.old) (store_in self.old) → types_of args.now ≡ (func_type_at (code_in self.old) func).params → IfOk result (λ t. FitsAgain (code_in self.old) (results_of (code_in self.old) func) t (store_in self.new) (waits_in self.new)) }
         ensures code { code_in self.new ≡ code_in self.old }
         ensures sum { steps.new.left + steps.new.used ≡ steps.old.left + steps.old.used }
@@ -127,6 +130,7 @@ impl<'m> Instance<'m> {
     ) -> Result<Turn, AllocError>
         requires sum_fits { steps.old.left + steps.old.used < 2 ^ 64 }
         ensures calls { StoreFits (code_in self.old) (store_in self.old) → types_of args.now ≡ (func_type_at (code_in self.old) func).params → IfOk result (λ t. CallsAside (code_in self.old) (store_in self.old) func args.now steps.old.left (steps.new.used - steps.old.used) t (store_in self.new)) }
+        ensures lacks { IfErr result (λ _. StoreFits (code_in self.old) (store_in self.old) → types_of args.now ≡ (func_type_at (code_in self.old) func).params → CallLacks (code_in self.old) (store_in self.old) func args.now (steps.new.used - steps.old.used) (store_in self.new)) }
         ensures again { func < length (func_sorts (code_in self.old)) → StoreFits (code_in self.old) (store_in self.old) → types_of args.now ≡ (func_type_at (code_in self.old) func).params → IfOk result (λ _. StoreFits (code_in self.old) (store_in self.new)) }
         ensures waits { waits_in self.new ≡ waits_in self.old }
         ensures code { code_in self.new ≡ code_in self.old }
@@ -143,6 +147,7 @@ impl<'m> Instance<'m> {
         requires waits { waits_in self.old ≡ nothing → ⊥ }
         requires sum_fits { steps.old.left + steps.old.used < 2 ^ 64 }
         ensures resumes { (outs : List ValType) → StoreFits (code_in self.old) (store_in self.old) → Awaits (code_in self.old) outs (types_of (option_to_list value)) (waits_in self.old) → IfOk result (λ t. Resumes (code_in self.old) (store_in self.old) (waits_in self.old) value steps.old.left (steps.new.used - steps.old.used) t (store_in self.new) (waits_in self.new)) }
+        ensures lacks { IfErr result (λ _. (outs : List ValType) → StoreFits (code_in self.old) (store_in self.old) → Awaits (code_in self.old) outs (types_of (option_to_list value)) (waits_in self.old) → ResumeLacks (code_in self.old) (store_in self.old) (waits_in self.old) value (steps.new.used - steps.old.used) (store_in self.new)) }
         ensures again { (outs : List ValType) → StoreFits (code_in self.old) (store_in self.old) → Awaits (code_in self.old) outs (types_of (option_to_list value)) (waits_in self.old) → IfOk result (λ t. FitsAgain (code_in self.old) outs t (store_in self.new) (waits_in self.new)) }
         ensures code { code_in self.new ≡ code_in self.old }
         ensures sum { steps.new.left + steps.new.used ≡ steps.old.left + steps.old.used }
@@ -200,7 +205,9 @@ impl<'m> Instance<'m> {
 /// Takes off what the call took, and puts the answer in its place.
 #[tactic(auto, using(crate::proofs::OperandLemmas::answering))]
 fn answer(operands: &mut Vec<Value>, taken: usize, value: Option<Value>) -> Result<(), AllocError>
-    ensures { IfOk result (λ _. reverse operands.new.items ≡ option_to_list value ++ drop taken (reverse operands.old.items)) }
+    ensures puts { IfOk result (λ _. reverse operands.new.items ≡ option_to_list value ++ drop taken (reverse operands.old.items)) }
+    ensures holds { vec_capacity operands.old ≤ vec_capacity operands.new }
+    ensures lacks { OnErr result (vec_capacity operands.old < length (option_to_list value ++ drop taken (reverse operands.old.items))) }
 {
     operands.truncate(operands.len().saturating_sub(taken));
     match value {

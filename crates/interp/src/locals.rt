@@ -1,7 +1,8 @@
-ghost use Rattle.std.specs.Prelude.{◌≡◌, ◌<◌, ℕ, IfOk};
+ghost use Rattle.std.specs.Prelude.{◌≡◌, ◌<◌, ◌≤◌, vec_capacity, vec_len, OnErr, ℕ, IfOk};
 ghost use Rattle.wa_types.specs.Syntax.{Module, local_get, local_set, local_tee};
 ghost use Rattle.wa_model.specs.Store.{Store};
 ghost use Rattle.interp.specs.Stacks.{plain_of};
+ghost use Rattle.interp.specs.Rooms.{Roomier};
 ghost use Rattle.interp.specs.Told.{Tells};
 ghost use Rattle.interp.specs.View.{running_of};
 
@@ -12,7 +13,9 @@ use std::alloc::AllocError;
 
 /// `local.get` (standard, section 4.4.3.1).
 pub fn get_local(stack: &mut Stack, x: u32) -> Result<Flow, AllocError>
-    ensures { IfOk result (λ f. (m : Module) (s : Store) (left : ℕ) → 0 < left → Tells s (plain_of m s stack.old (local_get x)) left f (running_of s stack.new)) }
+    ensures tells { IfOk result (λ f. (m : Module) (s : Store) (left : ℕ) → 0 < left → Tells s (plain_of m s stack.old (local_get x)) left f (running_of s stack.new)) }
+    ensures holds { Roomier stack.old stack.new }
+    ensures lacks { OnErr result (vec_capacity stack.old.here.operands ≤ vec_len stack.old.here.operands) }
 {
     let v = value_at(&stack.here.locals, x);
     stack.here.operands.push(v)?;
@@ -21,7 +24,8 @@ pub fn get_local(stack: &mut Stack, x: u32) -> Result<Flow, AllocError>
 
 /// `local.set` (standard, section 4.4.3.2).
 pub fn set_local(stack: &mut Stack, x: u32) -> Flow
-    ensures { (m : Module) (s : Store) (left : ℕ) → 0 < left → Tells s (plain_of m s stack.old (local_set x)) left result (running_of s stack.new) }
+    ensures tells { (m : Module) (s : Store) (left : ℕ) → 0 < left → Tells s (plain_of m s stack.old (local_set x)) left result (running_of s stack.new) }
+    ensures holds { Roomier stack.old stack.new }
 {
     let Some(v) = stack.here.operands.pop() else {
         return Flow::Spent;
@@ -32,7 +36,8 @@ pub fn set_local(stack: &mut Stack, x: u32) -> Flow
 
 /// `local.tee` (standard, section 4.4.3.3).
 pub fn tee_local(stack: &mut Stack, x: u32) -> Flow
-    ensures { (m : Module) (s : Store) (left : ℕ) → 0 < left → Tells s (plain_of m s stack.old (local_tee x)) left result (running_of s stack.new) }
+    ensures tells { (m : Module) (s : Store) (left : ℕ) → 0 < left → Tells s (plain_of m s stack.old (local_tee x)) left result (running_of s stack.new) }
+    ensures holds { Roomier stack.old stack.new }
 {
     let Some(v) = stack.here.operands.last().copied() else {
         return Flow::Spent;

@@ -1,4 +1,4 @@
-ghost use Rattle.std.specs.Prelude.{◌≡◌, ◌<◌, ◌^◌, ◌⊎◌, ℕ, List, Option, IfOk, reverse};
+ghost use Rattle.std.specs.Prelude.{◌≡◌, ◌<◌, ◌≤◌, vec_capacity, vec_len, IsOk, OnErr, ◌^◌, ◌⊎◌, ℕ, List, Option, IfOk, reverse};
 ghost use Rattle.wa_types.specs.Syntax.{load, store as store_instr, memory_size, memory_grow, global_get, global_set};
 ghost use Rattle.interp.specs.Effects.{effect, Shows, Unmoved};
 ghost use Rattle.interp.specs.View.{store_of};
@@ -18,7 +18,9 @@ pub fn load_at(
     op: u8,
     offset: u32,
 ) -> Result<Flow, AllocError>
-    ensures { IfOk result (λ f. (most : Option ℕ) (align : ℕ) → Shows (effect most (load op align offset) (store_of store.now) (reverse operands.old.items)) f (store_of store.now) (reverse operands.new.items)) }
+    ensures shows { IfOk result (λ f. (most : Option ℕ) (align : ℕ) → Shows (effect most (load op align offset) (store_of store.now) (reverse operands.old.items)) f (store_of store.now) (reverse operands.new.items)) }
+    ensures holds { vec_capacity operands.old ≤ vec_capacity operands.new }
+    ensures succeeds { IsOk result }
 {
     let Some(Value::I32(addr)) = operands.pop() else {
         return Ok(Flow::Spent);
@@ -47,6 +49,7 @@ pub fn store_at(store: &mut Store, operands: &mut Vec<Value>, op: u8, offset: u3
     ensures shows { (most : Option ℕ) (align : ℕ) → Shows (effect most (store_instr op align offset) (store_of store.old) (reverse operands.old.items)) result (store_of store.new) (reverse operands.new.items) }
     ensures kept { Unmoved result → store_of store.new ≡ store_of store.old }
     ensures max { store.new.memory.max ≡ store.old.memory.max }
+    ensures holds { vec_capacity operands.old ≤ vec_capacity operands.new }
 {
     let Some(v) = operands.pop() else {
         return Flow::Spent;
@@ -88,7 +91,9 @@ fn width_of(natural: u32) -> u32
 
 /// `memory.size` (standard, section 4.4.4.3).
 pub fn memory_size(store: &Store, operands: &mut Vec<Value>) -> Result<Flow, AllocError>
-    ensures { IfOk result (λ f. (most : Option ℕ) → Shows (effect most memory_size (store_of store.now) (reverse operands.old.items)) f (store_of store.now) (reverse operands.new.items)) }
+    ensures shows { IfOk result (λ f. (most : Option ℕ) → Shows (effect most memory_size (store_of store.now) (reverse operands.old.items)) f (store_of store.now) (reverse operands.new.items)) }
+    ensures holds { vec_capacity operands.old ≤ vec_capacity operands.new }
+    ensures lacks { OnErr result (vec_capacity operands.old ≤ vec_len operands.old) }
 {
     operands.push(Value::I32(store.memory.size()))?;
     Ok(Flow::Moved { more: 0 })
@@ -99,6 +104,8 @@ pub fn memory_grow(store: &mut Store, operands: &mut Vec<Value>) -> Result<Flow,
     ensures shows { IfOk result (λ f. Shows (effect store.old.memory.max memory_grow (store_of store.old) (reverse operands.old.items)) f (store_of store.new) (reverse operands.new.items)) }
     ensures kept { IfOk result (λ f. Unmoved f → store_of store.new ≡ store_of store.old) }
     ensures max { store.new.memory.max ≡ store.old.memory.max }
+    ensures holds { vec_capacity operands.old ≤ vec_capacity operands.new }
+    ensures unchanged { OnErr result (store_of store.new ≡ store_of store.old) }
 {
     let Some(Value::I32(by)) = operands.pop() else {
         return Ok(Flow::Spent);
@@ -110,7 +117,9 @@ pub fn memory_grow(store: &mut Store, operands: &mut Vec<Value>) -> Result<Flow,
 
 /// `global.get` (standard, section 4.4.3.4).
 pub fn get_global(store: &Store, operands: &mut Vec<Value>, x: u32) -> Result<Flow, AllocError>
-    ensures { IfOk result (λ f. (most : Option ℕ) → Shows (effect most (global_get x) (store_of store.now) (reverse operands.old.items)) f (store_of store.now) (reverse operands.new.items)) }
+    ensures shows { IfOk result (λ f. (most : Option ℕ) → Shows (effect most (global_get x) (store_of store.now) (reverse operands.old.items)) f (store_of store.now) (reverse operands.new.items)) }
+    ensures holds { vec_capacity operands.old ≤ vec_capacity operands.new }
+    ensures lacks { OnErr result (vec_capacity operands.old ≤ vec_len operands.old) }
 {
     operands.push(value_at(&store.globals, x))?;
     Ok(Flow::Moved { more: 0 })
@@ -121,6 +130,7 @@ pub fn set_global(store: &mut Store, operands: &mut Vec<Value>, x: u32) -> Flow
     ensures shows { (most : Option ℕ) → Shows (effect most (global_set x) (store_of store.old) (reverse operands.old.items)) result (store_of store.new) (reverse operands.new.items) }
     ensures kept { Unmoved result → store_of store.new ≡ store_of store.old }
     ensures max { store.new.memory.max ≡ store.old.memory.max }
+    ensures holds { vec_capacity operands.old ≤ vec_capacity operands.new }
 {
     let Some(v) = operands.pop() else {
         return Flow::Spent;

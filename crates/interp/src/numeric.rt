@@ -1,4 +1,4 @@
-ghost use Rattle.std.specs.Prelude.{ℕ, ◌≡◌, List, [], ◌∷◌, Option, IfOk, length, reverse};
+ghost use Rattle.std.specs.Prelude.{ℕ, ◌≡◌, ◌≤◌, vec_capacity, IsOk, List, [], ◌∷◌, Option, IfOk, length, reverse};
 ghost use Rattle.wa_types.specs.Operators.{operand_types};
 ghost use Rattle.wa_types.specs.Typing.{type_of};
 ghost use Rattle.wa_types.specs.Syntax.{num};
@@ -14,7 +14,9 @@ use wa_types::{NumOp, ValType, Value};
 
 /// A numeric instruction (standard, section 4.4.1).
 pub fn numeric(op: NumOp, operands: &mut Vec<Value>) -> Result<Flow, AllocError>
-    ensures { IfOk result (λ f. (most : Option ℕ) (s : Store) → Shows (effect most (num op) s (reverse operands.old.items)) f s (reverse operands.new.items)) }
+    ensures shows { IfOk result (λ f. (most : Option ℕ) (s : Store) → Shows (effect most (num op) s (reverse operands.old.items)) f s (reverse operands.new.items)) }
+    ensures holds { vec_capacity operands.old ≤ vec_capacity operands.new }
+    ensures succeeds { IsOk result }
 {
     match OperatorClass::of(op) {
         OperatorClass::Unary => apply_unary(op, operands),
@@ -26,7 +28,9 @@ pub fn numeric(op: NumOp, operands: &mut Vec<Value>) -> Result<Flow, AllocError>
 
 fn apply_unary(op: NumOp, operands: &mut Vec<Value>) -> Result<Flow, AllocError>
     requires class { class_of op ≡ Unary }
-    ensures { IfOk result (λ f. (most : Option ℕ) (s : Store) → Shows (effect most (num op) s (reverse operands.old.items)) f s (reverse operands.new.items)) }
+    ensures shows { IfOk result (λ f. (most : Option ℕ) (s : Store) → Shows (effect most (num op) s (reverse operands.old.items)) f s (reverse operands.new.items)) }
+    ensures holds { vec_capacity operands.old ≤ vec_capacity operands.new }
+    ensures succeeds { IsOk result }
 {
     let Some(a) = operands.pop() else {
         return Ok(Flow::Spent);
@@ -40,7 +44,9 @@ fn apply_unary(op: NumOp, operands: &mut Vec<Value>) -> Result<Flow, AllocError>
 
 fn apply_conversion(op: NumOp, operands: &mut Vec<Value>) -> Result<Flow, AllocError>
     requires class { class_of op ≡ Conversion }
-    ensures { IfOk result (λ f. (most : Option ℕ) (s : Store) → Shows (effect most (num op) s (reverse operands.old.items)) f s (reverse operands.new.items)) }
+    ensures shows { IfOk result (λ f. (most : Option ℕ) (s : Store) → Shows (effect most (num op) s (reverse operands.old.items)) f s (reverse operands.new.items)) }
+    ensures holds { vec_capacity operands.old ≤ vec_capacity operands.new }
+    ensures succeeds { IsOk result }
 {
     let Some(a) = operands.pop() else {
         return Ok(Flow::Spent);
@@ -54,7 +60,9 @@ fn apply_conversion(op: NumOp, operands: &mut Vec<Value>) -> Result<Flow, AllocE
 
 fn apply_comparison(op: NumOp, operands: &mut Vec<Value>) -> Result<Flow, AllocError>
     requires class { class_of op ≡ Comparison }
-    ensures { IfOk result (λ f. (most : Option ℕ) (s : Store) → Shows (effect most (num op) s (reverse operands.old.items)) f s (reverse operands.new.items)) }
+    ensures shows { IfOk result (λ f. (most : Option ℕ) (s : Store) → Shows (effect most (num op) s (reverse operands.old.items)) f s (reverse operands.new.items)) }
+    ensures holds { vec_capacity operands.old ≤ vec_capacity operands.new }
+    ensures succeeds { IsOk result }
 {
     let Some(b) = operands.pop() else {
         return Ok(Flow::Spent);
@@ -72,7 +80,9 @@ fn apply_comparison(op: NumOp, operands: &mut Vec<Value>) -> Result<Flow, AllocE
 
 fn apply_binary(op: NumOp, operands: &mut Vec<Value>) -> Result<Flow, AllocError>
     requires class { class_of op ≡ Binary }
-    ensures { IfOk result (λ f. (most : Option ℕ) (s : Store) → Shows (effect most (num op) s (reverse operands.old.items)) f s (reverse operands.new.items)) }
+    ensures shows { IfOk result (λ f. (most : Option ℕ) (s : Store) → Shows (effect most (num op) s (reverse operands.old.items)) f s (reverse operands.new.items)) }
+    ensures holds { vec_capacity operands.old ≤ vec_capacity operands.new }
+    ensures succeeds { IsOk result }
 {
     let Some(b) = operands.pop() else {
         return Ok(Flow::Spent);

@@ -1,4 +1,4 @@
-ghost use Rattle.std.specs.Prelude.{ℕ, ◌≡◌, List, Option, IfOk, reverse};
+ghost use Rattle.std.specs.Prelude.{ℕ, ◌≡◌, ◌≤◌, List, Option, IfOk, IsOk, OnErr, reverse, vec_capacity, vec_len};
 ghost use Rattle.wa_types.specs.Syntax.{nop, drop as drop_operand, select, const};
 ghost use Rattle.wa_model.specs.Store.{Store};
 ghost use Rattle.interp.specs.Effects.{effect, Shows};
@@ -9,7 +9,9 @@ use wa_types::Value;
 
 /// `const` (standard, section 4.4.1.1).
 pub fn constant(operands: &mut Vec<Value>, value: Value) -> Result<Flow, AllocError>
-    ensures { IfOk result (λ f. (most : Option ℕ) (s : Store) → Shows (effect most (const value) s (reverse operands.old.items)) f s (reverse operands.new.items)) }
+    ensures shows { IfOk result (λ f. (most : Option ℕ) (s : Store) → Shows (effect most (const value) s (reverse operands.old.items)) f s (reverse operands.new.items)) }
+    ensures holds { vec_capacity operands.old ≤ vec_capacity operands.new }
+    ensures lacks { OnErr result (vec_capacity operands.old ≤ vec_len operands.old) }
 {
     operands.push(value)?;
     Ok(Flow::Moved { more: 0 })
@@ -17,7 +19,8 @@ pub fn constant(operands: &mut Vec<Value>, value: Value) -> Result<Flow, AllocEr
 
 /// `drop` (standard, section 4.4.2.1).
 pub fn drop_top(operands: &mut Vec<Value>) -> Flow
-    ensures { (most : Option ℕ) (s : Store) → Shows (effect most drop_operand s (reverse operands.old.items)) result s (reverse operands.new.items) }
+    ensures shows { (most : Option ℕ) (s : Store) → Shows (effect most drop_operand s (reverse operands.old.items)) result s (reverse operands.new.items) }
+    ensures holds { vec_capacity operands.old ≤ vec_capacity operands.new }
 {
     match operands.pop() {
         Some(_) => Flow::Moved { more: 0 },
@@ -27,7 +30,9 @@ pub fn drop_top(operands: &mut Vec<Value>) -> Flow
 
 /// `select` (standard, section 4.4.2.2).
 pub fn choose(operands: &mut Vec<Value>) -> Result<Flow, AllocError>
-    ensures { IfOk result (λ f. (most : Option ℕ) (s : Store) → Shows (effect most select s (reverse operands.old.items)) f s (reverse operands.new.items)) }
+    ensures shows { IfOk result (λ f. (most : Option ℕ) (s : Store) → Shows (effect most select s (reverse operands.old.items)) f s (reverse operands.new.items)) }
+    ensures holds { vec_capacity operands.old ≤ vec_capacity operands.new }
+    ensures succeeds { IsOk result }
 {
     let Some(Value::I32(test)) = operands.pop() else {
         return Ok(Flow::Spent);

@@ -1,8 +1,12 @@
-ghost use Rattle.std.specs.Prelude.{◌≡◌, ◌<◌, IfOk, ◌∷◌};
+ghost use Rattle.std.specs.Prelude.{List, OnOk, OnErr, IfErr, ◌≡◌, ◌<◌, IfOk, ◌∷◌};
 ghost use Rattle.wa_types.specs.View.{code, in_front, module_of};
 ghost use Rattle.wa_model.specs.Step.{memory_max, step};
 ghost use Rattle.interp.specs.Stacks.{code_of};
+ghost use Rattle.interp.specs.Rooms.{StackRoom, TakesMemory};
 ghost use Rattle.interp.specs.Told.{Tells};
+ghost use Rattle.wa_types.specs.declared.values.ValType.{ValType};
+ghost use Rattle.wa_types.specs.Validity.{Valid};
+ghost use Rattle.wa_model.specs.Fitting.{Fits, NextFits};
 ghost use Rattle.interp.specs.View.{store_of, running_of};
 
 use crate::activation::Stack;
@@ -30,6 +34,9 @@ pub fn reduce<'m>(
     requires most { store.old.memory.max ≡ memory_max (module_of program.now.source.now) }
     ensures tells { IfOk result (λ f. Tells (store_of store.old) (step (module_of program.now.source.now) (running_of (store_of store.old) stack.old)) left f (running_of (store_of store.new) stack.new)) }
     ensures max { store.new.memory.max ≡ store.old.memory.max }
+    ensures holds { OnOk result (StackRoom (module_of program.now.source.now) stack.old → StackRoom (module_of program.now.source.now) stack.new) }
+    ensures lacks { IfErr result (λ _. (outs : List ValType) → StackRoom (module_of program.now.source.now) stack.old → Valid (module_of program.now.source.now) → Fits (module_of program.now.source.now) outs (running_of (store_of store.old) stack.old) → TakesMemory (code stack.old.here.code.now)) }
+    ensures unchanged { OnErr result (store_of store.new ≡ store_of store.old) }
 {
     let Some((instr, rest)) = stack.here.code.split_first() else {
         return finish(program, stack);
@@ -50,6 +57,9 @@ fn dispatch<'m>(
     requires most { store.old.memory.max ≡ memory_max (module_of program.now.source.now) }
     ensures tells { IfOk result (λ f. Tells (store_of store.old) (code_of (module_of program.now.source.now) (store_of store.old) stack.old (in_front instr.now (code stack.old.here.code.now))) left f (running_of (store_of store.new) stack.new)) }
     ensures max { store.new.memory.max ≡ store.old.memory.max }
+    ensures holds { OnOk result (StackRoom (module_of program.now.source.now) stack.old → StackRoom (module_of program.now.source.now) stack.new) }
+    ensures lacks { IfErr result (λ _. (outs : List ValType) → StackRoom (module_of program.now.source.now) stack.old → NextFits (module_of program.now.source.now) outs (code_of (module_of program.now.source.now) (store_of store.old) stack.old (in_front instr.now (code stack.old.here.code.now))) → TakesMemory (in_front instr.now (code stack.old.here.code.now))) }
+    ensures unchanged { OnErr result (store_of store.new ≡ store_of store.old) }
 {
     match instr {
         Instr::LocalGet(x) => get_local(stack, *x),

@@ -1,10 +1,11 @@
-ghost use Rattle.std.specs.Prelude.{◌≡◌, ◌<◌, ◌≤◌, ◌+◌, ◌-◌, ◌^◌, List, IfOk, OnOk};
+ghost use Rattle.std.specs.Prelude.{◌≡◌, ◌<◌, ◌≤◌, ◌+◌, ◌-◌, ◌^◌, List, IfOk, IfErr, OnOk};
 ghost use Rattle.wa_types.specs.declared.values.ValType.{ValType};
 ghost use Rattle.wa_types.specs.Validity.{Valid};
 ghost use Rattle.wa_types.specs.View.{module_of};
 ghost use Rattle.wa_model.specs.Step.{memory_max};
 ghost use Rattle.wa_model.specs.Fitting.{Fits};
-ghost use Rattle.interp.specs.Runs.{RunsTo};
+ghost use Rattle.interp.specs.Rooms.{StackRoom};
+ghost use Rattle.interp.specs.Runs.{LacksAt, RunsTo};
 ghost use Rattle.interp.specs.View.{store_of, running_of};
 
 use crate::activation::Stack;
@@ -56,6 +57,8 @@ pub fn run<'m>(
     requires most { store.old.memory.max ≡ memory_max (module_of program.now.source.now) }
     requires fits { steps.old.left + steps.old.used < 2 ^ 64 }
     ensures runs { Valid (module_of program.now.source.now) → (outs : List ValType) × Fits (module_of program.now.source.now) outs (running_of (store_of store.old) stack.old) → IfOk result (λ t. RunsTo (module_of program.now.source.now) (running_of (store_of store.old) stack.old) steps.old.left (steps.new.used - steps.old.used) t (running_of (store_of store.new) stack.new)) }
+    ensures holds { OnOk result (StackRoom (module_of program.now.source.now) stack.old → StackRoom (module_of program.now.source.now) stack.new) }
+    ensures lacks { IfErr result (λ _. Valid (module_of program.now.source.now) → (outs : List ValType) × Fits (module_of program.now.source.now) outs (running_of (store_of store.old) stack.old) → StackRoom (module_of program.now.source.now) stack.old → LacksAt (module_of program.now.source.now) (running_of (store_of store.old) stack.old) (steps.new.used - steps.old.used) (store_of store.new)) }
     ensures sum { steps.new.left + steps.new.used ≡ steps.old.left + steps.old.used }
     ensures grows { steps.old.used ≤ steps.new.used }
     ensures max { store.new.memory.max ≡ store.old.memory.max }

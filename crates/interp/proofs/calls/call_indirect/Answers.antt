@@ -6,8 +6,8 @@ use Rattle.interp.specs.View.{label_of, waiting_of, running_of}
 use Rattle.interp.proofs.NumberLemmas.{indirect_invokes}
 use Rattle.interp.proofs.calls.call_indirect.Goals as goal
 
-pub returns : goal.returns
-returns c =
+pub returns-clause-tells : goal.returns-clause-tells
+returns-clause-tells c =
     let m = module_of c.args.program.now.source.now in
     let k = c.args.stack.now in
     let under = map waiting_of (reverse k.under.items) in
@@ -19,4 +19,4 @@ returns c =
     (λ f told s same.
     let path = indirect_invokes m s k.here.func under k.here.locals.items ops (map label_of (reverse k.here.labels.items)) (code k.here.code.now) c.args.sort place func c.sort_params-params.result c.in-Some.ensures (ap (λ t. slice_get t place) same ∙ found) (sym c.has_type.ensures ∙ c.if-not-has_type.false) c.sort_params-params.ensures.count in
     subst (λ x. Tells s x c.args.left f (running_of s c.invoke.new.stack)) path (told s))
-    c.invoke.ensures
+    c.invoke.ensures.tells

@@ -11,8 +11,8 @@ use Rattle.interp.proofs.OperandLemmas.{top_first}
 use Rattle.interp.proofs.CallLemmas.{asked_at, entered_at, entered_runs}
 use Rattle.interp.proofs.calls.invoke.Goals as goal
 
-pub returns-then-func-program : goal.returns-then-func-program
-returns-then-func-program c =
+pub returns-then-func-program-clause-tells : goal.returns-then-func-program-clause-tells
+returns-then-func-program-clause-tells c =
     let m = module_of c.args.program.now.source.now in
     let k = c.args.stack.now in
     let ops = reverse k.here.operands.items in
@@ -22,8 +22,8 @@ returns-then-func-program c =
       omega arith,
     )
 
-pub returns : goal.returns
-returns c =
+pub returns-clause-tells : goal.returns-clause-tells
+returns-clause-tells c =
     let m = module_of c.args.program.now.source.now in
     let k = c.args.stack.now in
     let under = map waiting_of (reverse k.under.items) in

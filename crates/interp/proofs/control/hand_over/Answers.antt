@@ -3,8 +3,8 @@ use Rattle.std.proofs.lemmas.List.{take_all, length-drop}
 use Rattle.interp.proofs.OperandLemmas.{handed}
 use Rattle.interp.proofs.control.hand_over.Goals as goal
 
-pub returns : goal.returns
-returns c =
+pub returns-clause-puts : goal.returns-clause-puts
+returns-clause-puts c =
     let from = c.args.from.now.items in
     let to = c.args.to.now.items in
     let ok = c.args.to.now.ok.0 in

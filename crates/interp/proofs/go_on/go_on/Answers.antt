@@ -3,6 +3,8 @@ use Rattle.wa_types.specs.View.{module_of}
 use Rattle.wa_model.specs.Alone.{it_asks, EndsAs}
 use Rattle.interp.specs.Runs.{RunsTo}
 use Rattle.interp.specs.View.{store_of, running_of, taking}
+use Rattle.interp.proofs.AskLemmas.{asks_lacking}
+use Rattle.interp.proofs.RoomKept.{err_any}
 use Rattle.interp.proofs.go_on.go_on.Goals as goal
 
 pub returns-in-Returned-clause-turns : goal.returns-in-Returned-clause-turns
@@ -46,3 +48,14 @@ returns-clause-turns c = λ v ok.
     let used = c.run.new.steps.used - c.args.steps.now.used in
     let told = subst (λ t. RunsTo m from c.args.steps.now.left used t to) c.in-Spent.is (c.in_ok-value.ensures.runs v ok) in
     (record { at = told.at; store_is = told.store_is; ends = told.ends }, refl)
+
+pub returns-in_err-args-in-Asked-clause-lacks : goal.returns-in_err-args-in-Asked-clause-lacks
+returns-in_err-args-in-Asked-clause-lacks c =
+    let m = module_of c.args.program.now.source.now in
+    let from = running_of (store_of c.args.store.now) c.args.stack in
+    let to = running_of (store_of c.run.new.store) c.run.new.stack in
+    let used = c.run.new.steps.used - c.args.steps.now.used in
+    err_any c.from_residual-in_err-args-in-Asked.result _
+    (λ e v ok h.
+    asks_lacking m from c.args.steps.now.left used c.in-Asked.import _ (taking c.in-Asked.taken to)
+    (subst (λ t. RunsTo m from c.args.steps.now.left used t to) c.in-Asked.is (c.in_ok-value.ensures.runs v ok)))

@@ -7,8 +7,8 @@ use Rattle.interp.proofs.LoadLemmas.{load_shows}
 use Rattle.interp.proofs.OperandLemmas.{top_first}
 use Rattle.interp.proofs.memory.load_at.Goals as goal
 
-pub returns-in_ok-push-in-Some-load : goal.returns-in_ok-push-in-Some-load
-returns-in_ok-push-in-Some-load c =
+pub returns-in_ok-push-in-Some-load-clause-shows : goal.returns-in_ok-push-in-Some-load-clause-shows
+returns-in_ok-push-in-Some-load-clause-shows c =
     let s = store_of c.args.store.now in
     let below = c.pop.new.self.items in
     let addr = c.in-Some-I32.addr in

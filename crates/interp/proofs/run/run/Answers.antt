@@ -1,15 +1,17 @@
-use Rattle.std.proofs.Common.{arith, suc, ◌≡◌, ◌+◌, ◌-◌, ◌≤◌, refl, sym, ap, ◌∙◌, subst}
+use Rattle.std.proofs.Common.{arith, [], suc, ◌≡◌, ◌+◌, ◌-◌, ◌≤◌, refl, sym, ap, ◌∙◌, subst}
 use Rattle.std.specs.Option.{option_to_list}
 use Rattle.wa_types.specs.View.{module_of}
 use Rattle.wa_model.specs.Step.{step}
 use Rattle.wa_model.specs.Alone.{it_returned, it_trapped, it_asks}
+use Rattle.wa_model.proofs.FittingRuns.{leads_fit}
 use Rattle.interp.specs.Told.{Tells, args_below}
 use Rattle.interp.specs.View.{store_of, running_of, taking}
 use Rattle.interp.proofs.RunLemmas.{no_step, one_more, ends_by, ends_spent, returned_listed, nothing_left}
+use Rattle.interp.proofs.RoomKept.{err_any}
 use Rattle.interp.proofs.run.run.Goals as goal
 
 pub loop-steps-init : goal.loop-steps-init
-loop-steps-init c = record { goes = no_step (module_of c.args.program.now.source.now) (running_of (store_of c.args.store.now) c.args.stack.now) _ (omega arith); sum = refl; grows = omega arith; max = refl }
+loop-steps-init c = record { goes = no_step (module_of c.args.program.now.source.now) (running_of (store_of c.args.store.now) c.args.stack.now) _ (omega arith); sum = refl; grows = omega arith; room = λ h. h; max = refl }
 
 pub loop-steps-preserved : goal.loop-steps-preserved
 loop-steps-preserved c =
@@ -25,6 +27,7 @@ loop-steps-preserved c =
       goes = one_more m from at to n more _ c.loop-steps.invariant.goes told.0 paid;
       sum = omega (arith, c.pay.ensures.used, c.pay.ensures.left, c.loop-steps.invariant.sum);
       grows = omega (arith, c.pay.ensures.used, c.loop-steps.invariant.grows);
+      room = λ h. c.in_ok-more.ensures.holds (c.loop-steps.invariant.room h);
       max = c.in_ok-more.ensures.max ∙ c.loop-steps.invariant.max;
     }
 
@@ -87,3 +90,20 @@ returns-clause-runs c = λ v ok.
     let n = c.loop-steps.steps.used - c.args.steps.now.used in
     let left : c.args.steps.now.left ≡ n + c.loop-steps.steps.left = omega (arith, c.loop-steps.invariant.grows, c.loop-steps.invariant.sum) in
     record { at = at; store_is = refl; ends = ends_spent m from c.args.steps.now.left n c.loop-steps.steps.left at v ok c.loop-steps.invariant.goes left (nothing_left (step m at) c.loop-steps.steps.left c.loop-steps-test.false) }
+
+pub returns-in_err-more-clause-lacks : goal.returns-in_err-more-clause-lacks
+returns-in_err-more-clause-lacks c =
+    let m = module_of c.args.program.now.source.now in
+    let from = running_of (store_of c.args.store.now) c.args.stack.now in
+    let at = running_of (store_of c.loop-steps.store) c.loop-steps.stack in
+    let n = c.loop-steps.steps.used - c.args.steps.now.used in
+    err_any c.from_residual.result _
+    (λ e v ok h.
+    record {
+      at = at;
+      cost = n;
+      paid = omega arith;
+      goes = c.loop-steps.invariant.goes;
+      store_is = sym c.in_err-more.ensures.unchanged;
+      takes = c.in_err-more.ensures.lacks ok.0 (c.loop-steps.invariant.room h) v (leads_fit m v ok.0 from at n [] ok.1 c.loop-steps.invariant.goes);
+    })

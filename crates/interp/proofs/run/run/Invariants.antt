@@ -1,6 +1,7 @@
 use Rattle.std.proofs.Common.{◌≡◌, ◌+◌, ◌-◌, ◌≤◌}
 use Rattle.wa_types.specs.View.{module_of}
 use Rattle.wa_model.specs.Alone.{Goes}
+use Rattle.interp.specs.Rooms.{StackRoom}
 use Rattle.interp.specs.View.{store_of, running_of}
 use Rattle.interp.proofs.run.run.Given as goal
 
@@ -10,6 +11,7 @@ invariant-loop-steps l =
       goes : Goes (module_of l.program.source.now) (running_of (store_of l.fn.store) l.fn.stack) (l.steps.used - l.fn.steps.used) (running_of (store_of l.store) l.stack);
       sum : l.steps.left + l.steps.used ≡ l.fn.steps.left + l.fn.steps.used;
       grows : l.fn.steps.used ≤ l.steps.used;
+      room : StackRoom (module_of l.program.source.now) l.fn.stack → StackRoom (module_of l.program.source.now) l.stack;
       max : l.store.memory.max ≡ l.fn.store.memory.max;
     }
 
