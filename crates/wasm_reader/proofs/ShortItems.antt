@@ -6,7 +6,7 @@ use Rattle.std.proofs.lemmas.Bool.{lt-ltb, le-ltb, cases_lt}
 use Rattle.std.proofs.Math.Pow.{pow_mono}
 use Rattle.wa_types.specs.Leb.{IsUnsigned, IsSigned, last_signed}
 use Rattle.wa_types.specs.Opcodes.{Follows, no_operand, an_index, an_access, a_constant, follows, is_block_type}
-use Rattle.wa_types.specs.Begun.{Goal, code, block_type, number, signed, entries, Kind, some_functions, some_indices, some_bytes, Item, a_byte, an_unsigned, a_signed, a_name, a_constant_of, wants, IsItem, next, Inside, Steps, settled, operands, where_true, and_then, others}
+use Rattle.wa_types.specs.Begun.{Goal, code, block_type, number, signed, entries, Kind, Item, a_byte, an_unsigned, a_signed, a_name, a_constant_of, wants, IsItem, next, Inside, Steps, settled, operands, where_true, and_then, others}
 use Rattle.wa_types.proofs.CodeReads.{refuted, none_nest}
 use Rattle.wasm_reader.specs.Items.{IsTold, IsWholeItem}
 use Rattle.wasm_reader.specs.Ends.{IsReached}
@@ -222,19 +222,11 @@ closes_level bytes at stop room fits e inner b gs below s =
     one_on bytes at stop (code inner) (code b ∷ gs) [] (code b ∷ gs) (get_or bytes at 0) room fits (below_code inner (code b ∷ gs) stop outside) s refl (ap (λ z. next (code inner) z (at + 1)) e ∙ h) (settled_code (at + 1) b gs) outside
 
 -- entries
-pub byte_alone : (bytes : List ℕ) (at end : ℕ) → at < length bytes → end ≡ at + 1 → IsAlone some_bytes (between bytes at end)
-byte_alone bytes at end h e = record { value = get_or bytes at 0; is_item = one_between bytes at end h e; leaves_none = λ _. refl }
-
-pub index_alone : (bytes : List ℕ) → IsShort 4 bytes → IsAlone some_indices bytes
-index_alone bytes h = let n = unsigned_by 4 32 bytes (omega arith) h in record { value = n.0; is_item = n.1; leaves_none = λ _. refl }
-
-pub function_alone : (bytes : List ℕ) → IsShort 4 bytes → IsAlone some_functions bytes
-function_alone bytes h = let n = unsigned_by 4 32 bytes (omega arith) h in record { value = n.0; is_item = n.1; leaves_none = λ _. refl }
-
-pub passes_none : (bytes : List ℕ) (k : Kind) (n at stop : ℕ) → PassesEntries bytes k n at 0 at stop
+pub passes_none : (bytes : List ℕ) (k : Kind) (n at stop : ℕ) → PassesEntries bytes k n at 0 stop
 passes_none bytes k n at stop gs below s =
+    let place : at ≡ at + 0 = omega arith in
     let left : n ≡ n - 0 = omega arith in
-    subst (λ z. Stands bytes at (entries k z ∷ gs)) left s
+    subst (λ z. Stands bytes (at + 0) (entries k z ∷ gs)) left (subst (λ z. Stands bytes z (entries k n ∷ gs)) place s)
 
 past : (a b : ℕ) → b < a → nat_le a b ≡ false
 past a b h = grind (arith)
@@ -242,21 +234,22 @@ past a b h = grind (arith)
 more_left : (k : Kind) (m : ℕ) → 1 < m → others k m ≡ entries k (m - 1) ∷ []
 more_left k m h = rw (past m 1 h) refl
 
-pub passes_more : (bytes : List ℕ) (k : Kind) (n at i place end stop : ℕ) → place < end → end < stop → stop ≤ length bytes → i + 1 < n → IsAlone k (between bytes place end) → PassesEntries bytes k n at i place stop → PassesEntries bytes k n at (i + 1) end stop
+pub passes_more : (bytes : List ℕ) (k : Kind) (n at i stop : ℕ) → at + i + 1 < stop → stop ≤ length bytes → i + 1 < n → IsAlone k (get_or bytes (at + i) 0) → PassesEntries bytes k n at i stop → PassesEntries bytes k n at (i + 1) stop
 unfolding next
-passes_more bytes k n at i place end stop ahead room fits more a on gs below s =
-    let e : next (entries k (n - i)) a.value end ≡ Some (entries k (n - i - 1) ∷ []) =
-    ap (λ z. and_then z (others k (n - i))) (a.leaves_none end) ∙ ap Some (more_left k (n - i) (omega (arith, more))) in
+passes_more bytes k n at i stop room fits more a before gs below s =
+    let e : next (entries k (n - i)) (get_or bytes (at + i) 0) (at + i + 1) ≡ Some (entries k (n - i - 1) ∷ []) =
+    ap (λ z. and_then z (others k (n - i))) (a.leaves_none (at + i + 1)) ∙ ap Some (more_left k (n - i) (omega (arith, more))) in
+    let place : at + i + 1 ≡ at + (i + 1) = omega arith in
     let left : n - i - 1 ≡ n - (i + 1) = omega arith in
-    let there : Stands bytes end (entries k (n - i - 1) ∷ gs) =
-    item_on bytes place end stop (entries k (n - i)) gs (entries k (n - i - 1) ∷ []) (entries k (n - i - 1) ∷ gs) a.value (omega (arith, ahead)) room fits (below_entries k (n - i) gs stop below) (on gs below s) a.is_item e (settled_entries end k (n - i - 1) gs) (below_entries k (n - i - 1) gs stop below) in
-    subst (λ z. Stands bytes end (entries k z ∷ gs)) left there
+    let there : Stands bytes (at + i + 1) (entries k (n - i - 1) ∷ gs) =
+    one_on bytes (at + i) stop (entries k (n - i)) gs (entries k (n - i - 1) ∷ []) (entries k (n - i - 1) ∷ gs) (get_or bytes (at + i) 0) room fits (below_entries k (n - i) gs stop below) (before gs below s) a.is_item e (settled_entries (at + i + 1) k (n - i - 1) gs) (below_entries k (n - i - 1) gs stop below) in
+    subst (λ z. Stands bytes (at + (i + 1)) (entries k z ∷ gs)) left (subst (λ z. Stands bytes z (entries k (n - i - 1) ∷ gs)) place there)
 
 -- the machine's goals
-pub entries_on : (bytes : List ℕ) (all popped new : List Goal) (g : Goal) (k : Kind) (n at passed end stop : ℕ) → all ≡ g ∷ drop 1 all → g ≡ entries k n → popped ≡ drop 1 all → new ≡ entries k (n - passed) ∷ popped → Stands bytes at all → Below stop all → PassesEntries bytes k n at passed end stop → Stands bytes end new
-entries_on bytes all popped new g k n at passed end stop top is less more s below on =
+pub entries_on : (bytes : List ℕ) (all popped new : List Goal) (g : Goal) (k : Kind) (n at passed stop : ℕ) → all ≡ g ∷ drop 1 all → g ≡ entries k n → popped ≡ drop 1 all → new ≡ entries k (n - passed) ∷ popped → Stands bytes at all → Below stop all → PassesEntries bytes k n at passed stop → Stands bytes (at + passed) new
+entries_on bytes all popped new g k n at passed stop top is less more s below on =
     let whole : all ≡ entries k n ∷ drop 1 all = top ∙ ap (λ z. z ∷ drop 1 all) is in
-    subst (Stands bytes end) (sym (more ∙ ap (λ z. entries k (n - passed) ∷ z) less))
+    subst (Stands bytes (at + passed)) (sym (more ∙ ap (λ z. entries k (n - passed) ∷ z) less))
     (on (drop 1 all) (below_more (entries k n) (drop 1 all) stop (subst (Below stop) whole below)) (subst (Stands bytes at) whole s))
 
 pub entries_below : (all popped new : List Goal) (g : Goal) (k : Kind) (n stop : ℕ) → all ≡ g ∷ drop 1 all → popped ≡ drop 1 all → new ≡ entries k n ∷ popped → Below stop all → Below stop new

@@ -37,12 +37,11 @@ Closes bytes at stop =
     (inner first_arm : Bool) (gs : List Goal) → Below stop gs → Stands bytes at (code inner ∷ code first_arm ∷ gs) → Stands bytes (at + 1) (code first_arm ∷ gs)
 
 -- so many of n entries
-abbrev pub PassesEntries : List ℕ → Kind → (n at passed end stop : ℕ) → Type 0
-PassesEntries bytes k n at passed end stop =
-    (gs : List Goal) → Below stop gs → Stands bytes at (entries k n ∷ gs) → Stands bytes end (entries k (n - passed) ∷ gs)
+abbrev pub PassesEntries : List ℕ → Kind → (n at passed stop : ℕ) → Type 0
+PassesEntries bytes k n at passed stop =
+    (gs : List Goal) → Below stop gs → Stands bytes at (entries k n ∷ gs) → Stands bytes (at + passed) (entries k (n - passed) ∷ gs)
 
--- the bytes are an entry of this kind, of one item
-pub record IsAlone (k : Kind) (bytes : List ℕ) : Type 0 where
-  pub value : ℕ
-  pub is_item : IsItem (first_of k) bytes value
-  pub leaves_none : (at : ℕ) → entry k value at ≡ Some []
+-- an entry of this kind is this byte alone
+pub record IsAlone (k : Kind) (byte : ℕ) : Type 0 where
+  pub is_item : IsItem (first_of k) (byte ∷ []) byte
+  pub leaves_none : (at : ℕ) → entry k byte at ≡ Some []

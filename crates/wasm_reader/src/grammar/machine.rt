@@ -104,7 +104,7 @@ impl Machine {
         Ok(())
     }
 
-    // Takes short entries, with one left.
+    // Takes entries of one byte each, with one left.
     fn pass_entries(&mut self, alloc: Global, bytes: &[u8], stop: usize) -> Result<(), AllocError>
         requires stands { Stands bytes.now self.old.at self.old.goals }
         requires below { Below stop self.old.goals }
@@ -119,12 +119,12 @@ impl Machine {
         match goal {
             Goal::Entries(kind, n) => {
                 let passed = short_entries(kind, n, bytes, self.at, stop);
-                if passed.0 == 0 {
+                if passed == 0 {
                     return Ok(());
                 }
                 self.goals.pop();
-                self.goals.push(alloc, Goal::Entries(kind, n - passed.0))?;
-                self.at = passed.1;
+                self.goals.push(alloc, Goal::Entries(kind, n - passed))?;
+                self.at += passed as usize;
                 Ok(())
             }
             _ => Ok(()),

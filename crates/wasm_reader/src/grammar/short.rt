@@ -125,45 +125,33 @@ pub(crate) fn closes(bytes: &[u8], at: usize, stop: usize) -> bool
     bytes[at] == 0x0B
 }
 
-// Where the entry that begins here ends, if it is one item, and short.
+// Whether an entry is this byte alone.
 #[inline(always)]
-fn entry_end(kind: Kind, bytes: &[u8], at: usize, stop: usize) -> Option<usize>
-    requires { stop ≤ length bytes.now }
-    ensures ahead { IfSome result (λ end. (at < end) × (end < stop)) }
-    ensures alone { IfSome result (λ end. IsAlone (kind_of kind) (take (end - at) (drop at bytes.now))) }
+fn is_alone(kind: Kind, byte: u8) -> bool
+    ensures { OnTrue result (IsAlone (kind_of kind) byte) }
 {
-    if stop.saturating_sub(at) < 2 {
-        return None;
-    }
     match kind {
-        Kind::Bytes => Some(at + 1),
-        Kind::Indices => behind_number(bytes, at, stop),
-        Kind::Functions => behind_number(bytes, at, stop),
-        _ => None,
+        Kind::Bytes => true,
+        Kind::Indices => byte < 128,
+        Kind::Functions => byte < 128,
+        _ => false,
     }
 }
 
-/// How many entries of so many can be passed over, with one left, and the place behind them.
+/// How many entries of so many can be passed over, each of one byte, with one left.
 #[inline]
-pub(crate) fn short_entries(
-    kind: Kind,
-    n: u32,
-    bytes: &[u8],
-    at: usize,
-    stop: usize,
-) -> (u32, usize)
+pub(crate) fn short_entries(kind: Kind, n: u32, bytes: &[u8], at: usize, stop: usize) -> u32
     requires { stop ≤ length bytes.now }
-    ensures ahead { at ≤ result.1 }
-    ensures fewer { result.0 ≤ n }
-    ensures passes { PassesEntries bytes.now (kind_of kind) n at result.0 result.1 stop }
+    ensures room { 0 < result → at + result < stop }
+    ensures fewer { result ≤ n }
+    ensures passes { PassesEntries bytes.now (kind_of kind) n at result stop }
 {
-    let mut place = at;
-    let most = n.saturating_sub(1);
+    let room = stop.saturating_sub(at).saturating_sub(1);
+    let most = room.min(n.saturating_sub(1) as usize);
     for index in 0..most {
-        let Some(end) = entry_end(kind, bytes, place, stop) else {
-            return (index, place);
-        };
-        place = end;
+        if !is_alone(kind, bytes[at + index]) {
+            return index as u32;
+        }
     }
-    (most, place)
+    most as u32
 }

@@ -1,10 +1,6 @@
-use Rattle.std.proofs.Common.{◌≤◌}
 use Rattle.wasm_reader.specs.Goals.{kind_of}
 use Rattle.wasm_reader.specs.Passing.{PassesEntries}
 use Rattle.wasm_reader.proofs.grammar.short.short_entries.Given as goal
 
 abbrev pub invariant-loop-index : goal.invariant-loop-index
-invariant-loop-index l = record {
-  ahead : l.at ≤ l.place;
-  passes : PassesEntries l.bytes (kind_of l.kind) l.n l.at l.index l.place l.stop;
-}
+invariant-loop-index l = PassesEntries l.bytes (kind_of l.kind) l.n l.at l.index l.stop
