@@ -14,9 +14,9 @@
 //! every turn leave them, and where arguments and answers have their types (`specs/Instance.antt`).
 //!
 //! An activation has room for the greatest height of its operands and depth of its labels (`specs/Rooms.antt`), which are
-//! computed once a function when its program is made (`rooms`), so that between calls and `memory.grow` no reduction takes
-//! memory. No configuration that fits goes past them (`heights_within` of `wa_model`); that no push takes memory isn't a
-//! clause yet.
+//! computed once a function when its program is made (`rooms`). No configuration that fits goes past them
+//! (`heights_within` of `wa_model`), so between calls and `memory.grow` no reduction takes memory: where a turn lacks
+//! memory, `lacks` says to which call or growth the reductions had come.
 //!
 //! Read in the order `activation`, `flow`, `operands`, `numeric`, `locals`, `memory`, `control`, `branches`, `calls`,
 //! `reduce`, `run`, `go_on`, `instance`, and for `make` `spaces`, `types`, `rooms`, `program`, `segments`, `make`.
