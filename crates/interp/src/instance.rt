@@ -98,7 +98,8 @@ impl<'m> Instance<'m> {
 
     /// Calls a function of the module on an empty stack, in place of what waits, with arguments of its types (standard,
     /// section 4.5.5). It goes on to the first return, trap or call of an import, or up to a reduction that costs more than
-    /// is left. After want of memory or `StepsSpent` no further turn is asked of the instance.
+    /// is left. Memory may be wanting at its start, where a call or `memory.grow` stands next, and nowhere else. After want of
+    /// memory or `StepsSpent` no further turn is asked of the instance.
     pub fn begin(
         &mut self,
         func: u32,
@@ -142,7 +143,8 @@ impl<'m> Instance<'m> {
         Ok(turn)
     }
 
-    /// Gives what waits its answer, of the type of the import's result, and goes on as `begin` does.
+    /// Gives what waits its answer, of the type of the import's result, and goes on as `begin` does. Memory may be wanting
+    /// where a call or `memory.grow` stands next, and nowhere else.
     pub fn resume(&mut self, value: Option<Value>, steps: &mut Steps) -> Result<Turn, AllocError>
         requires waits { waits_in self.old ≡ nothing → ⊥ }
         requires sum_fits { steps.old.left + steps.old.used < 2 ^ 64 }

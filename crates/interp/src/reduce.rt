@@ -23,7 +23,8 @@ use crate::store::Store;
 use std::alloc::AllocError;
 use wa_types::{Instr, Trap};
 
-/// One reduction, where it costs no more than is left (standard, section 4.4).
+/// One reduction, where it costs no more than is left (standard, section 4.4). Of code that fits, calls and `memory.grow`
+/// alone may want memory, and then the store is as it was.
 pub fn reduce<'m>(
     program: &Program<'m>,
     store: &mut Store,

@@ -47,7 +47,8 @@ pub fn pay(steps: &mut Steps, more: u64)
     steps.used += more + 1;
 }
 
-/// Goes on by reductions up to the first return, trap or call of an import, or to one that costs more than is left.
+/// Goes on by reductions up to the first return, trap or call of an import, or to one that costs more than is left. Memory
+/// may be wanting at calls and `memory.grow` alone.
 pub fn run<'m>(
     program: &Program<'m>,
     store: &mut Store,
