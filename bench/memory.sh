@@ -2,14 +2,10 @@
 # Times loads and stores through `Pages` (crates/memory_bench) against the same loop over a plain slice
 # (slice.rs, by rustc -O): as many of each as the argument says, or 10 million. Prints the best time of seven
 # runs of both, and fails where the first is more than twice the second.
-set -euo pipefail
-bench=$(cd "$(dirname "$0")" && pwd)
+. "$(dirname "$0")/common.sh"
 rounds=${1:-10000000}
-temp=$(mktemp -d)
-trap 'rm -rf "$temp"' EXIT
 
-(cd "$bench/../crates/memory_bench" && rt run) >"$temp/log" 2>&1 || { cat "$temp/log"; exit 1; }
-cp "$bench/../crates/memory_bench/out/memory_bench" "$temp/pages"
+build_program memory_bench "$temp/pages"
 rustc --edition 2024 -O -o "$temp/slice" "$bench/slice.rs"
 [ "$("$temp/pages" "$rounds")" = "$("$temp/slice" "$rounds")" ] || { echo "the sums differ"; exit 1; }
 

@@ -1,6 +1,7 @@
-//! The worked rows of `transform`, over files and output in memory.
+//! `transform` of small modules and its refusals, over files and output in memory.
 
 mod rules;
+mod texts;
 
 use super::*;
 use std::alloc::{AllocError, Global};
@@ -118,8 +119,14 @@ fn transformed(alloc: Global, bytes: &[u8]) -> Result<(u8, SureSink), AllocError
     Ok((status, out))
 }
 
+/// The status of `transform` over a file, and whether its line is this one.
+fn tells(alloc: Global, bytes: &[u8], line: &str) -> Result<(u8, bool), AllocError> {
+    let (status, out) = transformed(alloc, bytes)?;
+    Ok((status, out.bytes() == line.as_bytes()))
+}
+
 #[test]
-fn sources_are_refused_for_their_cause(rt: HostRuntime) -> Result<(), Fail> {
+fn what_no_module_may_hold_is_refused(rt: HostRuntime) -> Result<(), Fail> {
     let alloc = rt.alloc();
     let rows = [
         (&b"\0asm\x01\0\0"[..], 3, "malformed at 7\n"),
@@ -135,9 +142,26 @@ fn sources_are_refused_for_their_cause(rt: HostRuntime) -> Result<(), Fail> {
             4,
             "float at 24\n",
         ),
+        // runs of 2^32 - 1 locals and of one
+        (
+            b"\0asm\x01\0\0\0\x01\x04\x01\x60\0\0\x03\x02\x01\0\x0a\x0c\x01\x0a\x02\xff\xff\xff\xff\x0f\x7f\x01\x7f\x0b",
+            6,
+            "limit locals 4294967296\n",
+        ),
+    ];
+    for (bytes, status, line) in rows {
+        assert_eq!(rt; tells(alloc, bytes, line)?, (status, true), "{line}");
+    }
+    Ok(())
+}
+
+#[test]
+fn modules_are_refused_for_their_cause(rt: HostRuntime) -> Result<(), Fail> {
+    let alloc = rt.alloc();
+    let rows = [
         // `i32.add` of nothing
         (
-            b"\0asm\x01\0\0\0\x01\x04\x01\x60\0\0\x03\x02\x01\0\x0a\x05\x01\x03\0\x6a\x0b",
+            &b"\0asm\x01\0\0\0\x01\x04\x01\x60\0\0\x03\x02\x01\0\x0a\x05\x01\x03\0\x6a\x0b"[..],
             5,
             "invalid rule 8 function 0 at 0\n",
         ),
@@ -147,21 +171,23 @@ fn sources_are_refused_for_their_cause(rt: HostRuntime) -> Result<(), Fail> {
             5,
             "invalid rule 16 module\n",
         ),
-        // runs of 2^32 - 1 locals and of one
-        (
-            b"\0asm\x01\0\0\0\x01\x04\x01\x60\0\0\x03\x02\x01\0\x0a\x0c\x01\x0a\x02\xff\xff\xff\xff\x0f\x7f\x01\x7f\x0b",
-            6,
-            "limit locals 4294967296\n",
-        ),
         // an import from the module `asyncify`
         (
             b"\0asm\x01\0\0\0\x01\x04\x01\x60\0\0\x02\x0e\x01\x08asyncify\x01x\0\0",
             7,
             "reserved asyncify.x\n",
         ),
-        // an export under a name of the runtime
+        // a function exported under a name of the runtime, beside a memory
         (
-            b"\0asm\x01\0\0\0\x05\x03\x01\0\x01\x07\x16\x01\x12asyncify_get_state\x02\0",
+            b"\0asm\x01\0\0\0\x01\x05\x01\x60\0\x01\x7f\x03\x02\x01\0\x05\x03\x01\0\x01\
+            \x07\x16\x01\x12asyncify_get_state\0\0\x0a\x06\x01\x04\0\x41\0\x0b",
+            7,
+            "reserved asyncify_get_state\n",
+        ),
+        // a function that adds nothing, under a name of the runtime
+        (
+            b"\0asm\x01\0\0\0\x01\x04\x01\x60\0\0\x03\x02\x01\0\
+            \x07\x16\x01\x12asyncify_get_state\0\0\x0a\x05\x01\x03\0\x6a\x0b",
             7,
             "reserved asyncify_get_state\n",
         ),
@@ -169,9 +195,7 @@ fn sources_are_refused_for_their_cause(rt: HostRuntime) -> Result<(), Fail> {
         (b"\0asm\x01\0\0\0\x05\x03\x01\0\x01", 14, "not yet built\n"),
     ];
     for (bytes, status, line) in rows {
-        let (told, out) = transformed(alloc, bytes)?;
-        assert_eq!(rt; told, status);
-        assert_eq!(rt; out.bytes(), line.as_bytes());
+        assert_eq!(rt; tells(alloc, bytes, line)?, (status, true), "{line}");
     }
     Ok(())
 }

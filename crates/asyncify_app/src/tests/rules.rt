@@ -1,6 +1,5 @@
 //! A module for each rule of validity, and valid ones beside them.
 
-use super::transformed;
 use std::alloc::{AllocError, Global};
 use std::test::Fail;
 
@@ -18,16 +17,15 @@ const FUNC_AND_MEMORY: &[u8] =
 const FUNC_AND_GLOBAL: &[u8] =
     b"\0asm\x01\0\0\0\x01\x04\x01\x60\0\0\x03\x02\x01\0\x06\x06\x01\x7f\0\x41\0\x0b";
 
-/// The status and whether the line of `transform` over a file of these two parts is this one.
+/// The status of `transform` over a file of these two parts, and whether its line is this one.
 fn tells(alloc: Global, head: &[u8], rest: &[u8], line: &str) -> Result<(u8, bool), AllocError> {
     let mut bytes = Vec::from_slice(alloc, head)?;
     bytes.extend_from_slice(rest)?;
-    let (status, out) = transformed(alloc, &bytes)?;
-    Ok((status, out.bytes() == line.as_bytes()))
+    super::tells(alloc, &bytes, line)
 }
 
 #[test]
-fn rules_outside_the_bodies_are_told(rt: HostRuntime) -> Result<(), Fail> {
+fn indices_outside_the_bodies_are_told(rt: HostRuntime) -> Result<(), Fail> {
     let alloc = rt.alloc();
     let rows = [
         // a function of a type that isn't there
@@ -43,8 +41,19 @@ fn rules_outside_the_bodies_are_told(rt: HostRuntime) -> Result<(), Fail> {
         (b"\x0b\x06\x01\0\x41\0\x0b\0", "invalid rule 4 module\n"),
         // a global that begins as one that isn't there
         (b"\x06\x06\x01\x7f\0\x23\x01\x0b", "invalid rule 5 module\n"),
+    ];
+    for (rest, line) in rows {
+        assert_eq!(rt; tells(alloc, HEAD, rest, line)?, (5, true), "{line}");
+    }
+    Ok(())
+}
+
+#[test]
+fn definitions_outside_the_bodies_are_told(rt: HostRuntime) -> Result<(), Fail> {
+    let alloc = rt.alloc();
+    let rows = [
         // a memory of two pages at least and one at most
-        (b"\x05\x04\x01\x01\x02\x01", "invalid rule 11 module\n"),
+        (&b"\x05\x04\x01\x01\x02\x01"[..], "invalid rule 11 module\n"),
         // two memories
         (b"\x05\x05\x02\0\x01\0\x01", "invalid rule 12 module\n"),
         // a global of type i32 that begins as an i64
@@ -105,12 +114,6 @@ fn rules_in_a_body_are_told(rt: HostRuntime) -> Result<(), Fail> {
             b"\x0a\x08\x01\x06\0\x41\0\x24\0\x0b",
             "invalid rule 10 function 0 at 1\n",
         ),
-        // an imported function is counted
-        (
-            HEAD,
-            b"\x01\x04\x01\x60\0\0\x02\x05\x01\0\0\0\0\x03\x02\x01\0\x0a\x05\x01\x03\0\x6a\x0b",
-            "invalid rule 8 function 1 at 0\n",
-        ),
     ];
     for (head, rest, line) in rows {
         assert_eq!(rt; tells(alloc, head, rest, line)?, (5, true), "{line}");
@@ -119,7 +122,7 @@ fn rules_in_a_body_are_told(rt: HostRuntime) -> Result<(), Fail> {
 }
 
 #[test]
-fn instructions_name_what_is_there(rt: HostRuntime) -> Result<(), Fail> {
+fn indices_in_a_body_are_told(rt: HostRuntime) -> Result<(), Fail> {
     let alloc = rt.alloc();
     let rows = [
         // `call_indirect` of a type that isn't there, and where no table is
@@ -148,6 +151,12 @@ fn instructions_name_what_is_there(rt: HostRuntime) -> Result<(), Fail> {
             FUNC,
             b"\x0a\x07\x01\x05\0\x23\0\x1a\x0b",
             "invalid rule 5 function 0 at 0\n",
+        ),
+        // an imported function is counted
+        (
+            HEAD,
+            b"\x01\x04\x01\x60\0\0\x02\x05\x01\0\0\0\0\x03\x02\x01\0\x0a\x05\x01\x03\0\x6a\x0b",
+            "invalid rule 8 function 1 at 0\n",
         ),
     ];
     for (head, rest, line) in rows {

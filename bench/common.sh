@@ -1,0 +1,62 @@
+# What the benchmarks share; each reads this file first. `bench` is the folder of the benchmarks, `temp` a folder that goes
+# with the script, and `failed` is 1 once a bar wasn't kept. Python finds the pieces of modules in `wasm_bytes`.
+set -euo pipefail
+bench=$(cd "$(dirname "${BASH_SOURCE[0]}")" && pwd)
+temp=$(mktemp -d)
+trap 'rm -rf "$temp"' EXIT
+failed=0
+export PYTHONPATH=$bench PYTHONDONTWRITEBYTECODE=1
+
+# The program `asyncify`, which is built first where it isn't there or is older than its sources.
+asyncify=$bench/../crates/asyncify_cli/out/asyncify_cli
+build_asyncify() {
+    "$bench/../asyncify" >/dev/null || true
+    [ -x "$asyncify" ]
+}
+
+# Proves and builds a crate's program, tries it with these words, and puts it at a path: CRATE PATH [WORD ...]
+build_program() {
+    local crate=$1 path=$2
+    shift 2
+    (cd "$bench/../crates/$crate" && rt run ${1:+-- "$@"}) >"$temp/log" 2>&1 || { cat "$temp/log"; exit 1; }
+    cp "$bench/../crates/$crate/out/$crate" "$path"
+}
+
+# Whether a peer is there to be measured beside; without it the script says so, and fails.
+has_peer() {
+    command -v "$1" >/dev/null || { echo "$1 is not installed: its bar wasn't tried"; failed=1; return 1; }
+}
+
+# Whether a condition in Python holds.
+holds() {
+    python3 -c "import sys; sys.exit(not ($1))"
+}
+
+# Asks for a condition in Python, and prints why the bar isn't kept where it doesn't hold: CONDITION WHY
+bar() {
+    holds "$1" || { echo "$2"; failed=1; }
+}
+
+# The least user seconds of some runs within 4 GB of memory, and the greatest resident kilobytes, of a command that ends
+# with a status: STATUS RUNS COMMAND [WORD ...]. What the last run printed stays in $temp/printed. A command that ends
+# with another status prints `none none`.
+measure() {
+    python3 - "$temp/printed" "$@" <<'PY'
+import resource, subprocess, sys
+
+printed, status, runs, command = sys.argv[1], int(sys.argv[2]), int(sys.argv[3]), sys.argv[4:]
+times = []
+for _ in range(runs):
+    before = resource.getrusage(resource.RUSAGE_CHILDREN).ru_utime
+    with open(printed, "wb") as out:
+        bound = lambda: resource.setrlimit(resource.RLIMIT_AS, (4 << 30, 4 << 30))
+        ended = subprocess.run(command, stdout=out, stderr=subprocess.DEVNULL, preexec_fn=bound)
+    if ended.returncode != status:
+        print("%s ended with status %d" % (command[0], ended.returncode), file=sys.stderr)
+        print("none none")
+        sys.exit()
+    after = resource.getrusage(resource.RUSAGE_CHILDREN)
+    times.append(after.ru_utime - before)
+print("%.3f %d" % (min(times), after.ru_maxrss))
+PY
+}
