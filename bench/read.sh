@@ -1,8 +1,8 @@
 #!/usr/bin/env bash
 # Times reading and validating: `asyncify transform` of modules that it refuses behind both as not yet built (status 14),
 # and of a malformed one (status 3). User time, the least of RUNS runs (3), and greatest resident memory, beside `wasm-opt`
-# reading and writing the same file and `wasm-validate` (Debian's binaryen and wabt). Fails where twice the size takes more
-# than 2.6 times the time, where the 8 MB take more than half of wasm-opt's time or more than 64 bytes of memory a byte, or
+# reading and writing the same file and `wasm-validate` (Debian's binaryen and wabt). Fails where a byte takes
+# more than 1.3 times the time of one in the next smaller file, where the 8 MB take more than half of wasm-opt's time or more than 64 bytes of memory a byte, or
 # where blocks that never end are refused in more than twice the time of a file of that size of nested blocks; says whether
 # half of wasm-validate's time is kept too.
 . "$(dirname "$0")/common.sh"
@@ -39,14 +39,14 @@ PY
 
 build_asyncify
 for kind in many long deep labels; do
-    half=
+    before=
     for megabytes in 1 2 4 8; do
         make_module "$kind" "$megabytes" "$temp/in.wasm"
         bytes=$(stat -c %s "$temp/in.wasm")
         read -r time kilobytes < <(measure 14 "$runs" "$asyncify" transform "$temp/in.wasm" "$temp/out.wasm")
         echo "$kind: $bytes bytes in $time s, $((kilobytes * 1024 / bytes)) bytes of memory a byte"
-        [ -z "$half" ] || bar "$time <= 2.6 * $half + 0.004" "$kind: twice the size takes more than 2.6 times the time"
-        half=$time
+        [ -z "$before" ] || bar "$time <= 1.3 * $before * $bytes / $fewer + 0.004" "$kind: a byte takes 1.3 times the time of before"
+        before=$time fewer=$bytes
     done
     if has_peer wasm-opt; then
         read -r opt _ < <(measure 0 1 wasm-opt "$temp/in.wasm" -o "$temp/out.wasm")
