@@ -1,10 +1,10 @@
 #!/usr/bin/env bash
 # Times reading and validating: `asyncify transform` of modules that it refuses behind both as not yet built (status 14),
 # and of a malformed one (status 3). User time, the least of RUNS runs (3), and greatest resident memory, beside `wasm-opt`
-# reading and writing the same file and `wasm-validate` (Debian's binaryen and wabt). Fails where a byte takes
-# more than 1.3 times the time of one in the next smaller file, where the 8 MB take more than half of wasm-opt's time or more than 64 bytes of memory a byte, or
-# where blocks that never end are refused in more than twice the time of a file of that size of nested blocks; says whether
-# half of wasm-validate's time is kept too.
+# reading and writing the same file and `wasm-validate` (Debian's binaryen and wabt). Fails where a byte takes more than 1.3
+# times the time of one in the next smaller file, where the 8 MB take more than half of wasm-opt's time or more than 64 bytes
+# of memory a byte, or where blocks that never end are refused in more than twice the time of a file of that size of nested
+# blocks; says whether half of wasm-validate's time is kept too.
 . "$(dirname "$0")/common.sh"
 runs=${RUNS:-3}
 
