@@ -12,7 +12,8 @@ use wasm_validate::ValidateFault;
 
 #[test]
 fn faults_of_reading_have_texts(rt: HostRuntime) -> Result<(), Fail> {
-    let texts = format!(in rt.alloc();
+    let alloc = rt.alloc();
+    let texts = format!(in alloc;
         "{}, {}, {}, {}, {}",
         ReadFault::Memory,
         ReadFault::Malformed { at: 7 },
@@ -32,7 +33,8 @@ fn faults_of_reading_have_texts(rt: HostRuntime) -> Result<(), Fail> {
 
 #[test]
 fn faults_of_modules_have_texts(rt: HostRuntime) -> Result<(), Fail> {
-    let texts = format!(in rt.alloc();
+    let alloc = rt.alloc();
+    let texts = format!(in alloc;
         "{}, {}, {}, {}",
         ValidateFault::Memory,
         ValidateFault::Invalid {
@@ -52,7 +54,8 @@ fn faults_of_modules_have_texts(rt: HostRuntime) -> Result<(), Fail> {
 
 #[test]
 fn refusals_have_texts(rt: HostRuntime) -> Result<(), Fail> {
-    let texts = format!(in rt.alloc();
+    let alloc = rt.alloc();
+    let texts = format!(in alloc;
         "{}, {}, {}, {}",
         Refusal::Limit {
             what: LimitKind::Locals,
