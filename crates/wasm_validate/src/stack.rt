@@ -55,7 +55,8 @@ fn push(o: &mut Operands, t: Option<ValType>) -> Result<(), AllocError>
     Ok(())
 }
 
-// Takes operands of these types off, the last one first.
+// Takes operands of these types off, the last one first. Where the construct's own operands have run out, the others
+// are all there or the next one is missing: so a call in dead code takes no time for its parameters.
 #[tactic(auto, using(crate::proofs::Lists::stacks))]
 fn pop_all(o: &mut Operands, wanted: &[ValType]) -> bool
     requires { Deep o.old }
@@ -65,6 +66,9 @@ fn pop_all(o: &mut Operands, wanted: &[ValType]) -> bool
 {
     let mut n = wanted.len();
     while n > 0 {
+        if o.types.len() == o.base {
+            return o.free;
+        }
         n -= 1;
         if !pop(o, wanted[n]) {
             return false;
