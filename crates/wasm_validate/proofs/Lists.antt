@@ -6,6 +6,7 @@ use Rattle.std.proofs.lemmas.Option.{slice_get-map, slice_get-get_or, slice_get_
 use Rattle.std.proofs.Math.Seq.{take-suc}
 use Rattle.wa_types.specs.declared.values.ValType.{ValType}
 use Rattle.wa_types.specs.Typing.{listed, all_there, all_alike, agrees_with, same_result}
+use Rattle.wasm_tree.proofs.PruneLemmas.{block_unlike, loop_unlike, if_unlike}
 use Rattle.wasm_validate.specs.Running.{may_be, pop1, pops, ended}
 use Rattle.wasm_validate.specs.declared.stack.Operands.{Operands}
 use Rattle.wasm_validate.specs.Stack.{known_at, popped, Level}
@@ -65,6 +66,8 @@ reverse_listed (Some t) = refl
 pub ruleset labels_at = (label_is, no_label)
 
 pub ruleset listing = (reverse_listed, reverse_listed)
+
+pub ruleset leaves = (reverse_listed, block_unlike, loop_unlike, if_unlike)
 
 pub ruleset looking = (slice_get-map, slice_get-map)
 

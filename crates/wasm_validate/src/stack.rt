@@ -1,4 +1,4 @@
-ghost use Rattle.std.specs.Prelude.{◌≡◌, [], ◌∷◌, ◌++◌, reverse, IfOk, IfNone, MatchOption};
+ghost use Rattle.std.specs.Prelude.{◌≡◌, [], ◌∷◌, ◌++◌, length, reverse, true, IfOk, IfNone, MatchOption};
 ghost use Rattle.wa_types.specs.Encoding.{same_type};
 ghost use Rattle.wa_types.specs.Typing.{listed};
 ghost use Rattle.wasm_validate.specs.Running.{pop1, pops, knows, ended, next, dropped, two};
@@ -235,6 +235,7 @@ pub(crate) fn ends(o: &mut Operands, gives: Option<ValType>) -> bool
     requires { Deep o.old }
     ensures level { Level o.old o.new }
     ensures ended { result ≡ ended (listed gives) (known o.old) o.old.free }
+    ensures bare { result ≡ true → length o.new.types.items ≡ o.old.base }
 {
     match gives {
         None => is_bare(o),
