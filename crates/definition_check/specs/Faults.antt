@@ -1,16 +1,17 @@
 -- Small modules and what is to be said of them: at least one for each rule.
-use Rattle.std.specs.Prelude.{ℕ, List, [], ◌∷◌, Some, None, false}
+use Rattle.std.specs.Prelude.{ℕ, List, [], ◌∷◌, Some, None, true, false}
 use Rattle.wa_types.specs.declared.values.ValType.{ValType}
-use Rattle.wa_types.specs.declared.values.ValType.TheVariants.{I32}
+use Rattle.wa_types.specs.declared.values.ValType.TheVariants.{I32, I64}
 use Rattle.wa_types.specs.declared.values.Value.TheVariants.{I32 as value_32, I64 as value_64}
 use Rattle.wa_types.specs.declared.operators.NumOp.TheVariants.{I32Add}
 use Rattle.wa_types.specs.declared.syntax.Limits.{Limits}
 use Rattle.wa_types.specs.declared.syntax.Import.{Import}
-use Rattle.wa_types.specs.declared.syntax.ImportKind.TheVariants.{Func as a_func_import, Global as a_global_import}
+use Rattle.wa_types.specs.declared.syntax.ImportKind.{ImportKind}
+use Rattle.wa_types.specs.declared.syntax.ImportKind.TheVariants.{Func as a_func_import, Memory as a_memory_import, Global as a_global_import}
 use Rattle.wa_types.specs.declared.syntax.Export.{Export}
 use Rattle.wa_types.specs.declared.syntax.Space.{Space}
 use Rattle.wa_types.specs.declared.syntax.Space.TheVariants.{Func as a_func, Table as a_table, Global as a_global}
-use Rattle.wa_types.specs.Syntax.{drop, select, const, num, global_get, global_set, load, memory_size, basic, local_get, br, br_if, br_table, unreachable, call, call_indirect, a_block, a_loop, Code, done, plain, nest, branch, FuncType, GlobalDef, Segment, Module}
+use Rattle.wa_types.specs.Syntax.{drop, select, const, num, global_get, global_set, load, store, memory_size, basic, local_get, br, br_if, br_table, unreachable, call, call_indirect, a_block, a_loop, Code, done, plain, nest, branch, FuncType, GlobalDef, Elem, Segment, Module}
 use Rattle.wasm_validate.specs.Running.{Answer, valid, invalid}
 use Rattle.wasm_validate.specs.Laws.{Says}
 
@@ -41,6 +42,10 @@ nothing = type_of [] [] ∷ []
 abbrev pub a_number : List FuncType
 a_number = type_of [] (I32 ∷ []) ∷ []
 
+-- the type [i32 i64] -> []
+abbrev pub two_numbers : List FuncType
+two_numbers = type_of (I32 ∷ I64 ∷ []) [] ∷ []
+
 abbrev pub body : Code → Module
 body code = one_func nothing code
 
@@ -62,11 +67,15 @@ constant = record { ty = I32; mutable = false; init = one done }
 abbrev pub exporting : Space → Export
 exporting space = record { name = 97 ∷ []; space = space; index = 0 }
 
-abbrev pub imports_function : Import
-imports_function = record { «module» = []; base = []; kind = a_func_import 0 }
+abbrev pub importing : ImportKind → Import
+importing kind = record { «module» = []; base = []; kind = kind }
 
-abbrev pub imports_global : Import
-imports_global = record { «module» = []; base = []; kind = a_global_import I32 false }
+-- a module with a table and this element segment
+abbrev pub with_elem : Elem → Module
+with_elem elem = record (body done) { tables = a_page ∷ []; elems = elem ∷ [] }
+
+abbrev pub elem_at : Code → Elem
+elem_at offset = record { table = 0; offset = offset; funcs = [] }
 
 abbrev pub segment_at : Code → Segment
 segment_at offset = record { memory = 0; offset = offset; bytes = [] }
@@ -92,18 +101,25 @@ abbrev pub module_cases : List Case
 module_cases =
     case (one_func [] done) (outside 1)
     ∷ case (record (body done) { start = Some 1 }) (outside 2)
+    ∷ case (with_elem (record (elem_at (one done)) { funcs = 1 ∷ [] })) (outside 2)
     ∷ case (record (body done) { exports = exporting a_table ∷ [] }) (outside 3)
     ∷ case (record (body done) { segments = segment_at (one done) ∷ [] }) (outside 4)
     ∷ case (record (body done) { exports = exporting a_global ∷ [] }) (outside 5)
     ∷ case (record (body done) { globals = record constant { init = plain (basic (global_get 1)) done } ∷ [] }) (outside 5)
+    ∷ case (with_elem (elem_at (plain (basic (global_get 0)) done))) (outside 5)
     ∷ case (record (body done) { memories = record { min = 2; max = Some 1 } ∷ [] }) (outside 11)
     ∷ case (record (body done) { memories = record { min = 65537; max = None } ∷ [] }) (outside 11)
+    ∷ case (record (body done) { imports = importing (a_memory_import (record { min = 65537; max = None })) ∷ [] }) (outside 11)
     ∷ case (record (body done) { memories = a_page ∷ a_page ∷ [] }) (outside 12)
+    ∷ case (record (body done) { imports = importing (a_memory_import a_page) ∷ []; memories = a_page ∷ [] }) (outside 12)
     ∷ case (record (body done) { globals = record constant { init = long done } ∷ [] }) (outside 13)
     ∷ case (record (body done) { globals = record constant { init = one (gone (one done)) } ∷ [] }) (outside 13)
     ∷ case (record (body done) { globals = constant ∷ record constant { init = plain (basic (global_get 0)) done } ∷ [] }) (outside 13)
+    ∷ case (record (body done) { imports = importing (a_global_import I32 true) ∷ []; globals = record constant { init = plain (basic (global_get 0)) done } ∷ [] }) (outside 13)
+    ∷ case (with_elem (elem_at (long done))) (outside 13)
     ∷ case (record (body done) { exports = exporting a_func ∷ exporting a_func ∷ [] }) (outside 14)
     ∷ case (record (one_func (type_of (I32 ∷ []) [] ∷ []) done) { start = Some 0 }) (outside 15)
+    ∷ case (record (one_func a_number (one done)) { start = Some 0 }) (outside 15)
     ∷ case (one_func (type_of [] (I32 ∷ I32 ∷ []) ∷ []) (one (one done))) (outside 16)
     -- of several rules the smallest counts, and all of them before the bodies
     ∷ case (record (one_func (type_of [] (I32 ∷ I32 ∷ []) ∷ []) done) { memories = a_page ∷ a_page ∷ [] }) (outside 12)
@@ -137,7 +153,7 @@ body_cases =
     -- what is dead still has types
     ∷ case (body (plain unreachable (long (plain (basic (num I32Add)) (gone done))))) (inside 8 2)
     -- the function's number counts imported functions
-    ∷ case (record (body (plain (basic (num I32Add)) done)) { imports = imports_function ∷ [] }) (invalid (Some 1) 8 0)
+    ∷ case (record (body (plain (basic (num I32Add)) done)) { imports = importing (a_func_import 0) ∷ [] }) (invalid (Some 1) 8 0)
     ∷ []
 
 -- Valid modules.
@@ -147,8 +163,15 @@ valid_cases =
     ∷ case (body (plain unreachable (plain (basic select) (gone done)))) valid
     ∷ case (body (plain (br 0) (plain (basic (num I32Add)) (gone done)))) valid
     ∷ case (one_func a_number (one (nest a_loop None (one (plain (br_if 0) done)) done))) valid
+    -- a branch to a loop takes no value, whatever the loop's result
+    ∷ case (one_func a_number (nest a_loop (Some I32) (one (plain (br_if 0) (one done))) done)) valid
+    -- the last parameter lies topmost, below it the others, above it the index of a `call_indirect`
+    ∷ case (one_func two_numbers (one (long (plain (call 0) done)))) valid
+    ∷ case (record (one_func two_numbers (one (long (one (plain (call_indirect 0) done))))) { tables = a_page ∷ [] }) valid
+    -- `i64.store`: the value above its address
+    ∷ case (record (body (one (long (plain (basic (store 0x37 3 0)) done)))) { memories = a_page ∷ [] }) valid
     -- a constant global that is imported may be got in an initialiser, and in an offset one that is defined
-    ∷ case (record (body done) { imports = imports_global ∷ []; globals = record constant { init = plain (basic (global_get 0)) done } ∷ [] }) valid
+    ∷ case (record (body done) { imports = importing (a_global_import I32 false) ∷ []; globals = record constant { init = plain (basic (global_get 0)) done } ∷ [] }) valid
     ∷ case (record (body done) { memories = a_page ∷ []; globals = constant ∷ []; segments = segment_at (plain (basic (global_get 0)) done) ∷ [] }) valid
     ∷ []
 

@@ -2,7 +2,7 @@ use crate::{Fault, first_fault};
 use std::alloc::{AllocError, Global};
 use std::test::Fail;
 use wa_types::{
-    Export, Func, FuncType, GlobalDef, Import, ImportKind, Instr, Limits, Module, Name, NumOp,
+    Elem, Export, Func, FuncType, GlobalDef, Import, ImportKind, Instr, Limits, Module, Name, NumOp,
     Segment, Space, ValType, Value,
 };
 
@@ -63,6 +63,10 @@ fn one() -> Instr {
     Instr::Const(Value::I32(1))
 }
 
+fn long() -> Instr {
+    Instr::Const(Value::I64(1))
+}
+
 fn constant(alloc: Global, init: Instr) -> Result<GlobalDef, AllocError> {
     Ok(GlobalDef {
         ty: ValType::I32,
@@ -77,6 +81,26 @@ fn export(alloc: Global, space: Space) -> Result<Export, AllocError> {
         space,
         index: 0,
     })
+}
+
+fn import(alloc: Global, kind: ImportKind) -> Result<Import, AllocError> {
+    Ok(Import {
+        module: Name::new(alloc, "")?,
+        base: Name::new(alloc, "")?,
+        kind,
+    })
+}
+
+// A table, and an element segment of this function.
+fn with_elem(alloc: Global, offset: Instr, func: u32) -> Result<Module, AllocError> {
+    let mut m = empty(alloc)?;
+    m.tables.push(pages(1, None))?;
+    m.elems.push(Elem {
+        table: 0,
+        offset: vec![in alloc; offset]?,
+        funcs: vec![in alloc; func]?,
+    })?;
+    Ok(m)
 }
 
 fn pages(min: u32, max: Option<u32>) -> Limits {
@@ -151,8 +175,7 @@ fn memories_are_one_within_limits(rt: HostRuntime) -> Result<(), Fail> {
 fn initialisers_are_constant_and_names_differ(rt: HostRuntime) -> Result<(), Fail> {
     let alloc = rt.alloc();
     let mut m = empty(alloc)?;
-    m.globals
-        .push(constant(alloc, Instr::Const(Value::I64(1)))?)?;
+    m.globals.push(constant(alloc, long())?)?;
     assert_eq!(rt; first_fault(alloc, &m)?, outside(13));
     let mut m = empty(alloc)?;
     m.globals.push(constant(alloc, one())?)?;
@@ -166,9 +189,44 @@ fn initialisers_are_constant_and_names_differ(rt: HostRuntime) -> Result<(), Fai
 }
 
 #[test]
+fn imports_are_asked_too(rt: HostRuntime) -> Result<(), Fail> {
+    let alloc = rt.alloc();
+    let mut m = empty(alloc)?;
+    let many = ImportKind::Memory(pages(65537, None));
+    m.imports.push(import(alloc, many)?)?;
+    assert_eq!(rt; first_fault(alloc, &m)?, outside(11));
+    let mut m = empty(alloc)?;
+    let memory = ImportKind::Memory(pages(1, None));
+    m.imports.push(import(alloc, memory)?)?;
+    m.memories.push(pages(1, None))?;
+    assert_eq!(rt; first_fault(alloc, &m)?, outside(12));
+    let mut m = empty(alloc)?;
+    let mutable = ImportKind::Global(ValType::I32, true);
+    m.imports.push(import(alloc, mutable)?)?;
+    m.globals.push(constant(alloc, Instr::GlobalGet(0))?)?;
+    assert_eq!(rt; first_fault(alloc, &m)?, outside(13));
+    Ok(())
+}
+
+#[test]
+fn element_segments_are_asked(rt: HostRuntime) -> Result<(), Fail> {
+    let alloc = rt.alloc();
+    let m = with_elem(alloc, one(), 1)?;
+    assert_eq!(rt; first_fault(alloc, &m)?, outside(2));
+    let m = with_elem(alloc, Instr::GlobalGet(0), 0)?;
+    assert_eq!(rt; first_fault(alloc, &m)?, outside(5));
+    let m = with_elem(alloc, long(), 0)?;
+    assert_eq!(rt; first_fault(alloc, &m)?, outside(13));
+    Ok(())
+}
+
+#[test]
 fn starts_are_of_the_empty_type_and_results_one(rt: HostRuntime) -> Result<(), Fail> {
     let alloc = rt.alloc();
     let mut m = typed(alloc, &[ValType::I32], &[], Vec::new(alloc))?;
+    m.start = Some(0);
+    assert_eq!(rt; first_fault(alloc, &m)?, outside(15));
+    let mut m = typed(alloc, &[], &[ValType::I32], vec![in alloc; one()]?)?;
     m.start = Some(0);
     assert_eq!(rt; first_fault(alloc, &m)?, outside(15));
     let two = [ValType::I32, ValType::I32];
@@ -216,11 +274,7 @@ fn operands_are_there(rt: HostRuntime) -> Result<(), Fail> {
     let m = typed(alloc, &[], &[ValType::I32], Vec::new(alloc))?;
     assert_eq!(rt; first_fault(alloc, &m)?, inside(0, 8, 0));
     let mut m = body(alloc, vec![in alloc; Instr::Num(NumOp::I32Add)]?)?;
-    m.imports.push(Import {
-        module: Name::new(alloc, "")?,
-        base: Name::new(alloc, "")?,
-        kind: ImportKind::Func(0),
-    })?;
+    m.imports.push(import(alloc, ImportKind::Func(0))?)?;
     assert_eq!(rt; first_fault(alloc, &m)?, inside(1, 8, 0));
     Ok(())
 }
@@ -231,13 +285,13 @@ fn ends_and_elses_are_counted(rt: HostRuntime) -> Result<(), Fail> {
     let choice = Instr::If {
         result: Some(ValType::I32),
         then_arm: vec![in alloc; one()]?,
-        else_arm: vec![in alloc; Instr::Const(Value::I64(1))]?,
+        else_arm: vec![in alloc; long()]?,
     };
     let m = typed(alloc, &[], &[ValType::I32], vec![in alloc; one(), choice]?)?;
     assert_eq!(rt; first_fault(alloc, &m)?, inside(0, 8, 5));
     let dead = vec![in alloc;
         Instr::Unreachable,
-        Instr::Const(Value::I64(1)),
+        long(),
         Instr::Num(NumOp::I32Add),
     ]?;
     let m = body(alloc, dead)?;
@@ -272,6 +326,29 @@ fn valid_modules_have_no_fault(rt: HostRuntime) -> Result<(), Fail> {
     assert_eq!(rt; first_fault(alloc, &m)?, None);
     let dead = vec![in alloc; Instr::Br(0), Instr::Num(NumOp::I32Add), Instr::Drop]?;
     let m = body(alloc, dead)?;
+    assert_eq!(rt; first_fault(alloc, &m)?, None);
+    Ok(())
+}
+
+#[test]
+fn operands_lie_in_their_order(rt: HostRuntime) -> Result<(), Fail> {
+    let alloc = rt.alloc();
+    let again = Instr::Loop {
+        result: Some(ValType::I32),
+        body: vec![in alloc; one(), Instr::BrIf(0), one()]?,
+    };
+    let m = typed(alloc, &[], &[ValType::I32], vec![in alloc; again]?)?;
+    assert_eq!(rt; first_fault(alloc, &m)?, None);
+    let params = [ValType::I32, ValType::I64];
+    let m = typed(alloc, &params, &[], vec![in alloc; one(), long(), Instr::Call(0)]?)?;
+    assert_eq!(rt; first_fault(alloc, &m)?, None);
+    let store = Instr::Store {
+        op: 0x37,
+        align: 3,
+        offset: 0,
+    };
+    let mut m = body(alloc, vec![in alloc; one(), long(), store]?)?;
+    m.memories.push(pages(1, None))?;
     assert_eq!(rt; first_fault(alloc, &m)?, None);
     Ok(())
 }

@@ -11,7 +11,7 @@ ghost use Rattle.plain_check.specs.Contexts.{around_of, def_type, global_import,
 use std::alloc::{AllocError, Global};
 use wa_types::{Func, FuncType, GlobalDef, ImportKind, Limits, Module, Run, ValType};
 
-/// A global type (standard, section 2.3.6).
+/// A global type (standard, section 2.3.7).
 #[derive(Clone, Copy)]
 pub struct GlobalType {
     pub ty: ValType,

@@ -6,7 +6,18 @@ use Rattle.wa_types.specs.Encoding.{same_type}
 use Rattle.wa_types.specs.Typing.{Sig, moves, leaves, drops, selects, lacks, late, Takes}
 use Rattle.wa_types.specs.FirstFault.{Meets}
 use Rattle.wa_types.proofs.SigLemmas.{Lawful}
-use Rattle.wasm_validate.specs.Running.{Is, Fits, may_be, chain, pops, knows, Next, goes, stops, pushed, gone, too_late, dropped, two, selected, next}
+use Rattle.wasm_validate.specs.Running.{may_be, chain, pops, knows, Next, goes, stops, pushed, gone, too_late, dropped, two, selected, next}
+
+-- what a stack of types may stand for: such operands, and any more where it is free
+abbrev pub Is : Option ValType → ValType → Type 0
+Is None t = Unit {0}
+Is (Some u) t = u ≡ t
+
+unfoldable pub Fits : List (Option ValType) → Bool → List ValType → Type 0
+Fits [] true ts = Unit {0}
+Fits [] false ts = ts ≡ []
+Fits (o ∷ os) free [] = ⊥
+Fits (o ∷ os) free (t ∷ ts) = Is o t × Fits os free ts
 
 pub same_eq : (t u : ValType) → same_type t u ≡ true → t ≡ u
 same_eq I32 I32 h = refl

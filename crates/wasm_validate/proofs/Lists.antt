@@ -6,9 +6,10 @@ use Rattle.std.proofs.lemmas.Option.{slice_get-map, slice_get-get_or, slice_get_
 use Rattle.std.proofs.Math.Seq.{take-suc}
 use Rattle.wa_types.specs.declared.values.ValType.{ValType}
 use Rattle.wa_types.specs.Typing.{listed, all_there, all_alike, agrees_with, same_result}
-use Rattle.wasm_validate.specs.Running.{may_be, pop1, ended}
+use Rattle.wasm_tree.proofs.PruneLemmas.{block_unlike, loop_unlike, if_unlike}
+use Rattle.wasm_validate.specs.Running.{may_be, pop1, pops, ended}
 use Rattle.wasm_validate.specs.declared.stack.Operands.{Operands}
-use Rattle.wasm_validate.specs.Stack.{known_at, Level}
+use Rattle.wasm_validate.specs.Stack.{known_at, popped, Level}
 
 pub known_more : (b : ℕ) (xs ys : List (Option ValType)) (x : Option ValType) → ys ≡ xs ++ x ∷ [] → b ≤ length xs → known_at b ys ≡ x ∷ known_at b xs
 unfolding known_at
@@ -24,6 +25,19 @@ pop_step b xs ys o t free e h = ap (λ v. pop1 t v free) (known_more b ys xs o e
 
 pub pop_none : (b : ℕ) (xs : List (Option ValType)) (t : ValType) (free : Bool) → length xs ≤ b → pop1 t (known_at b xs) free ≡ (if free then Some (known_at b xs) else None)
 pop_none b xs t free h = let e = known_none b xs h in ap (λ v. pop1 t v free) e ∙ ap (λ v. if free then Some v else None) (sym e)
+
+pub free_pops : (ps : List ValType) → pops ps [] true ≡ Some []
+free_pops [] = refl
+free_pops (p ∷ ps) = free_pops ps
+
+bare_pops : (ps : List ValType) (free : Bool) → 0 < length ps → pops ps [] free ≡ popped free []
+bare_pops ps true h = free_pops ps
+bare_pops [] false h = absurd (omega arith)
+bare_pops (p ∷ ps) false h = refl
+
+-- operands that are wanted where none is left
+pub pops_none : (b : ℕ) (xs : List (Option ValType)) (ps : List ValType) (free : Bool) → length xs ≤ b → 0 < length ps → pops ps (known_at b xs) free ≡ popped free (known_at b xs)
+pops_none b xs ps free h m = let e = known_none b xs h in ap (λ v. pops ps v free) e ∙ bare_pops ps free m ∙ ap (popped free) (sym e)
 
 pub reverse_more : (xs : List ValType) (n : ℕ) (d : ValType) → n < length xs → reverse (take (suc n) xs) ≡ get_or xs n d ∷ reverse (take n xs)
 reverse_more xs n d h = ap reverse (take-suc xs n d h) ∙ reverse-append (take n xs) (get_or xs n d ∷ [])
@@ -52,6 +66,8 @@ reverse_listed (Some t) = refl
 pub ruleset labels_at = (label_is, no_label)
 
 pub ruleset listing = (reverse_listed, reverse_listed)
+
+pub ruleset leaves = (reverse_listed, block_unlike, loop_unlike, if_unlike)
 
 pub ruleset looking = (slice_get-map, slice_get-map)
 

@@ -7,8 +7,8 @@ use Rattle.wa_types.specs.Typing.{Around, Sig, moves, leaves, drops, selects, la
 use Rattle.wa_types.specs.FirstFault.{mid, size, Meets, UpTo, BodyFault}
 use Rattle.wa_types.proofs.SigLemmas.{lawful}
 use Rattle.wa_types.proofs.TypingLemmas.{upto_zero, at_upto, typed_upto}
-use Rattle.wasm_validate.specs.Running.{Is, Fits, may_be, knows, Next, goes, stops, next, Verdict, fine, fault, both, onward, ended, checks, body_verdict}
-use Rattle.wasm_validate.proofs.Exact.{Exact, exact, some_fit, know_fit, know_split, may_is, is_may}
+use Rattle.wasm_validate.specs.Running.{may_be, knows, Next, goes, stops, next, Verdict, fine, fault, both, onward, ended, checks, body_verdict}
+use Rattle.wasm_validate.proofs.Exact.{Is, Fits, Exact, exact, some_fit, know_fit, know_split, may_is, is_may}
 
 pub takes_meets : (q : ℕ) (s : Sig) (ins outs : List ValType) → Takes s ins outs → Meets q s ins
 takes_meets q (moves ps rs) ins outs h = inr (outs, h)

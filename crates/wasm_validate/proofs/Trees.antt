@@ -184,6 +184,10 @@ plain_size x not_block not_loop not_if = elim (kind x) [
   | is_plain p e f ↦ ap size (f done) ∙ size_plain p done ∙ ap (λ n. 1 + n) size_done
 ]
 
+pub none_is : (o : Option ℕ) → ((q : ℕ) → o ≡ Some q → ⊥) → o ≡ None
+none_is None f = refl
+none_is (Some q) f = absurd (f q refl)
+
 pub go_on : (n : Next) (k : ℕ) (go : List (Option ValType) → Bool → Verdict) (os : List (Option ValType)) (free : Bool) → Applied n None os free → onward n k go ≡ go os free
 go_on (goes os' free') k go os free h = ap (λ z. go z free') (sym h.0) ∙ ap (go os) (sym h.1)
 go_on (stops r) k go os free h = absurd h

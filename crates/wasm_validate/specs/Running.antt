@@ -1,5 +1,5 @@
 -- The verdict on a body, computed from front to back over a stack of types, some of them unknown.
-use Rattle.std.specs.Prelude.{◌≡◌, ℕ, suc, ◌+◌, ◌++◌, List, [], ◌∷◌, Option, Some, None, Bool, true, false, if◌then◌else◌}
+use Rattle.std.specs.Prelude.{ℕ, suc, ◌+◌, ◌++◌, List, [], ◌∷◌, Option, Some, None, Bool, true, false, if◌then◌else◌}
 use Rattle.wa_types.specs.declared.values.ValType.{ValType}
 use Rattle.wa_types.specs.declared.values.ValType.TheVariants.{I32}
 use Rattle.wa_types.specs.Encoding.{same_type}
@@ -8,17 +8,6 @@ use Rattle.wa_types.specs.Typing.{Around, Sig, moves, leaves, drops, selects, la
 use Rattle.wa_types.specs.Modules.{func_imports, around}
 use Rattle.wa_types.specs.Validity.{broken_outside}
 use Rattle.wa_types.specs.FirstFault.{mid, size}
-
--- such operands
-abbrev pub Is : Option ValType → ValType → Type 0
-Is None t = Unit {0}
-Is (Some u) t = u ≡ t
-
-unfoldable pub Fits : List (Option ValType) → Bool → List ValType → Type 0
-Fits [] true ts = Unit {0}
-Fits [] false ts = ts ≡ []
-Fits (o ∷ os) free [] = ⊥
-Fits (o ∷ os) free (t ∷ ts) = Is o t × Fits os free ts
 
 abbrev pub may_be : Option ValType → ValType → Bool
 may_be None t = true

@@ -1,4 +1,4 @@
--- Small modules, as the tests validate.
+-- Small modules, such as the tests validate: what their `is_small` tells, and nothing else.
 use Rattle.std.specs.Prelude.{◌≡◌, ◌≤◌, ◌^◌, List, [], All, length}
 use Rattle.wa_types.specs.Syntax.{FuncType, Func, GlobalDef, Elem, Segment, Module}
 use Rattle.wa_types.specs.Sizes.{code_items, code_lists, ElemSizes, SegmentSizes}

@@ -91,7 +91,6 @@ fn check_body(
     if !ends(o, gives) {
         return Err(Flaw::Breaks(8));
     }
-    o.types.truncate(height);
     o.base = base;
     o.free = free;
     let _ = labels.pop();
@@ -146,14 +145,11 @@ fn check_instr(
             Ok(())
         }
         _ => {
-            let s = asks_at(context, labels, instr);
-            match apply(o, s)? {
-                None => {
-                    *at += 1;
-                    Ok(())
-                }
-                Some(rule) => Err(Flaw::Breaks(rule)),
+            if let Some(rule) = apply(o, asks_at(context, labels, instr))? {
+                return Err(Flaw::Breaks(rule));
             }
+            *at += 1;
+            Ok(())
         }
     }
 }

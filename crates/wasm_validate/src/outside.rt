@@ -141,7 +141,7 @@ fn is_constant_of(globals: &[GlobalType], x: u32, ty: ValType) -> bool
 }
 
 /// Whether code is one constant of this type, or one `global.get` of a constant global of this type (standard,
-/// section 3.3.7.1).
+/// section 3.3.7.2).
 #[tactic(auto, using(crate::proofs::ExpressionLemmas::expressions))]
 fn is_constant(globals: &[GlobalType], ty: ValType, body: &[Instr]) -> bool
     ensures { result ≡ is_constant (map global_type_of globals.now) ty (code body.now) }

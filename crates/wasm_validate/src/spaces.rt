@@ -14,7 +14,7 @@ use wa_types::{Func, GlobalDef, Import, ImportKind, Module, Run, ValType};
 /// So many runs of locals are gone through as fast as halved.
 pub(crate) const FEW_RUNS: usize = 4;
 
-/// A global type (standard, section 2.3.6).
+/// A global type (standard, section 2.3.7).
 #[derive(Clone, Copy, Debug, PartialEq, Eq)]
 pub(crate) struct GlobalType {
     pub(crate) ty: ValType,

@@ -1,4 +1,4 @@
-ghost use Rattle.std.specs.Prelude.{◌≡◌, [], ◌∷◌, ◌++◌, reverse, IfOk, IfNone, MatchOption};
+ghost use Rattle.std.specs.Prelude.{◌≡◌, [], ◌∷◌, ◌++◌, length, reverse, true, IfOk, IfNone, MatchOption};
 ghost use Rattle.wa_types.specs.Encoding.{same_type};
 ghost use Rattle.wa_types.specs.Typing.{listed};
 ghost use Rattle.wasm_validate.specs.Running.{pop1, pops, knows, ended, next, dropped, two};
@@ -55,7 +55,8 @@ fn push(o: &mut Operands, t: Option<ValType>) -> Result<(), AllocError>
     Ok(())
 }
 
-// Takes operands of these types off, the last one first.
+// Takes operands of these types off, the last one first. Where the construct's own operands have run out, the others
+// are all there or the next one is missing: so a call in dead code takes no time for its parameters.
 #[tactic(auto, using(crate::proofs::Lists::stacks))]
 fn pop_all(o: &mut Operands, wanted: &[ValType]) -> bool
     requires { Deep o.old }
@@ -65,6 +66,9 @@ fn pop_all(o: &mut Operands, wanted: &[ValType]) -> bool
 {
     let mut n = wanted.len();
     while n > 0 {
+        if o.types.len() == o.base {
+            return o.free;
+        }
         n -= 1;
         if !pop(o, wanted[n]) {
             return false;
@@ -231,6 +235,7 @@ pub(crate) fn ends(o: &mut Operands, gives: Option<ValType>) -> bool
     requires { Deep o.old }
     ensures level { Level o.old o.new }
     ensures ended { result ≡ ended (listed gives) (known o.old) o.old.free }
+    ensures bare { result ≡ true → length o.new.types.items ≡ o.old.base }
 {
     match gives {
         None => is_bare(o),

@@ -1,9 +1,10 @@
-ghost use Rattle.std.specs.Prelude.{◌≡◌, ℕ, [], ◌∷◌, Some, reverse, slice_get, option_map};
+ghost use Rattle.std.specs.Prelude.{◌≡◌, ℕ, [], ◌∷◌, Some, reverse, slice_get, option_map, true};
 ghost use Rattle.wa_types.specs.Accesses.{load_row, store_row};
 ghost use Rattle.wa_types.specs.declared.values.ValType.TheVariants.{I32};
 ghost use Rattle.wa_types.specs.declared.instrs.Instr.TheVariants as Instr;
 ghost use Rattle.wa_types.specs.Operators.{operand_types, result_type};
 ghost use Rattle.wa_types.specs.Typing.{same_result, listed, sig, all_there, all_alike, jumps, jump, may_jump, calls, calls_at, gets, sets, tees, gets_global, sets_global, loads, stores, with_memory, type_of, moves, leaves};
+ghost use Rattle.wasm_tree.specs.Kinds.{is_leaf};
 ghost use Rattle.wasm_validate.specs.Stack.{sig_of};
 ghost use Rattle.wasm_validate.specs.Table.{access_of, plain_of, Says};
 
@@ -377,6 +378,7 @@ pub(crate) fn asks_at<'m>(
     labels: &[Option<ValType>],
     instr: &Instr,
 ) -> Asks<'m>
+    requires { is_leaf instr.now ≡ true }
     ensures { Says (plain_of instr.now) (λ p. sig_of result ≡ sig context.now (reverse labels.now) p) }
 {
     if let Instr::Call(x) = instr {
@@ -389,10 +391,11 @@ pub(crate) fn asks_at<'m>(
 }
 
 /// The same of one that calls no function.
-#[tactic(auto, using(crate::proofs::Lists::listing), unfolding(crate::specs::Table::plain_of))]
+#[tactic(auto, using(crate::proofs::Lists::leaves), unfolding(crate::specs::Table::plain_of))]
 fn own_asks(context: &Context<'_>, labels: &[Option<ValType>], instr: &Instr) -> Asks<'static>
     requires call { (x : ℕ) → instr.now ≡ Instr.Call x → ⊥ }
     requires indirect { (x : ℕ) → instr.now ≡ Instr.CallIndirect x → ⊥ }
+    requires leaf { is_leaf instr.now ≡ true }
     ensures { Says (plain_of instr.now) (λ p. sig_of result ≡ sig context.now (reverse labels.now) p) }
 {
     match instr {
@@ -422,7 +425,7 @@ fn own_asks(context: &Context<'_>, labels: &[Option<ValType>], instr: &Instr) ->
         Instr::Load { op, align, .. } => loading(context.has_memory(), *op, *align),
         Instr::Store { op, align, .. } => storing(context.has_memory(), *op, *align),
         Instr::Call(_) | Instr::CallIndirect(_) => unreachable!(),
-        Instr::Block { .. } | Instr::Loop { .. } | Instr::If { .. } => Asks::Drops,
+        Instr::Block { .. } | Instr::Loop { .. } | Instr::If { .. } => unreachable!(),
     }
 }
 

@@ -178,7 +178,8 @@ impl<'m> Typing<'m> {
     }
 
     /// A walk at the beginning of the body, or of each arm, of a block, loop or if, which is typed where this one
-    /// stands.
+    /// stands. It copies the labels and the types of all operands, so many small constructs above many operands take
+    /// time of the product of both.
     #[tactic(auto, using(crate::proofs::Walks::insides))]
     pub fn inside(&self, instr: &Instr) -> Result<Typing<'m>, AllocError>
         requires typed { TypedAt self.now (in_front instr.now done) }

@@ -4,8 +4,9 @@ use Rattle.wa_types.specs.View.{code}
 use Rattle.wa_types.specs.FirstFault.{size, mid}
 use Rattle.wa_types.specs.Typing.{listed}
 use Rattle.wasm_validate.specs.Running.{fine, fault}
+use Rattle.wasm_tree.proofs.PruneLemmas.{leaf_other}
 use Rattle.wasm_validate.proofs.Lists.{known_none}
-use Rattle.wasm_validate.proofs.Trees.{judged_err, judged_same, passed_by, passed_then, pushed_on, same_checks, moved_checks, labels_are, body_on, body_end, popped_none, popped_some, block_arm, loop_arm, if_arm, if_fault, plain_size, plain_is, go_on, stop_at, instrs, bodies}
+use Rattle.wasm_validate.proofs.Trees.{judged_err, judged_same, passed_by, passed_then, pushed_on, same_checks, moved_checks, labels_are, body_on, body_end, popped_none, popped_some, block_arm, loop_arm, if_arm, if_fault, plain_size, plain_is, go_on, stop_at, none_is, instrs, bodies}
 use Rattle.wasm_validate.proofs.bodies.+check.Goals as goal
 
 pub check_body-loop-instr-init : goal.check_body-loop-instr-init
@@ -99,19 +100,24 @@ check_instr-returns-in_ok-push_result-in-If-clause-judged t c =
     passed_by _ _ _ (passed_then _ _ _ _ _ y c.in_ok-check_body-in-If.ensures.judged (moved_checks _ _ _ _ _ _ _ _ (sym (ap reverse c.in_ok-check_body-in-If.ensures.labels)) (sym n))) c.in_ok-check_body-in-If-2.ensures.judged
     ∙ same_checks _ _ _ _ _ _ _ _ _ _ (pushed_on _ _ _ _ c.in_ok-push_result-in-If.ensures.pushed (c.in_ok-check_body-in-If-2.ensures.known ∙ c.in_ok-check_body-in-If.ensures.known)) (sym (c.in_ok-push_result-in-If.ensures.free ∙ c.in_ok-check_body-in-If-2.ensures.free ∙ c.in_ok-check_body-in-If.ensures.free ∙ c.pop.ensures.free)) (omega (arith, n, c.in_ok-check_body-in-If-2.ensures.place))
 
-pub check_instr-overflow_add-at-in-None : goal.check_instr-overflow_add-at-in-None
-check_instr-overflow_add-at-in-None t c = omega (arith, plain_size _ c.in_default.not-Block c.in_default.not-Loop c.in_default.not-If)
+pub check_instr-asks_at-requires : goal.check_instr-asks_at-requires
+check_instr-asks_at-requires t c = leaf_other _ c.in_default.not-Block c.in_default.not-Loop c.in_default.not-If
 
-pub check_instr-returns-in-None : goal.check_instr-returns-in-None
-check_instr-returns-in-None t c = record {
-  labels = refl;
-  level = rw c.in-None.is at c.in_ok-apply-in_default.ensures.level;
-  place = omega (arith, plain_size _ c.in_default.not-Block c.in_default.not-Loop c.in_default.not-If);
-  judged = λ rest outs.
-      plain_is _ _ outs _ _ _ _ rest c.in_default.not-Block c.in_default.not-Loop c.in_default.not-If c.asks_at-s.result (rw c.deref-in_default.ensures.value at c.asks_at-s.ensures)
-      ∙ go_on _ _ _ _ _ (rw c.in-None.is at c.in_ok-apply-in_default.ensures.applied)
-      ∙ same_checks _ _ _ _ _ _ _ _ _ _ refl refl (omega arith);
-}
+pub check_instr-overflow_add-at-in_default : goal.check_instr-overflow_add-at-in_default
+check_instr-overflow_add-at-in_default t c = omega (arith, plain_size _ c.in_default.not-Block c.in_default.not-Loop c.in_default.not-If)
+
+pub check_instr-returns-in_default-2 : goal.check_instr-returns-in_default-2
+check_instr-returns-in_default-2 t c =
+    let none = none_is _ c.in_default-2.not-Some in
+    record {
+      labels = refl;
+      level = rw none at c.in_ok-rule-in_default.ensures.level;
+      place = omega (arith, plain_size _ c.in_default.not-Block c.in_default.not-Loop c.in_default.not-If);
+      judged = λ rest outs.
+          plain_is _ _ outs _ _ _ _ rest c.in_default.not-Block c.in_default.not-Loop c.in_default.not-If c.asks_at.result (rw c.deref-in_default.ensures.value at c.asks_at.ensures)
+          ∙ go_on _ _ _ _ _ (rw none at c.in_ok-rule-in_default.ensures.applied)
+          ∙ same_checks _ _ _ _ _ _ _ _ _ _ refl refl (omega arith);
+    }
 
 pub check_instr-returns-in-Some : goal.check_instr-returns-in-Some
 check_instr-returns-in-Some t c = record {
@@ -119,6 +125,6 @@ check_instr-returns-in-Some t c = record {
   level = tt;
   place = tt;
   judged = λ rest outs.
-      plain_is _ _ outs _ _ _ _ rest c.in_default.not-Block c.in_default.not-Loop c.in_default.not-If c.asks_at-s.result (rw c.deref-in_default.ensures.value at c.asks_at-s.ensures)
-      ∙ stop_at _ _ _ _ _ _ (rw c.in-Some.is at c.in_ok-apply-in_default.ensures.applied);
+      plain_is _ _ outs _ _ _ _ rest c.in_default.not-Block c.in_default.not-Loop c.in_default.not-If c.asks_at.result (rw c.deref-in_default.ensures.value at c.asks_at.ensures)
+      ∙ stop_at _ _ _ _ _ _ (rw c.in-Some.is at c.in_ok-rule-in_default.ensures.applied);
 }

@@ -3,6 +3,7 @@ use Rattle.wa_types.specs.declared.values.ValType.{ValType}
 use Rattle.wa_types.specs.Typing.{Takes}
 use Rattle.wasm_validate.specs.Stack.{sig_of}
 use Rattle.wasm_validate.specs.Walk.{Walk, CanTake, own_at}
+use Rattle.wasm_tree.proofs.PruneLemmas.{leaf_other}
 use Rattle.wasm_validate.proofs.Walks.{at_if, some_types, stays_is, own_is, same_place, on_err, says_at, can_walk, walked}
 use Rattle.wasm_validate.proofs.walk.Typing.advance.Goals as goal
 
@@ -28,6 +29,9 @@ pub change_types-requires-in-If : goal.change_types-requires-in-If
 change_types-requires-in-If c =
     let k = at_if c.args.self.now.around c.args.self.now.labels c.args.instr.now c.args.self.now.own c.requires _ _ _ c.in-If.is in
     some_types c.self.inside.valid.now c.self.inside.func c.self.inside.labels.items c.self.inside.types.items c.self.inside.base c.args.self.now c.self.view_is k.0 k.1
+
+pub asks_at-asks-requires : goal.asks_at-asks-requires
+asks_at-asks-requires c = leaf_other _ c.in_default.not-Block c.in_default.not-Loop c.in_default.not-If
 
 pub take_and_give-requires : goal.take_and_give-requires
 take_and_give-requires c =
