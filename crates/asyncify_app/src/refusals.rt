@@ -21,7 +21,7 @@ pub enum Refusal {
         at: u64,
     },
     /// Another limit, and the number found.
-    #[error("limit passed with {found}")]
+    #[error("limit {what:?} passed with {found}")]
     Limit {
         what: LimitKind,
         found: u64,

@@ -26,7 +26,7 @@ fn faults_of_reading_have_texts(rt: HostRuntime) -> Result<(), Fail> {
     )?;
     assert_eq!(rt;
         texts.as_str(),
-        "out of memory, malformed at 7, float at 24, limit nesting at 2025, limit passed with 8388609"
+        "out of memory, malformed at 7, float at 24, limit nesting at 2025, limit File passed with 8388609"
     );
     Ok(())
 }
@@ -67,7 +67,7 @@ fn refusals_have_texts(rt: HostRuntime) -> Result<(), Fail> {
     )?;
     assert_eq!(rt;
         texts.as_str(),
-        "limit passed with 50001, not yet built, the module is refused, the module could not be read"
+        "limit Locals passed with 50001, not yet built, the module is refused, the module could not be read"
     );
     Ok(())
 }
