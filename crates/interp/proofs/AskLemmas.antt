@@ -10,7 +10,7 @@ use Rattle.wa_model.specs.Store.{Store, Did, works, fails, lacks, takes, act}
 use Rattle.wa_model.specs.Configuration.{Label, block_label, loop_label, Activation, Configuration, running, waiting}
 use Rattle.wa_model.specs.Step.{Next, steps, asks, returns, traps, stuck, result_count, leave, jump, finish, did, with_top, with_number, choose, entered, invoke, param_count, same_func_type, through, memory_max, step_plain, step_at, step}
 use Rattle.wa_model.specs.Alone.{Finish, it_asks, FinishesAt, EndsAs, by_finish, by_steps}
-use Rattle.interp.specs.Rooms.{TakesMemory}
+use Rattle.interp.specs.Rooms.{TakesMemory, paid_for}
 use Rattle.interp.specs.Runs.{LacksAt}
 
 -- where an import is asked, a call stands, and the store is as it was
@@ -111,12 +111,12 @@ asked_store s _ = s
 -- a run that ends at the call of an import came to a call
 pub asks_lacking : (m : Module) (c : Configuration) (left used import : ℕ) (args : List Value) (w : Configuration) → EndsAs m c left used (it_asks import args w) → LacksAt m c used w.store
 asks_lacking m c left used import args w (by_steps more d g e el h) = absurd (subst IsAsked e tt)
-asks_lacking m c left used import args w (by_finish j k d g fin e le) = by_next (step m d) (asks_from m d) fin
+asks_lacking m c left used import args w (by_finish j k d g fin e le) = by_next (step m d) refl (asks_from m d) fin
   where
-    by_next : (next : Next) → AsksFrom d.store d.here.code next → FinishesAt next k (it_asks import args w) → LacksAt m c used w.store
-    by_next (steps k' d') t f = absurd f
-    by_next stuck t f = absurd f
-    by_next (returns k' values s) t f = absurd (subst IsAsked f.1 tt)
-    by_next (traps k' trap s) t f = absurd (subst IsAsked f.1 tt)
-    by_next (asks k' i a w') t f =
-        record { at = d; cost = j; paid = omega arith; goes = g; store_is = sym (ap (asked_store w.store) f.1 ∙ t.1); takes = t.0 }
+    by_next : (next : Next) → step m d ≡ next → AsksFrom d.store d.here.code next → FinishesAt next k (it_asks import args w) → LacksAt m c used w.store
+    by_next (steps k' d') z t f = absurd f
+    by_next stuck z t f = absurd f
+    by_next (returns k' values s) z t f = absurd (subst IsAsked f.1 tt)
+    by_next (traps k' trap s) z t f = absurd (subst IsAsked f.1 tt)
+    by_next (asks k' i a w') z t f =
+        record { at = d; cost = j; paid = e ∙ ap (λ n. j + n) (f.0 ∙ ap paid_for (sym z)); goes = g; store_is = sym (ap (asked_store w.store) f.1 ∙ t.1); takes = t.0 }

@@ -1,5 +1,5 @@
 -- What keeps the room of a stack's activations, and what refutes that room was lacking.
-use Rattle.std.proofs.Common.{arith, ◌≡◌, ℕ, zero, suc, ◌<◌, ◌≤◌, List, [], ◌∷◌, ◌++◌, length, map, reverse, take, drop, Option, Some, Result, Ok, Err, IfErr, OnOk, IsOk, Vec, Global, vec_capacity, vec_len, refl, sym, ap, ◌∙◌, subst}
+use Rattle.std.proofs.Common.{arith, ◌≡◌, ℕ, zero, suc, ◌+◌, ◌<◌, ◌≤◌, nat_lt, if◌then◌else◌, Bool, true, false, List, [], ◌∷◌, ◌++◌, length, map, reverse, take, drop, Option, Some, Result, Ok, Err, IfErr, OnOk, IsOk, Vec, Global, vec_capacity, vec_len, refl, sym, ap, ◌∙◌, subst}
 use Rattle.std.proofs.lemmas.List.{length-map, length-reverse}
 use Rattle.wa_types.specs.declared.values.ValType.{ValType}
 use Rattle.wa_types.specs.declared.values.Value.{Value}
@@ -7,13 +7,14 @@ use Rattle.wa_types.specs.declared.values.Value.TheVariants as V
 use Rattle.wa_types.specs.declared.instrs.Instr.{Instr}
 use Rattle.wa_types.specs.Counts.{depth_of}
 use Rattle.wa_types.specs.Modules.{defined_at}
-use Rattle.wa_types.specs.Syntax.{Code, done, branch, Func, Module}
+use Rattle.wa_types.specs.declared.values.Trap.TheVariants.{StackExhausted}
+use Rattle.wa_types.specs.Syntax.{basic, memory_grow, Code, done, plain, branch, Func, Module}
 use Rattle.wa_types.specs.View.{code, in_front}
 use Rattle.wa_types.specs.Typing.{type_of}
-use Rattle.wa_model.specs.Store.{Store}
-use Rattle.wa_model.specs.Configuration.{Configuration, running, block_label}
+use Rattle.wa_model.specs.Store.{Store, Did, works, fails, lacks, act}
+use Rattle.wa_model.specs.Configuration.{Configuration, running, waiting, block_label}
 use Rattle.wa_model.specs.Configuration as C
-use Rattle.wa_model.specs.Step.{Next, steps, leave, choose, arity_of, step_at}
+use Rattle.wa_model.specs.Step.{Next, steps, traps, leave, did, choose, entered, invoke, arity_of, memory_max, step_at}
 use Rattle.wa_model.specs.Heights.{most_operands}
 use Rattle.wa_model.specs.Growth.{Each}
 use Rattle.wa_model.specs.Fitting.{types_of, StoreFits, Fits, NextFits}
@@ -26,7 +27,7 @@ use Rattle.interp.specs.Instance.{Awaits, ResumeLacks, waits_of}
 use Rattle.interp.specs.Runs.{LacksAt}
 use Rattle.std.specs.Option.{option_to_list}
 use Rattle.interp.proofs.FittingTurns.{answered_fits}
-use Rattle.interp.specs.Rooms.{room_of, HasRoom, Reserves, Roomier, StackRoom, TakesMemory}
+use Rattle.interp.specs.Rooms.{room_of, HasRoom, Reserves, Roomier, StackRoom, TakesMemory, paid_for}
 use Rattle.interp.specs.Stacks.{leave_of, code_of}
 use Rattle.interp.specs.View.{label_of, waiting_of}
 use Rattle.interp.proofs.OperandLemmas.{top_first}
@@ -157,15 +158,39 @@ pub choose_first : {A : Type 0} (n : ℕ) (a b : A) → (n ≡ 0 → ⊥) → ch
 choose_first zero a b h = absurd (h refl)
 choose_first (suc n) a b h = refl
 
+-- it takes memory before anything is paid for it
+abbrev pub TakesUnpaid : Module → Store → Stack → Code → Type 0
+TakesUnpaid m s k c = TakesMemory c × (paid_for (code_of m s k c) ≡ 0)
+
+did_unpaid : (fn : ℕ) (under : List C.Activation) (ls : List Value) (labels : List C.Label) (rest : Code) (s : Store) (below : List Value) (d : Did) → paid_for (did fn under ls labels rest s below d) ≡ 0
+did_unpaid fn under ls labels rest s below (works s' results) = refl
+did_unpaid fn under ls labels rest s below (fails trap) = refl
+did_unpaid fn under ls labels rest s below lacks = refl
+
+pub grow_unpaid : (m : Module) (s : Store) (k : Stack) → TakesUnpaid m s k (plain (basic memory_grow) (code k.here.code.now))
+grow_unpaid m s k =
+    let ops = reverse k.here.operands.items in
+    (tt, did_unpaid k.here.func (map waiting_of (reverse k.under.items)) k.here.locals.items (map label_of (reverse k.here.labels.items)) (code k.here.code.now) s (drop 1 ops) (act (memory_max m) memory_grow s (take 1 ops)))
+
+-- a call of a defined function
+pub call_unpaid : (m : Module) (s : Store) (fn : ℕ) (under : List C.Activation) (ls own ops : List Value) (rest : Code) (labels : List C.Label) (params x : ℕ) (f : Func)
+    → defined_at m x ≡ Some f → paid_for (invoke m s fn under ls own ops rest labels params x (defined_at m x)) ≡ 0
+call_unpaid m s fn under ls own ops rest labels params x f e =
+    ap (λ o. paid_for (invoke m s fn under ls own ops rest labels params x o)) e ∙ by_room (nat_lt (length under + 1) 4096)
+  where
+    by_room : (b : Bool) → paid_for (if b then steps params (entered s (waiting fn ls (drop params ops) (own ++ take params ops) rest labels ∷ under) (reverse (take params ops)) x f) else traps params StackExhausted s) ≡ 0
+    by_room true = refl
+    by_room false = refl
+
 -- an instruction whose code is known, and of which this is refuted
 pub refuted_arm : (m : Module) (outs : List ValType) (s : Store) (k : Stack) (x x' : Instr) (d : Code) → x ≡ x' → in_front x' (code k.here.code.now) ≡ d → (NextFits m outs (code_of m s k d) → ⊥)
-    → NextFits m outs (code_of m s k (in_front x (code k.here.code.now))) → TakesMemory (in_front x (code k.here.code.now))
+    → NextFits m outs (code_of m s k (in_front x (code k.here.code.now))) → TakesUnpaid m s k (in_front x (code k.here.code.now))
 refuted_arm m outs s k x x' d ex ed f fits =
     absurd (f (subst (λ a. NextFits m outs (code_of m s k a)) (ap (λ i. in_front i (code k.here.code.now)) ex ∙ ed) fits))
 
 -- one that takes memory
-pub taking_arm : (rest : Code) (x x' : Instr) (d : Code) → x ≡ x' → in_front x' rest ≡ d → TakesMemory d → TakesMemory (in_front x rest)
-taking_arm rest x x' d ex ed h = subst TakesMemory (sym (ap (λ i. in_front i rest) ex ∙ ed)) h
+pub taking_arm : (m : Module) (s : Store) (k : Stack) (x x' : Instr) (d : Code) → x ≡ x' → in_front x' (code k.here.code.now) ≡ d → TakesUnpaid m s k d → TakesUnpaid m s k (in_front x (code k.here.code.now))
+taking_arm m s k x x' d ex ed h = subst (TakesUnpaid m s k) (sym (ap (λ i. in_front i (code k.here.code.now)) ex ∙ ed)) h
 
 -- other operands with no less room
 pub operands_hold : (m : Module) (k : Stack) (v : Vec Value Global) → vec_capacity k.here.operands ≤ vec_capacity v → StackRoom m k → StackRoom m (with_operands k v)

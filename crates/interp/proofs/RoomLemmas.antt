@@ -1,5 +1,5 @@
 -- How high operands stand, instruction by instruction.
-use Rattle.std.proofs.Common.{◌≡◌, ℕ, ◌+◌, ◌-◌, ◌^◌, ◌<◌, ◌≤◌, max, min, nat_lt, if◌then◌else◌, true, false, List, [], ◌∷◌, map, All, ap, sym, ◌∙◌, arith, refl, Option, Some, None, slice_get, length, get_or, drop}
+use Rattle.std.proofs.Common.{◌≡◌, ℕ, ◌+◌, ◌-◌, ◌^◌, ◌<◌, ◌≤◌, max, min, nat_lt, if◌then◌else◌, Bool, true, false, List, [], ◌∷◌, map, All, ap, sym, ◌∙◌, arith, refl, Option, Some, None, slice_get, length, get_or, drop}
 use Rattle.std.specs.Option.{option_map}
 use Rattle.std.proofs.lemmas.List.Elements.{All-nil, All-cons, All-head, All-tail}
 use Rattle.std.proofs.lemmas.Option.{slice_get-map, get_or_from_slice_get}
@@ -10,11 +10,12 @@ use Rattle.wa_types.specs.declared.values.ValType.{ValType}
 use Rattle.wa_types.specs.declared.values.Value.{Value}
 use Rattle.wa_types.specs.declared.operators.NumOp.{NumOp}
 use Rattle.wa_types.specs.declared.instrs.Instr.{Instr}
-use Rattle.wa_types.specs.declared.instrs.Instr.TheVariants.{Unreachable, Nop, Drop, Select, Return, MemorySize, MemoryGrow, Const, Num, Br, BrIf, BrTable, Call, CallIndirect, LocalGet, LocalSet, LocalTee, GlobalGet, GlobalSet, Load, Store, Block, Loop, If}
+use Rattle.wa_types.specs.declared.instrs.Instr.TheVariants.{Unreachable, Nop, Drop, Select, Return, MemorySize, MemoryGrow, Const, Num, Br, BrIf, BrTable, Call, CallIndirect, LocalGet, LocalSet, LocalTee, GlobalGet, GlobalSet, Load, Store, Block, Loop, If, Block', Loop', If'}
 use Rattle.wa_types.specs.Counts.{count_of}
 use Rattle.wa_types.specs.Modules.{type_at, func_type_at, func_imports, defined_at}
 use Rattle.wa_types.specs.Operators.{operand_types}
-use Rattle.wa_types.specs.Syntax.{Module, Basic, nop, drop as drop_operand, select, const, num, global_get, global_set, load, store, memory_size, memory_grow, Plain, basic, local_get, local_set, local_tee, br, br_if, br_table, return, unreachable, call, call_indirect, Code, done, Func}
+use Rattle.wa_types.specs.Pruned.{is_last, is_last_instr}
+use Rattle.wa_types.specs.Syntax.{Module, Basic, nop, drop as drop_operand, select, const, num, global_get, global_set, load, store, memory_size, memory_grow, Plain, basic, local_get, local_set, local_tee, br, br_if, br_table, return, unreachable, call, call_indirect, Code, done, plain, Func}
 use Rattle.wa_types.specs.Sizes.{FuncSizes}
 use Rattle.wa_types.specs.View.{code, in_front, func_of}
 use Rattle.wa_types.proofs.SizeBounds.{count_fits}
@@ -28,10 +29,55 @@ use Rattle.wa_model.specs.Heights.{behind, behind_plain, most_operands}
 use Rattle.interp.specs.Rooms.{room_of, room_at, HasFewInstrs}
 use Rattle.interp.proofs.MakeLemmas.{map_map}
 
--- those of an instruction and of the code behind it
-most_behind : (m : Module) (x : Instr) (rest : Code) (h : ℕ) → most_operands m (in_front x rest) h ≡ max (most_operands m (in_front x done) h) (most_operands m rest (behind m (in_front x done) h))
+-- whether control never goes on behind the first instruction of code
+abbrev ends : Code → Bool
+ends (plain p rest) = is_last p
+ends _ = false
+
+last_front : (x : Instr) → is_last_instr x ≡ ends (in_front x done)
+unfolding in_front is_last_instr
+last_front Unreachable = refl
+last_front Nop = refl
+last_front Drop = refl
+last_front Select = refl
+last_front Return = refl
+last_front MemorySize = refl
+last_front MemoryGrow = refl
+last_front (Const v) = refl
+last_front (Num op) = refl
+last_front (Br l) = refl
+last_front (BrIf l) = refl
+last_front (BrTable ls l) = refl
+last_front (Call x) = refl
+last_front (CallIndirect x) = refl
+last_front (LocalGet x) = refl
+last_front (LocalSet x) = refl
+last_front (LocalTee x) = refl
+last_front (GlobalGet x) = refl
+last_front (GlobalSet x) = refl
+last_front (Load op a o) = refl
+last_front (Store op a o) = refl
+last_front (Block' r s k) = refl
+last_front (Loop' r s k) = refl
+last_front (If' r s k t l) = refl
+
+last_plain : (x : Instr) (p : Plain) → ((rest : Code) → in_front x rest ≡ plain p rest) → is_last_instr x ≡ is_last p
+last_plain x p e = last_front x ∙ ap ends (e done)
+
+-- those of an instruction, where control never goes on behind it
+most_ending : (m : Module) (x : Instr) (rest : Code) (h : ℕ) → is_last_instr x ≡ true → most_operands m (in_front x rest) h ≡ h
+unfolding most_operands is_last_instr
+most_ending m x rest h l = elim (kind x) [
+  | is_block r v e ↦ absurd (let f : false ≡ true = sym (ap is_last_instr e) ∙ l in cc)
+  | is_loop r v e ↦ absurd (let f : false ≡ true = sym (ap is_last_instr e) ∙ l in cc)
+  | is_if r v w e ↦ absurd (let f : false ≡ true = sym (ap is_last_instr e) ∙ l in cc)
+  | is_plain p e ↦ ap (λ c. most_operands m c h) (e rest) ∙ ap (λ b. if b then h else max h (most_operands m rest (behind_plain m p h))) (sym (last_plain x p e) ∙ l)
+]
+
+-- and of one and of the code behind it, where control goes on
+most_behind : (m : Module) (x : Instr) (rest : Code) (h : ℕ) → is_last_instr x ≡ false → most_operands m (in_front x rest) h ≡ max (most_operands m (in_front x done) h) (most_operands m rest (behind m (in_front x done) h))
 unfolding most_operands behind
-most_behind m x rest h = elim (kind x) [
+most_behind m x rest h l = elim (kind x) [
   | is_block r v e ↦
       ap (λ y. most_operands m (in_front y rest) h) e ∙ ap (λ c. most_operands m c h) (in_block r v rest)
       ∙ omega (arith, most_least m rest (h + arity_of r), ap (λ y. most_operands m (in_front y done) h) e ∙ ap (λ c. most_operands m c h) (in_block r v done), ap (λ y. most_operands m rest (behind m (in_front y done) h)) e ∙ ap (λ c. most_operands m rest (behind m c h)) (in_block r v done))
@@ -42,14 +88,18 @@ most_behind m x rest h = elim (kind x) [
       ap (λ y. most_operands m (in_front y rest) h) e ∙ ap (λ c. most_operands m c h) (in_if r v w rest)
       ∙ omega (arith, most_least m rest (h - 1 + arity_of r), ap (λ y. most_operands m (in_front y done) h) e ∙ ap (λ c. most_operands m c h) (in_if r v w done), ap (λ y. most_operands m rest (behind m (in_front y done) h)) e ∙ ap (λ c. most_operands m rest (behind m c h)) (in_if r v w done))
   | is_plain p e ↦
-      ap (λ c. most_operands m c h) (e rest)
-      ∙ omega (arith, most_least m rest (behind_plain m p h), ap (λ c. most_operands m c h) (e done), ap (λ c. most_operands m rest (behind m c h)) (e done))
+      let goes : is_last p ≡ false = sym (last_plain x p e) ∙ l in
+      let whole : most_operands m (in_front x rest) h ≡ max h (most_operands m rest (behind_plain m p h)) =
+      ap (λ c. most_operands m c h) (e rest) ∙ ap (λ b. if b then h else max h (most_operands m rest (behind_plain m p h))) goes in
+      let first : most_operands m (in_front x done) h ≡ max h (behind_plain m p h) =
+      ap (λ c. most_operands m c h) (e done) ∙ ap (λ b. if b then h else max h (behind_plain m p h)) goes in
+      whole ∙ omega (arith, most_least m rest (behind_plain m p h), first, ap (λ c. most_operands m rest (behind m c h)) (e done))
 ]
 
 -- nor than stand behind its first instruction
-pub most_reached : (m : Module) (x : Instr) (h : ℕ) → behind m (in_front x done) h ≤ most_operands m (in_front x done) h
+pub most_reached : (m : Module) (x : Instr) (h : ℕ) → is_last_instr x ≡ false → behind m (in_front x done) h ≤ most_operands m (in_front x done) h
 unfolding most_operands
-most_reached m x h = omega (arith, most_behind m x done h)
+most_reached m x h l = omega (arith, most_behind m x done h l)
 
 -- a basic instruction gives one operand at most
 gives_few : (b : Basic) → gives b ≤ 1
@@ -93,8 +143,11 @@ behind_few m x h = elim (kind x) [
 ]
 
 -- code with the element at i in front of those after it
-pub most_step : (m : Module) (xs : List Instr) (i : ℕ) (x : Instr) (h : ℕ) → i < length xs → x ≡ get_or xs i x → most_operands m (code (drop i xs)) h ≡ max (most_operands m (in_front x done) h) (most_operands m (code (drop (i + 1) xs)) (behind m (in_front x done) h))
-most_step m xs i x h l e = ap (λ c. most_operands m c h) (code_step xs i x l e) ∙ most_behind m x (code (drop (i + 1) xs)) h
+pub most_step : (m : Module) (xs : List Instr) (i : ℕ) (x : Instr) (h : ℕ) → i < length xs → x ≡ get_or xs i x → is_last_instr x ≡ false → most_operands m (code (drop i xs)) h ≡ max (most_operands m (in_front x done) h) (most_operands m (code (drop (i + 1) xs)) (behind m (in_front x done) h))
+most_step m xs i x h n e l = ap (λ c. most_operands m c h) (code_step xs i x n e) ∙ most_behind m x (code (drop (i + 1) xs)) h l
+
+pub most_last : (m : Module) (xs : List Instr) (i : ℕ) (x : Instr) (h : ℕ) → i < length xs → x ≡ get_or xs i x → is_last_instr x ≡ true → most_operands m (code (drop i xs)) h ≡ h
+most_last m xs i x h n e l = ap (λ c. most_operands m c h) (code_step xs i x n e) ∙ most_ending m x (code (drop (i + 1) xs)) h l
 
 pub most_empty : (m : Module) (xs : List Instr) (i : ℕ) (h : ℕ) → length xs ≤ i → most_operands m (code (drop i xs)) h ≡ h
 unfolding most_operands
@@ -112,13 +165,27 @@ pub most_if : (m : Module) (r : Option ValType) (v w : Vec Instr Global) (h : �
 unfolding most_operands behind
 most_if m r v w h = ap (λ c. most_operands m c h) (in_if r v w done) ∙ ap (λ n. max h (max (max (most_operands m (code v.items) (h - 1)) (most_operands m (code w.items) (h - 1))) n)) (sym (ap (λ c. behind m c h) (in_if r v w done)))
 
+-- one that holds no other, alone: where control never goes on the height is as it was
+most_plain : (m : Module) (p : Plain) (h : ℕ) → (if is_last p then h else max h (behind_plain m p h)) ≡ max h (behind_plain m p h)
+most_plain m (basic b) h = refl
+most_plain m (local_get x) h = refl
+most_plain m (local_set x) h = refl
+most_plain m (local_tee x) h = refl
+most_plain m (br l) h = omega arith
+most_plain m (br_if l) h = refl
+most_plain m (br_table targets last) h = omega arith
+most_plain m return h = omega arith
+most_plain m unreachable h = omega arith
+most_plain m (call x) h = refl
+most_plain m (call_indirect sort) h = refl
+
 pub most_other : (m : Module) (x : Instr) (h : ℕ) → ((r : Option ValType) (v : Vec Instr Global) → x ≡ Block r v → ⊥) → ((r : Option ValType) (v : Vec Instr Global) → x ≡ Loop r v → ⊥) → ((r : Option ValType) (v w : Vec Instr Global) → x ≡ If r v w → ⊥) → most_operands m (in_front x done) h ≡ max h (behind m (in_front x done) h)
 unfolding most_operands behind
 most_other m x h not_block not_loop not_if = elim (kind x) [
   | is_block r v e ↦ absurd (not_block r v e)
   | is_loop r v e ↦ absurd (not_loop r v e)
   | is_if r v w e ↦ absurd (not_if r v w e)
-  | is_plain p e ↦ ap (λ c. most_operands m c h) (e done) ∙ ap (max h) (sym (ap (λ c. behind m c h) (e done)))
+  | is_plain p e ↦ ap (λ c. most_operands m c h) (e done) ∙ most_plain m p h ∙ ap (max h) (sym (ap (λ c. behind m c h) (e done)))
 ]
 
 -- how high operands stand behind each instruction
@@ -254,4 +321,4 @@ all_few m (f ∷ fs) h =
 
 pub ruleset passing = (after_get, after_global_get, after_const, after_size, after_num, after_select, after_load, after_grow, after_set, after_global_set, after_drop, after_br_if, after_store, after_call, after_indirect, after_tee, after_nop, after_br, after_br_table, after_return, after_unreachable, after_block, after_loop, after_if)
 
-pub ruleset walking = (most_least, most_step, most_empty, most_block, most_loop, most_if, most_other, behind_few, count_some, count_step, count_empty, count_block, count_loop, count_if)
+pub ruleset walking = (most_least, most_step, most_last, most_empty, most_block, most_loop, most_if, most_other, behind_few, count_some, count_step, count_empty, count_block, count_loop, count_if)

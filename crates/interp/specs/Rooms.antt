@@ -1,6 +1,6 @@
 -- What an activation reserves.
 use Rattle.std.specs.Coded.{le_prop}
-use Rattle.std.specs.Prelude.{List, [], ◌∷◌, ◌≡◌, ◌<◌, ◌≤◌, ◌^◌, Some, vec_capacity}
+use Rattle.std.specs.Prelude.{ℕ, suc, List, [], ◌∷◌, ◌≡◌, ◌<◌, ◌≤◌, ◌^◌, Some, vec_capacity}
 use Rattle.wa_types.specs.declared.syntax.Func.{Func as FuncValue}
 use Rattle.wa_types.specs.Counts.{count_of, depth_of}
 use Rattle.wa_types.specs.Modules.{defined_at}
@@ -8,6 +8,7 @@ use Rattle.wa_types.specs.Syntax.{basic, call, call_indirect, memory_grow, Code,
 use Rattle.wa_types.specs.View.{func_of}
 use Rattle.wa_model.specs.Growth.{Each}
 use Rattle.wa_model.specs.Heights.{most_operands}
+use Rattle.wa_model.specs.Step.{Next, asks}
 use Rattle.interp.specs.declared.activation.Activation.{Activation}
 use Rattle.interp.specs.declared.activation.Stack.{Stack}
 use Rattle.interp.specs.declared.activation.Waiting.{Waiting}
@@ -54,6 +55,11 @@ TakesMemory (plain (call x) rest) = Unit {0}
 TakesMemory (plain (call_indirect sort) rest) = Unit {0}
 TakesMemory (plain (basic memory_grow) rest) = Unit {0}
 TakesMemory _ = ⊥
+
+-- What was paid for what comes next before it took memory: a call of an import is paid before its arguments are copied.
+abbrev pub paid_for : Next → ℕ
+paid_for (asks k import args d) = suc k
+paid_for _ = 0
 
 -- so does what waits
 abbrev pub WaitRoom : Module → Wait → Type 0

@@ -1,10 +1,10 @@
-ghost use Rattle.std.specs.Prelude.{◌≡◌, OnOk, ◌<◌, ◌+◌, ◌^◌, ◌++◌, ℕ, Some, IfOk, MatchOption, map, slice_get, reverse, take, drop};
+ghost use Rattle.std.specs.Prelude.{◌≡◌, OnOk, ◌<◌, ◌+◌, ◌^◌, ◌++◌, ℕ, Some, IfErr, IfOk, MatchOption, map, slice_get, reverse, take, drop};
 ghost use Rattle.wa_types.specs.Modules.{declared_locals, defined_at};
 ghost use Rattle.wa_types.specs.Syntax.{call, call_indirect};
 ghost use Rattle.wa_types.specs.View.{func_of, module_of};
 ghost use Rattle.wa_model.specs.Store.{Store};
 ghost use Rattle.wa_model.specs.Step.{zero_of};
-ghost use Rattle.interp.specs.Rooms.{room_of, Reserves, StackRoom};
+ghost use Rattle.interp.specs.Rooms.{room_of, Reserves, StackRoom, paid_for};
 ghost use Rattle.interp.specs.Stacks.{IsEntered, HasNumber, LacksNumber, invoke_of, plain_of};
 ghost use Rattle.interp.specs.Told.{Tells};
 ghost use Rattle.interp.specs.View.{running_of, store_of};
@@ -84,6 +84,7 @@ fn invoke<'m>(
     requires { own + params < 2 ^ 64 }
     ensures tells { IfOk result (λ f. (s : Store) → Tells s (invoke_of (module_of program.now.source.now) s stack.old own params func) left f (running_of s stack.new)) }
     ensures holds { OnOk result (StackRoom (module_of program.now.source.now) stack.old → StackRoom (module_of program.now.source.now) stack.new) }
+    ensures lacks { IfErr result (λ _. (s : Store) → paid_for (invoke_of (module_of program.now.source.now) s stack.old own params func) ≡ 0) }
 {
     let more = params as u64;
     let taken = own + params;
@@ -142,6 +143,7 @@ pub fn call<'m>(
 ) -> Result<Flow, AllocError>
     ensures tells { IfOk result (λ f. (s : Store) → Tells s (plain_of (module_of program.now.source.now) s stack.old (call func)) left f (running_of s stack.new)) }
     ensures holds { OnOk result (StackRoom (module_of program.now.source.now) stack.old → StackRoom (module_of program.now.source.now) stack.new) }
+    ensures lacks { IfErr result (λ _. (s : Store) → paid_for (plain_of (module_of program.now.source.now) s stack.old (call func)) ≡ 0) }
 {
     let params = program.func_params(func);
     invoke(program, stack, 0, params, func, left)
@@ -157,6 +159,7 @@ pub fn call_indirect<'m>(
 ) -> Result<Flow, AllocError>
     ensures tells { IfOk result (λ f. (s : Store) → s.table ≡ table.now.items → Tells s (plain_of (module_of program.now.source.now) s stack.old (call_indirect sort)) left f (running_of s stack.new)) }
     ensures holds { OnOk result (StackRoom (module_of program.now.source.now) stack.old → StackRoom (module_of program.now.source.now) stack.new) }
+    ensures lacks { IfErr result (λ _. (s : Store) → s.table ≡ table.now.items → paid_for (plain_of (module_of program.now.source.now) s stack.old (call_indirect sort)) ≡ 0) }
 {
     let params = program.sort_params(sort);
     let more = params as u64;

@@ -24,6 +24,6 @@ pub enum Flow {
         more: u64,
         trap: Trap,
     },
-    /// None that can be paid.
+    /// None that can be paid; or none is defined, as in no configuration that fits.
     Spent,
 }

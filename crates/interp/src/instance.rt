@@ -77,8 +77,9 @@ impl<'m> Instance<'m> {
         ensures waits { IfOk result (λ i. waits_in i ≡ nothing) }
         ensures err { IfErr result (FailsAs (opening (module_of source.now) globals.now)) }
     {
-        let store = open(alloc, source, globals)?;
-        let has_memory = all_memories(alloc, source)?.len() > 0;
+        let memories = all_memories(alloc, source)?;
+        let has_memory = memories.len() > 0;
+        let store = open(alloc, source, &memories, globals)?;
         let program = make_program(alloc, source)?;
         Ok(Instance {
             valid,

@@ -3,7 +3,8 @@
 //! An `Instance` stands for a store of the definitions of runs and for what waits in it (`specs/Host.antt`,
 //! `specs/Instance.antt`). The one law: each call goes by the definition of reductions, `step` of `wa_model`, up to
 //! the first return, trap, call of an import or reduction that costs more than is left, and pays exactly the cost.
-//! `make` is instantiation as `Blocking` has it before start.
+//! `make` is instantiation before start, of the module itself. `Blocking` begins with that of its `Base`: where the module
+//! has no memory, it opens with no bytes here and with one page there.
 //!
 //! A `Stack` is viewed as the activations of a configuration (`specs/View.antt`). Code and labels are slices borrowed
 //! from the module's tree: nothing of it is copied. A call leaves what it took on the caller's operands and counts it,
@@ -16,10 +17,11 @@
 //! An activation has room for the greatest height of its operands and depth of its labels (`specs/Rooms.antt`), which are
 //! computed once a function when its program is made (`rooms`). No configuration that fits goes past them
 //! (`heights_within` of `wa_model`), so between calls and `memory.grow` no reduction takes memory: where a turn lacks
-//! memory, `lacks` says to which call or growth the reductions had come.
+//! memory, `lacks` says to which call or growth the reductions had come, of which all but an import's call is unpaid.
 //!
-//! Read in the order `activation`, `flow`, `operands`, `numeric`, `locals`, `memory`, `control`, `branches`, `calls`,
-//! `reduce`, `run`, `go_on`, `instance`, and for `make` `spaces`, `types`, `rooms`, `program`, `segments`, `make`.
+//! Read in the order `store`, `activation`, `flow`, `turns`, `values`, `operands`, `numeric`, `locals`, `access`, `memory`,
+//! `control`, `branches`, `calls`, `reduce`, `run`, `go_on`, `instance`, and for `make` `spaces`, `types`, `rooms`,
+//! `program`, `segments`, `make`.
 #![tactic(auto)]
 
 mod access;

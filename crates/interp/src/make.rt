@@ -8,7 +8,7 @@ ghost use Rattle.interp.specs.Faults.{FailsAs};
 ghost use Rattle.interp.specs.View.{store_of};
 
 use crate::segments::{defined_values, elem_out, put_elems, put_segments, segment_out};
-use crate::spaces::{all_memories, all_tables};
+use crate::spaces::all_tables;
 use crate::store::Store;
 use page_memory::Pages;
 use std::alloc::{AllocError, Global};
@@ -120,16 +120,21 @@ fn fill(
     })
 }
 
-/// The store of a new instance, whose imported globals have these values.
-pub fn open(alloc: Global, source: &Module, imports: &[Value]) -> Result<Store, MakeFault>
+/// The store of a new instance, whose memories have these limits and whose imported globals these values.
+pub fn open(
+    alloc: Global,
+    source: &Module,
+    memories: &[Limits],
+    imports: &[Value],
+) -> Result<Store, MakeFault>
+    requires memories { memories.now ≡ all_memories (module_of source.now) }
     requires elems { length source.now.elems.items < 2 ^ 32 }
     requires segments { length source.now.segments.items < 2 ^ 32 }
     ensures ok { IfOk result (λ s. opening (module_of source.now) imports.now ≡ opens (store_of s)) }
     ensures max { IfOk result (λ s. s.memory.max ≡ memory_max (module_of source.now)) }
     ensures err { IfErr result (FailsAs (opening (module_of source.now) imports.now)) }
 {
-    let memories = all_memories(alloc, source)?;
-    let pages = least_of(&memories);
+    let pages = least_of(memories);
     if pages > MOST_PAGES {
         let entries = false;
         let found = pages;
@@ -142,7 +147,7 @@ pub fn open(alloc: Global, source: &Module, imports: &[Value]) -> Result<Store, 
         let entries = true;
         return Err(MakeFault::HostLimit { entries, found });
     }
-    let most = most_of(&memories);
+    let most = most_of(memories);
     let values = all_values(alloc, source, imports)?;
     fill(alloc, source, values, pages, most, entries)
 }

@@ -117,7 +117,8 @@ fn type_of(v: Value) -> ValType
 pub fn operand_count(op: NumOp) -> usize
     ensures { result ≡ length (operand_types op) }
 {
-    let _all = operand_type(op);
+    // No value is needed here: its clauses say of each class how many operands there are.
+    let _of_each = operand_type(op);
     match OperatorClass::of(op) {
         OperatorClass::Unary => 1,
         OperatorClass::Conversion => 1,

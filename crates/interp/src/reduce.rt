@@ -2,7 +2,7 @@ ghost use Rattle.std.specs.Prelude.{List, OnOk, OnErr, IfErr, ◌≡◌, ◌<◌
 ghost use Rattle.wa_types.specs.View.{code, in_front, module_of};
 ghost use Rattle.wa_model.specs.Step.{memory_max, step};
 ghost use Rattle.interp.specs.Stacks.{code_of};
-ghost use Rattle.interp.specs.Rooms.{StackRoom, TakesMemory};
+ghost use Rattle.interp.specs.Rooms.{StackRoom, TakesMemory, paid_for};
 ghost use Rattle.interp.specs.Told.{Tells};
 ghost use Rattle.wa_types.specs.declared.values.ValType.{ValType};
 ghost use Rattle.wa_types.specs.Validity.{Valid};
@@ -23,8 +23,8 @@ use crate::store::Store;
 use std::alloc::AllocError;
 use wa_types::{Instr, Trap};
 
-/// One reduction, where it costs no more than is left (standard, section 4.4). Of code that fits, calls and `memory.grow`
-/// alone may want memory, and then the store is as it was.
+/// One reduction, where it costs no more than is left (standard, section 4.4). Of code that fits, calls of
+/// defined functions and `memory.grow` alone may want memory, and then the store is as it was.
 pub fn reduce<'m>(
     program: &Program<'m>,
     store: &mut Store,
@@ -36,7 +36,7 @@ pub fn reduce<'m>(
     ensures tells { IfOk result (λ f. Tells (store_of store.old) (step (module_of program.now.source.now) (running_of (store_of store.old) stack.old)) left f (running_of (store_of store.new) stack.new)) }
     ensures max { store.new.memory.max ≡ store.old.memory.max }
     ensures holds { OnOk result (StackRoom (module_of program.now.source.now) stack.old → StackRoom (module_of program.now.source.now) stack.new) }
-    ensures lacks { IfErr result (λ _. (outs : List ValType) → StackRoom (module_of program.now.source.now) stack.old → Valid (module_of program.now.source.now) → Fits (module_of program.now.source.now) outs (running_of (store_of store.old) stack.old) → TakesMemory (code stack.old.here.code.now)) }
+    ensures lacks { IfErr result (λ _. (outs : List ValType) → StackRoom (module_of program.now.source.now) stack.old → Valid (module_of program.now.source.now) → Fits (module_of program.now.source.now) outs (running_of (store_of store.old) stack.old) → TakesMemory (code stack.old.here.code.now) × (paid_for (step (module_of program.now.source.now) (running_of (store_of store.old) stack.old)) ≡ 0)) }
     ensures unchanged { OnErr result (store_of store.new ≡ store_of store.old) }
 {
     let Some((instr, rest)) = stack.here.code.split_first() else {
@@ -59,7 +59,7 @@ fn dispatch<'m>(
     ensures tells { IfOk result (λ f. Tells (store_of store.old) (code_of (module_of program.now.source.now) (store_of store.old) stack.old (in_front instr.now (code stack.old.here.code.now))) left f (running_of (store_of store.new) stack.new)) }
     ensures max { store.new.memory.max ≡ store.old.memory.max }
     ensures holds { OnOk result (StackRoom (module_of program.now.source.now) stack.old → StackRoom (module_of program.now.source.now) stack.new) }
-    ensures lacks { IfErr result (λ _. (outs : List ValType) → StackRoom (module_of program.now.source.now) stack.old → NextFits (module_of program.now.source.now) outs (code_of (module_of program.now.source.now) (store_of store.old) stack.old (in_front instr.now (code stack.old.here.code.now))) → TakesMemory (in_front instr.now (code stack.old.here.code.now))) }
+    ensures lacks { IfErr result (λ _. (outs : List ValType) → StackRoom (module_of program.now.source.now) stack.old → NextFits (module_of program.now.source.now) outs (code_of (module_of program.now.source.now) (store_of store.old) stack.old (in_front instr.now (code stack.old.here.code.now))) → TakesMemory (in_front instr.now (code stack.old.here.code.now)) × (paid_for (code_of (module_of program.now.source.now) (store_of store.old) stack.old (in_front instr.now (code stack.old.here.code.now))) ≡ 0)) }
     ensures unchanged { OnErr result (store_of store.new ≡ store_of store.old) }
 {
     match instr {

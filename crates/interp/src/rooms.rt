@@ -45,7 +45,8 @@ fn room_at(source: &Module, sorts: &[u32], func: &Func) -> Room
     }
 }
 
-/// How high operands stand at most in code that begins with so many.
+/// How high operands stand at most in code that begins with so many. What follows an instruction behind which control
+/// never goes on isn't looked at.
 #[cycle(most)]
 #[tactic(auto, using(crate::proofs::RoomLemmas::walking))]
 fn most_operands(source: &Module, sorts: &[u32], body: &[Instr], height: usize) -> usize
@@ -56,6 +57,9 @@ fn most_operands(source: &Module, sorts: &[u32], body: &[Instr], height: usize) 
     let mut here = height;
     let mut most = height;
     for instr in body {
+        if instr.is_last() {
+            return most;
+        }
         most = most.max(most_inside(source, sorts, instr, here));
         here = behind(source, sorts, instr, here);
     }
@@ -88,8 +92,8 @@ fn most_inside(source: &Module, sorts: &[u32], instr: &Instr, height: usize) -> 
     }
 }
 
-/// How high they stand behind an instruction, of so many before it. Behind one that always branches they are taken as
-/// they stood.
+/// How high they stand behind an instruction, of so many before it. Where control never goes on behind it, no height
+/// counts there.
 #[tactic(auto, using(crate::proofs::RoomLemmas::passing))]
 fn behind(source: &Module, sorts: &[u32], instr: &Instr, height: usize) -> usize
     requires sorts { sorts.now ≡ func_sorts (module_of source.now) }

@@ -1,5 +1,5 @@
 -- Small runs that the definitions compute.
-use Rattle.std.proofs.Common.{◌≡◌, ℕ, List, [], ◌∷◌, ◌++◌, take, Some, None, true, false, refl}
+use Rattle.std.proofs.Common.{arith, ◌≡◌, ◌<◌, ◌≤◌, ℕ, zero, suc, List, [], ◌∷◌, ◌++◌, take, Some, None, true, false, refl}
 use Rattle.std.specs.Prelude.{Option, slice_get, replicate, codes}
 use Rattle.wa_types.specs.declared.values.ValType.TheVariants.{I32, I64}
 use Rattle.wa_types.specs.declared.values.Value.{Value}
@@ -26,6 +26,7 @@ use Rattle.wa_model.specs.Store.{Store, works, act}
 use Rattle.wa_model.specs.Configuration.{Activation, running, waiting}
 use Rattle.wa_model.specs.Step.{Next, steps, traps, step}
 use Rattle.wa_model.specs.Plan.{Entry, Plan, Outcome, given}
+use Rattle.wa_model.specs.Untouched.{Untouched}
 use Rattle.wa_model.specs.Blocking.{Note, no_store, events_of, Blocking, blocking_run}
 use Rattle.wa_model.specs.Protocol.{Protocol}
 use Rattle.wa_model.specs.Expected.{Expected}
@@ -86,12 +87,20 @@ selector = module_with (record {
 abbrev both : List Entry
 both = entry 1 (i32 0 ∷ []) ∷ entry 1 (i32 1 ∷ []) ∷ []
 
-selects : events_of (Blocking selector (plan_of 64 both) (answer (Some (i32 1)) 0 ∷ answer (Some (i32 2)) 0 ∷ []) 60).events ≡ call_of 0 (i32 14 ∷ []) ∷ answered (Some (i32 1)) ∷ returned 0 (Some (i32 1)) ∷ call_of 0 (i32 9 ∷ []) ∷ answered (Some (i32 2)) ∷ returned 1 (Some (i32 2)) ∷ ended Done ∷ []
+abbrev selected : ℕ → List Event
+selected n = events_of (Blocking selector (plan_of 64 both) (answer (Some (i32 1)) 0 ∷ answer (Some (i32 2)) 0 ∷ []) n).events
+
+-- 15 for the first entry and 13 for the second
+selects : selected 28 ≡ call_of 0 (i32 14 ∷ []) ∷ answered (Some (i32 1)) ∷ returned 0 (Some (i32 1)) ∷ call_of 0 (i32 9 ∷ []) ∷ answered (Some (i32 2)) ∷ returned 1 (Some (i32 2)) ∷ ended Done ∷ []
 unfolding Base
 selects = refl
 
+selects_not_within_27 : selected 27 ≡ call_of 0 (i32 14 ∷ []) ∷ answered (Some (i32 1)) ∷ returned 0 (Some (i32 1)) ∷ call_of 0 (i32 9 ∷ []) ∷ answered (Some (i32 2)) ∷ []
+unfolding Base
+selects_not_within_27 = refl
+
 -- with pauses: each takes 28 bytes of the area
-selects_paused : events_of (Expected selector save_all (record { at = 0; len = 64 }) (Blocking selector (plan_of 64 both) (answer (Some (i32 1)) 1 ∷ answer (Some (i32 2)) 1 ∷ []) 60).events) ≡ call_of 0 (i32 14 ∷ []) ∷ paused 1 28 ∷ answered (Some (i32 1)) ∷ returned 0 (Some (i32 1)) ∷ call_of 0 (i32 9 ∷ []) ∷ paused 1 28 ∷ answered (Some (i32 2)) ∷ returned 1 (Some (i32 2)) ∷ ended Done ∷ []
+selects_paused : events_of (Expected selector save_all (record { at = 0; len = 64 }) (Blocking selector (plan_of 64 both) (answer (Some (i32 1)) 1 ∷ answer (Some (i32 2)) 1 ∷ []) 28).events) ≡ call_of 0 (i32 14 ∷ []) ∷ paused 1 28 ∷ answered (Some (i32 1)) ∷ returned 0 (Some (i32 1)) ∷ call_of 0 (i32 9 ∷ []) ∷ paused 1 28 ∷ answered (Some (i32 2)) ∷ returned 1 (Some (i32 2)) ∷ ended Done ∷ []
 unfolding pruned calls_of points Base
 selects_paused = refl
 
@@ -107,15 +116,26 @@ countdown = module_with (record {
 abbrev tens : List Outcome
 tens = answer (Some (i32 10)) 0 ∷ answer (Some (i32 20)) 4 ∷ answer (Some (i32 30)) 0 ∷ []
 
-abbrev counted : ℕ → List Event
-counted room = call_of 0 (i32 3 ∷ []) ∷ answered (Some (i32 10)) ∷ call_of 0 (i32 2 ∷ []) ∷ paused 4 room ∷ answered (Some (i32 20)) ∷ call_of 0 (i32 1 ∷ []) ∷ answered (Some (i32 30)) ∷ returned 0 (Some (i32 60)) ∷ ended Done ∷ []
+abbrev asked_thrice : ℕ → List Event
+asked_thrice room = call_of 0 (i32 3 ∷ []) ∷ answered (Some (i32 10)) ∷ call_of 0 (i32 2 ∷ []) ∷ paused 4 room ∷ answered (Some (i32 20)) ∷ call_of 0 (i32 1 ∷ []) ∷ answered (Some (i32 30)) ∷ []
 
-counts : events_of (Expected countdown save_all (record { at = 0; len = 64 }) (Blocking countdown (plan_of 64 (entry 1 (i32 3 ∷ []) ∷ [])) tens 100).events) ≡ counted 28
+abbrev counted : ℕ → List Event
+counted room = asked_thrice room ++ returned 0 (Some (i32 60)) ∷ ended Done ∷ []
+
+abbrev counting : ℕ → List Event
+counting n = events_of (Expected countdown save_all (record { at = 0; len = 64 }) (Blocking countdown (plan_of 64 (entry 1 (i32 3 ∷ []) ∷ [])) tens n).events)
+
+-- 14 for each turn of the loop, and 6 before and behind them
+counts : counting 48 ≡ counted 28
 unfolding pruned calls_of points Base
 counts = refl
 
+counts_not_within_47 : counting 47 ≡ asked_thrice 28
+unfolding pruned calls_of points Base
+counts_not_within_47 = refl
+
 -- under policy `live`
-counts_live : events_of (Expected countdown save_live (record { at = 0; len = 64 }) (Blocking countdown (plan_of 64 (entry 1 (i32 3 ∷ []) ∷ [])) tens 100).events) ≡ counted 24
+counts_live : events_of (Expected countdown save_live (record { at = 0; len = 64 }) (Blocking countdown (plan_of 64 (entry 1 (i32 3 ∷ []) ∷ [])) tens 48).events) ≡ counted 24
 unfolding pruned calls_of points call_points behind_calls live Base
 counts_live = refl
 
@@ -250,6 +270,43 @@ arm_within_five = refl
 arm_not_within_four : empty_arm 4 ≡ []
 unfolding Base
 arm_not_within_four = refl
+
+-- ---- loads and stores in the area
+abbrev touches : Code → Module
+touches body = record seven { types = record { params = []; results = [] } ∷ []; memories = record { min = 1; max = None } ∷ []; funcs = record { sort = 0; locals = []; body = body } ∷ [] }
+
+-- a run of it with an area of 64 bytes from here on
+abbrev area_from : ℕ → Plan
+area_from at = record (plan_of 64 (entry 0 [] ∷ [])) { area = record { at = at; len = 64 } }
+
+each_of_four : (P : ℕ → Type 0) → P 0 → P 1 → P 2 → P 3 → (j : ℕ) → j < 4 → P j
+each_of_four P p q r s zero h = p
+each_of_four P p q r s (suc zero) h = q
+each_of_four P p q r s (suc (suc zero)) h = r
+each_of_four P p q r s (suc (suc (suc zero))) h = s
+each_of_four P p q r s (suc (suc (suc (suc j)))) h = absurd (omega arith)
+
+-- 1 for the entry and 2 for the constants, and then a store of bytes 60 to 63
+abbrev stores : Module
+stores = touches (then (const (i32 60)) (then (const (i32 7)) (then (store 0x36 2 0) done)))
+
+store_touches : Untouched stores (area_from 0) [] 4 → ⊥
+unfolding Base
+store_touches h = let e : true ≡ false = h 3 (omega arith) (let fits : 64 ≤ 65536 = omega arith in fits) in cc
+
+store_behind : Untouched stores (area_from 64) [] 4
+unfolding Base
+store_behind = each_of_four _ tt tt tt (λ h. refl)
+
+-- a load of byte 63
+load_touches : Untouched (touches (then (const (i32 63)) (then (load 0x2D 0 0) (then drop done)))) (area_from 0) [] 3 → ⊥
+unfolding Base
+load_touches h = let e : true ≡ false = h 2 (omega arith) (let fits : 64 ≤ 65536 = omega arith in fits) in cc
+
+-- a load of bytes 65,534 to 65,537 traps, and touches none
+trap_touches_none : Untouched (touches (then (const (i32 65534)) (then (load 0x28 2 0) (then drop done)))) (area_from 65472) [] 4
+unfolding Base
+trap_touches_none = each_of_four _ tt tt (λ h. let fits : 65538 ≤ 65536 = h in absurd (omega arith)) tt
 
 -- ---- answers that end a run
 abbrev asks_once : Module

@@ -10,6 +10,7 @@ use Rattle.wa_types.specs.declared.values.Value.{Value}
 use Rattle.wa_types.specs.declared.values.Value.TheVariants as V
 use Rattle.wa_types.specs.declared.values.Trap.TheVariants.{StackExhausted, TypeMismatch}
 use Rattle.wa_types.specs.Counts.{depth_of}
+use Rattle.wa_types.specs.Pruned.{is_last}
 use Rattle.wa_types.specs.Syntax.{Plain, basic, local_get, local_set, local_tee, br, br_if, br_table, return, unreachable, call, call_indirect, a_block, a_loop, Code, done, plain, nest, branch, FuncType, Func, Module}
 use Rattle.wa_types.specs.Typing.{Around, Sig, moves, leaves, drops, selects, lacks, late, listed, type_of, same_result, all_there, agrees_with, all_alike, jump as jump_sig, may_jump, jumps, calls, calls_at, gets, sets, tees, basic_sig, sig, Takes, label, Types}
 use Rattle.wa_types.specs.Validity.{Valid}
@@ -346,29 +347,29 @@ module _ (m : Module) (v : Valid m) (outs : List ValType) where
 
         plain_fits : (ops : List Value) (labels : List Label) (results : List (Option ValType)) (p : Plain) (rest : Code) (own mids below : List ValType)
             → Takes (sig c results p) own mids → types_of ops ≡ own ++ below → Stands m top deep c results labels (plain p rest) own below
-            → (behind_plain m p (length (own ++ below)) ≡ length (mids ++ below) → Stands m top deep c results labels rest mids below)
+            → (is_last p ≡ false → behind_plain m p (length (own ++ below)) ≡ length (mids ++ below) → Stands m top deep c results labels rest mids below)
             → NextFits m outs (step_at m s fn under ls ops labels (plain p rest))
         plain_fits ops labels results (basic b) rest own mids below h eo st again =
-            did_fits (drop (takes b) ops) labels results rest mids below (act (memory_max m) b s (take (takes b) ops)) (again (basic_height c b own mids below h))
+            did_fits (drop (takes b) ops) labels results rest mids below (act (memory_max m) b s (take (takes b) ops)) (again refl (basic_height c b own mids below h))
             (act_fits m c (memory_max m) b s ops (mids ++ below) refl so (subst (λ xs. Takes (basic_sig c b) xs (mids ++ below)) (sym eo) (takes_above (basic_sig c b) own mids below h)))
         plain_fits ops labels results (local_get x) rest own mids below h eo st again =
-            gets_fit x ops labels results rest own mids below (slice_get (locals_of m f) x) refl h eo (again (gets_height (slice_get (locals_of m f) x) own mids below h))
+            gets_fit x ops labels results rest own mids below (slice_get (locals_of m f) x) refl h eo (again refl (gets_height (slice_get (locals_of m f) x) own mids below h))
         plain_fits ops labels results (local_set x) rest own mids below h eo st again =
-            sets_fit x ops labels results rest own mids below (slice_get (locals_of m f) x) refl h eo (again (sets_height (slice_get (locals_of m f) x) own mids below h))
+            sets_fit x ops labels results rest own mids below (slice_get (locals_of m f) x) refl h eo (again refl (sets_height (slice_get (locals_of m f) x) own mids below h))
         plain_fits ops labels results (local_tee x) rest own mids below h eo st again =
-            tees_fit x ops labels results rest own mids below (slice_get (locals_of m f) x) refl h eo (again (tees_height (slice_get (locals_of m f) x) own mids below h))
+            tees_fit x ops labels results rest own mids below (slice_get (locals_of m f) x) refl h eo (again refl (tees_height (slice_get (locals_of m f) x) own mids below h))
         plain_fits ops labels results (br l) rest own mids below h eo st again = br_fits ops labels results (plain (br l) rest) own mids below l (slice_get results l) refl h eo st
         plain_fits ops labels results (br_if l) rest own mids below h eo st again =
-            br_if_fits ops labels results (plain (br_if l) rest) rest own mids below l (slice_get results l) refl h eo st (again (may_jump_height (slice_get results l) own mids below h))
+            br_if_fits ops labels results (plain (br_if l) rest) rest own mids below l (slice_get results l) refl h eo st (again refl (may_jump_height (slice_get results l) own mids below h))
         plain_fits ops labels results (br_table targets last) rest own mids below h eo st again =
             br_table_fits ops labels results (plain (br_table targets last) rest) own mids below targets last (slice_get results last) refl h eo st
         plain_fits ops labels results return rest own mids below h eo st again = leaves_here 0 ops (h.0 ++ below) (eo ∙ ap (λ xs. xs ++ below) h.1 ∙ append_assoc (listed c.result) h.0 below)
         plain_fits ops labels results unreachable rest own mids below h eo st again = so
         plain_fits ops labels results (call x) rest own mids below h eo st again =
-            calls_fit ops labels results rest own mids below x (slice_get (func_types m) x) refl h eo (again (calls_height (slice_get (func_types m) x) (func_type_at m x) own mids below (λ t e. (func_found m x t e).1) (func_type_small m v x) h))
+            calls_fit ops labels results rest own mids below x (slice_get (func_types m) x) refl h eo (again refl (calls_height (slice_get (func_types m) x) (func_type_at m x) own mids below (λ t e. (func_found m x t e).1) (func_type_small m v x) h))
         plain_fits ops labels results (call_indirect sort) rest own mids below h eo st again =
             calls_at_fit ops labels results rest own mids below sort c.table (slice_get m.types sort) refl h eo
-            (again (calls_at_height c.table (slice_get m.types sort) (type_at m sort) own mids below (λ t e. ap or_empty e) (type_small m v sort) h))
+            (again refl (calls_at_height c.table (slice_get m.types sort) (type_at m sort) own mids below (λ t e. ap or_empty e) (type_small m v sort) h))
 
         -- a construct's body begins with none of the operands below it
         enters : (ops : List Value) (labels : List Label) (results : List (Option ValType)) (body rest : Code) (r : Option ValType) (skipped : Code) (own below : List ValType)
@@ -397,7 +398,7 @@ module _ (m : Module) (v : Valid m) (outs : List ValType) where
         code_fits ops labels results done own below eo st k = finishes_fit ops labels results own below st eo
         code_fits ops labels results (plain p rest) own below eo st k =
             let t = k.typed in
-            plain_fits ops labels results p rest own t.0 below t.1 eo st (λ e. k.again rest t.0 t.2 (rest_within m top deep p rest (length (own ++ below)) (length (t.0 ++ below)) (length labels) e k.within))
+            plain_fits ops labels results p rest own t.0 below t.1 eo st (λ goes e. k.again rest t.0 t.2 (rest_within m top deep p rest (length (own ++ below)) (length (t.0 ++ below)) (length labels) goes e k.within))
         code_fits ops labels results (nest a_block r body rest) own below eo st k =
             let t = k.typed in
             let w = nest_within m top deep a_block r body rest (length (own ++ below)) (length labels) k.within in

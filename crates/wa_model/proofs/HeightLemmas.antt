@@ -1,5 +1,5 @@
 -- How high operands stand, by the types that instructions take and give.
-use Rattle.std.proofs.Common.{arith, ◌≡◌, ℕ, suc, ◌+◌, ◌-◌, ◌≤◌, max, min, List, [], ◌∷◌, ◌++◌, reverse, Option, Some, None, Bool, true, false, refl, sym, ap, ◌∙◌, subst, length, length-append}
+use Rattle.std.proofs.Common.{arith, ◌≡◌, ℕ, suc, ◌+◌, ◌-◌, ◌≤◌, max, min, if◌then◌else◌, List, [], ◌∷◌, ◌++◌, reverse, Option, Some, None, Bool, true, false, refl, sym, ap, ◌∙◌, subst, length, length-append}
 use Rattle.std.specs.Prelude.{slice_get}
 use Rattle.std.proofs.lemmas.List.{length-reverse}
 use Rattle.wa_types.specs.declared.values.ValType.{ValType}
@@ -7,6 +7,7 @@ use Rattle.wa_types.specs.declared.values.ValType.TheVariants.{I32}
 use Rattle.wa_types.specs.Accesses.{load_row, store_row}
 use Rattle.wa_types.specs.Counts.{depth_of}
 use Rattle.wa_types.specs.Operators.{operand_types, result_type}
+use Rattle.wa_types.specs.Pruned.{is_last}
 use Rattle.wa_types.specs.Syntax.{Basic, nop, drop, select, const, num, global_get, global_set, load, store, memory_size, memory_grow, Plain, Shape, Code, done, plain, nest, branch, FuncType, Module}
 use Rattle.wa_types.specs.Typing.{Around, moves, listed, type_of, may_jump, calls, calls_at, gets, sets, tees, basic_sig, Takes}
 use Rattle.wa_model.specs.Store.{takes, gives}
@@ -18,7 +19,11 @@ use Rattle.wa_model.proofs.FittingActs.{got_moves, set_moves, load_moves, store_
 pub most_least : (m : Module) (k : Code) (h : ℕ) → h ≤ most_operands m k h
 unfolding most_operands
 most_least m done h = omega arith
-most_least m (plain p rest) h = omega arith
+most_least m (plain p rest) h = by_last (is_last p)
+  where
+    by_last : (b : Bool) → h ≤ (if b then h else max h (most_operands m rest (behind_plain m p h)))
+    by_last true = omega arith
+    by_last false = omega arith
 most_least m (nest s r body rest) h = omega (arith, most_least m body h)
 most_least m (branch r a b rest) h = omega arith
 
@@ -104,11 +109,11 @@ module _ (m : Module) (top deep : ℕ) where
   pub begins_within : (code : Code) (h d : ℕ) → Within m top deep code h d → (h ≤ top) × (d ≤ deep)
   begins_within code h d w = let o = w.operands in let l = w.labels in (omega (arith, most_least m code h), omega arith)
 
-  -- behind an instruction
-  pub rest_within : (p : Plain) (rest : Code) (h k d : ℕ) → behind_plain m p h ≡ k → Within m top deep (plain p rest) h d → Within m top deep rest k d
+  -- behind an instruction, where control goes on
+  pub rest_within : (p : Plain) (rest : Code) (h k d : ℕ) → is_last p ≡ false → behind_plain m p h ≡ k → Within m top deep (plain p rest) h d → Within m top deep rest k d
   unfolding most_operands depth_of
-  rest_within p rest h k d e w =
-      let o = w.operands in
+  rest_within p rest h k d goes e w =
+      let o : max h (most_operands m rest (behind_plain m p h)) ≤ top = subst (λ b. (if b then h else max h (most_operands m rest (behind_plain m p h))) ≤ top) goes w.operands in
       let n : most_operands m rest (behind_plain m p h) ≤ top = omega arith in
       record { operands = subst (λ j. most_operands m rest j ≤ top) e n; labels = w.labels }
 

@@ -1,7 +1,8 @@
 -- How high operands stand in code, counted from its first instruction on, and how deep labels.
-use Rattle.std.specs.Prelude.{ℕ, ◌+◌, ◌-◌, ◌≤◌, max, min, length}
+use Rattle.std.specs.Prelude.{ℕ, ◌+◌, ◌-◌, ◌≤◌, max, min, if◌then◌else◌, length}
 use Rattle.wa_types.specs.Counts.{depth_of}
 use Rattle.wa_types.specs.Modules.{type_at, func_type_at}
+use Rattle.wa_types.specs.Pruned.{is_last}
 use Rattle.wa_types.specs.Syntax.{Plain, basic, local_get, local_set, local_tee, br, br_if, br_table, return, unreachable, call, call_indirect, Code, done, plain, nest, branch, FuncType, Module}
 use Rattle.wa_model.specs.Store.{takes, gives}
 use Rattle.wa_model.specs.Step.{arity_of}
@@ -10,8 +11,8 @@ use Rattle.wa_model.specs.Step.{arity_of}
 abbrev pub behind_call : FuncType → ℕ → ℕ
 behind_call t h = h - length t.params + min (length t.results) 1
 
--- How high they stand behind an instruction that holds no other, of so many before it. Behind one that always branches
--- they are taken as they stood.
+-- How high they stand behind an instruction that holds no other, of so many before it. Where control never goes on behind
+-- it, no height counts there.
 abbrev pub behind_plain : Module → Plain → ℕ → ℕ
 behind_plain m (basic b) h = h - takes b + gives b
 behind_plain m (local_get x) h = h + 1
@@ -32,10 +33,11 @@ behind m (plain p rest) h = behind_plain m p h
 behind m (nest s r body rest) h = h + arity_of r
 behind m (branch r a b rest) h = h - 1 + arity_of r
 
--- how high they stand at most in code that begins with so many
+-- How high they stand at most in code that begins with so many. What follows a `br`, `br_table`, `return` or `unreachable`
+-- is never run, and isn't looked at.
 unfoldable pub most_operands : Module → Code → ℕ → ℕ
 most_operands m done h = h
-most_operands m (plain p rest) h = max h (most_operands m rest (behind_plain m p h))
+most_operands m (plain p rest) h = if is_last p then h else max h (most_operands m rest (behind_plain m p h))
 most_operands m (nest s r body rest) h = max (most_operands m body h) (most_operands m rest (h + arity_of r))
 most_operands m (branch r a b rest) h =
     max h (max (max (most_operands m a (h - 1)) (most_operands m b (h - 1))) (most_operands m rest (h - 1 + arity_of r)))

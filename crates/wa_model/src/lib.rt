@@ -13,9 +13,9 @@
 //! modules: parts behind a module's own leave its reductions as they were. Those of `fitting_laws` are the soundness of
 //! types: no configuration that fits a valid module is stuck, and calls and answers of the right types reach no other
 //! (`specs/Fitting.antt`). Those of `quiet_laws` say the headline for
-//! modules of which nothing may pause. Read in the order `Machine`,
-//! `Store`, `Configuration`, `Step`, `Alone`, `Heights`, `Fitting`, `Plan`, `Instantiation`, `Blocking`, `Untouched`, `Protocol`, `Expected`,
-//! `Behaves`, `Rewrites`. `proofs/Cases.antt` has small runs that these definitions compute.
+//! modules of which nothing may pause. Read in the order `Machine`, `Store`, `Configuration`, `Step`, `Outside`,
+//! `Instantiation`, `Plan`, `Blocking`, `Untouched`, `Protocol`, `Expected`, `Behaves`, `Rewrites`, `Quiet`, `World`, then
+//! `Alone`, `Growth`, `Heights`, `Fitting`, and `Flat`. `proofs/Cases.antt` has small runs that these definitions compute.
 #![tactic(auto)]
 
 mod answers;

@@ -14,7 +14,7 @@ use Rattle.interp.specs.Told.{Tells}
 use Rattle.interp.specs.View.{store_of, running_of, waiting_of}
 use Rattle.interp.proofs.Fronts.{front_unreachable, front_nop, front_drop, front_select, front_return, front_size, front_grow, front_const, front_num, front_br, front_br_if, front_call, front_indirect, front_local_get, front_local_set, front_local_tee, front_global_get, front_global_set, front_load, front_store}
 use Rattle.interp.proofs.ReduceLemmas.{code_arm, basic_arm, if_ok_both}
-use Rattle.interp.proofs.RoomKept.{arm_lacked, err_any, labels_lacked, never_err, ok_any, operands_hold, operands_lacked, refuted_arm, roomier, taking_arm}
+use Rattle.interp.proofs.RoomKept.{arm_lacked, err_any, grow_unpaid, labels_lacked, never_err, ok_any, operands_hold, operands_lacked, refuted_arm, roomier, taking_arm}
 use Rattle.interp.proofs.reduce.dispatch.Goals as goal
 
 pub returns-in-Const-clause-tells : goal.returns-in-Const-clause-tells
@@ -387,7 +387,7 @@ returns-in-Call-clause-lacks c =
     let s = store_of c.args.store.now in
     let k = c.args.stack.now in
     let rest = code k.here.code.now in
-    err_any c.call.result _ (λ e outs h fits. taking_arm rest c.args.instr.now (Call c.in-Call.func) (plain (call c.in-Call.func) rest) c.in-Call.is (front_call c.in-Call.func rest) tt)
+    IfErr-weaker c.call.result _ _ (λ e paid outs h fits. taking_arm m s k c.args.instr.now (Call c.in-Call.func) (plain (call c.in-Call.func) rest) c.in-Call.is (front_call c.in-Call.func rest) (tt, paid s)) c.call.ensures.lacks
 
 pub returns-in-CallIndirect-clause-lacks : goal.returns-in-CallIndirect-clause-lacks
 returns-in-CallIndirect-clause-lacks c =
@@ -395,7 +395,7 @@ returns-in-CallIndirect-clause-lacks c =
     let s = store_of c.args.store.now in
     let k = c.args.stack.now in
     let rest = code k.here.code.now in
-    err_any c.call_indirect.result _ (λ e outs h fits. taking_arm rest c.args.instr.now (CallIndirect c.in-CallIndirect.sort) (plain (call_indirect c.in-CallIndirect.sort) rest) c.in-CallIndirect.is (front_indirect c.in-CallIndirect.sort rest) tt)
+    IfErr-weaker c.call_indirect.result _ _ (λ e paid outs h fits. taking_arm m s k c.args.instr.now (CallIndirect c.in-CallIndirect.sort) (plain (call_indirect c.in-CallIndirect.sort) rest) c.in-CallIndirect.is (front_indirect c.in-CallIndirect.sort rest) (tt, paid s refl)) c.call_indirect.ensures.lacks
 
 pub returns-in-MemoryGrow-clause-lacks : goal.returns-in-MemoryGrow-clause-lacks
 returns-in-MemoryGrow-clause-lacks c =
@@ -403,7 +403,7 @@ returns-in-MemoryGrow-clause-lacks c =
     let s = store_of c.args.store.now in
     let k = c.args.stack.now in
     let rest = code k.here.code.now in
-    err_any c.memory_grow.result _ (λ e outs h fits. taking_arm rest c.args.instr.now (MemoryGrow) (plain (basic memory_grow) rest) c.in-MemoryGrow.is (front_grow rest) tt)
+    err_any c.memory_grow.result _ (λ e outs h fits. taking_arm m s k c.args.instr.now (MemoryGrow) (plain (basic memory_grow) rest) c.in-MemoryGrow.is (front_grow rest) (grow_unpaid m s k))
 
 pub returns-in-MemoryGrow-clause-unchanged : goal.returns-in-MemoryGrow-clause-unchanged
 returns-in-MemoryGrow-clause-unchanged c =

@@ -6,12 +6,11 @@ use Rattle.wa_types.specs.View.{code, module_of}
 use Rattle.wa_types.proofs.ViewLemmas.{code_none}
 use Rattle.wa_model.specs.Fitting.{NextFits}
 use Rattle.wa_model.proofs.FittingSteps.{steps_fit}
-use Rattle.interp.specs.Rooms.{TakesMemory}
 use Rattle.interp.specs.Stacks.{code_of}
 use Rattle.interp.specs.Told.{Tells}
 use Rattle.interp.specs.View.{store_of, running_of}
 use Rattle.interp.proofs.ReduceLemmas.{code_first}
-use Rattle.interp.proofs.RoomKept.{ok_any, roomier}
+use Rattle.interp.proofs.RoomKept.{TakesUnpaid, ok_any, roomier}
 use Rattle.interp.proofs.reduce.reduce.Goals as goal
 
 pub returns-in_default-clause-tells : goal.returns-in_default-clause-tells
@@ -60,7 +59,7 @@ returns-clause-lacks c =
     let first = code_first k.here.code.now c.in-Some.instr.now c.in-Some.rest.now c.in-Some.ensures.cases.0 in
     IfErr-weaker c.dispatch.result _ _
     (λ e f outs h v fits.
-    subst TakesMemory (sym first)
+    subst (TakesUnpaid m s k) (sym first)
     (f outs (roomier m k _ (record { func = refl; operands = omega arith; labels = omega arith; under = refl }) h)
     (subst (λ d. NextFits m outs (code_of m s k d)) first (steps_fit m outs (running_of s k) v fits))))
     c.dispatch.ensures.lacks

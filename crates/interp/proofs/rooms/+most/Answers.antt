@@ -41,12 +41,13 @@ most_operands-loop-instr-preserved t c =
     let x = c.instr-item.result in
     let here = c.loop-instr.here in
     let inside : i < length body = omega (arith, c.loop-instr-test.true) in
-    let step = most_step m body i x here inside c.instr-item.is in
+    let goes = sym c.is_last.ensures ∙ c.if-is_last.false in
+    let step = most_step m body i x here inside c.instr-item.is goes in
     let counted = count_step body i x inside c.instr-item.is in
     let greater = c.max-most.ensures in
     let rest = ap (most_operands m (code (drop (i + 1) body))) c.behind-here.ensures in
     record {
       whole = omega (arith, step, greater, rest, c.most_inside.ensures, c.loop-instr.invariant.whole);
-      reached = omega (arith, greater, c.behind-here.ensures, c.most_inside.ensures, most_reached m x here);
+      reached = omega (arith, greater, c.behind-here.ensures, c.most_inside.ensures, most_reached m x here goes);
       fits = omega (arith, counted, count_some x, c.behind-here.ensures, behind_few m x here, c.loop-instr.invariant.fits);
     }

@@ -99,11 +99,12 @@ returns-in_err-more-clause-lacks c =
     let n = c.loop-steps.steps.used - c.args.steps.now.used in
     err_any c.from_residual.result _
     (λ e v ok h.
+    let lacks = c.in_err-more.ensures.lacks ok.0 (c.loop-steps.invariant.room h) v (leads_fit m v ok.0 from at n [] ok.1 c.loop-steps.invariant.goes) in
     record {
       at = at;
       cost = n;
-      paid = omega arith;
       goes = c.loop-steps.invariant.goes;
+      takes = lacks.0;
+      paid = omega (arith, lacks.1);
       store_is = sym c.in_err-more.ensures.unchanged;
-      takes = c.in_err-more.ensures.lacks ok.0 (c.loop-steps.invariant.room h) v (leads_fit m v ok.0 from at n [] ok.1 c.loop-steps.invariant.goes);
     })
