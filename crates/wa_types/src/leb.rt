@@ -249,7 +249,7 @@ pub fn write_s64(_alloc: Global, out: &mut Vec<u8>, v: i64) -> Result<(), AllocE
 }
 
 /// The laws of unsigned numbers: reading answers exactly what the bytes spell, no spelling begins another,
-/// and the shortest spelling is one.
+/// and the shortest spelling is one, than which none is shorter.
 pub fn unsigned_spelling_laws()
     ensures read_is_spelled { (bits : ℕ) (bytes : List ℕ) (at n end : ℕ) → ((i : ℕ) → slice_index bytes i < 256)
         → unsigned_at bits bytes at ≡ (Ok n, end) → Front (λ front. IsUnsigned bits front n) bytes at end }
@@ -258,6 +258,7 @@ pub fn unsigned_spelling_laws()
     ensures one_form { (bits : ℕ) (a b x y : List ℕ) (m n : ℕ) → IsUnsigned bits a m → IsUnsigned bits b n
         → a ++ x ≡ b ++ y → (m ≡ n) × (a ≡ b) }
     ensures shortest_spells { (bits n : ℕ) → n < 2 ^ 64 → n < 2 ^ bits → IsUnsigned bits (shortest n) n }
+    ensures none_is_shorter { (bits n : ℕ) (front : List ℕ) → IsUnsigned bits front n → length (shortest n) ≤ length front }
 {}
 
 /// The laws of signed numbers, as those of unsigned ones.
@@ -269,6 +270,7 @@ pub fn signed_spelling_laws()
     ensures one_form { (bits : ℕ) (a b x y : List ℕ) (m n : ℕ) → IsSigned bits a m → IsSigned bits b n
         → a ++ x ≡ b ++ y → (m ≡ n) × (a ≡ b) }
     ensures shortest_spells { (bits n : ℕ) → 1 ≤ bits → bits ≤ 64 → n < 2 ^ bits → IsSigned bits (shortest_signed bits n) n }
+    ensures none_is_shorter { (bits n : ℕ) (front : List ℕ) → IsSigned bits front n → length (shortest_signed bits n) ≤ length front }
 {}
 
 #[cfg(test)]
