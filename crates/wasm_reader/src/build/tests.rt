@@ -168,7 +168,7 @@ fn control_and_variables_are_built(rt: HostRuntime) -> Result<(), Fail> {
 }
 
 #[test]
-fn memory_and_numbers_are_built(rt: HostRuntime) -> Result<(), Fail> {
+fn loads_are_built(rt: HostRuntime) -> Result<(), Fail> {
     let code = expression(rt.alloc(), &mut Cursor::new(PLAIN))?;
     assert_eq!(rt; code.len(), 31);
     assert!(rt;
@@ -191,6 +191,13 @@ fn memory_and_numbers_are_built(rt: HostRuntime) -> Result<(), Fail> {
             }
         )
     );
+    Ok(())
+}
+
+#[test]
+fn stores_are_built(rt: HostRuntime) -> Result<(), Fail> {
+    let code = expression(rt.alloc(), &mut Cursor::new(PLAIN))?;
+    assert_eq!(rt; code.len(), 31);
     assert!(rt;
         matches!(
             code[17],
@@ -211,6 +218,13 @@ fn memory_and_numbers_are_built(rt: HostRuntime) -> Result<(), Fail> {
             }
         )
     );
+    Ok(())
+}
+
+#[test]
+fn constants_and_operators_are_built(rt: HostRuntime) -> Result<(), Fail> {
+    let code = expression(rt.alloc(), &mut Cursor::new(PLAIN))?;
+    assert_eq!(rt; code.len(), 31);
     assert!(rt; matches!(code[19], Instr::MemorySize));
     assert!(rt; matches!(code[20], Instr::MemoryGrow));
     assert!(rt; matches!(code[21], Instr::Const(Value::I32(u32::MAX))));
@@ -226,7 +240,7 @@ fn memory_and_numbers_are_built(rt: HostRuntime) -> Result<(), Fail> {
     Ok(())
 }
 
-// The length of an arm or a body of one constant, and that constant.
+// The constant that an arm or a body holds, where it holds nothing else.
 fn constant_of(code: &[Instr]) -> Option<u32> {
     match code {
         [Instr::Const(Value::I32(n))] => Some(*n),
