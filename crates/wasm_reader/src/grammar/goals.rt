@@ -31,7 +31,7 @@ pub(crate) struct TextLen {
 pub(crate) enum Goal {
     /// This byte.
     Exact(u8),
-    /// Sections with ids above `last`, where `owed` functions have no body so far (standard, section 5.5.2).
+    /// Sections with ids above `last`, where `owed` functions have no body so far (standard, section 5.5.15).
     Sections {
         last: u8,
         owed: u32,

@@ -34,7 +34,7 @@ impl From<AllocError> for CheckFault {
     }
 }
 
-/// Reads the items of a file that comes in pieces, and keeps nothing of them but what may come next.
+/// Reads the items of a file, and keeps nothing of them but what may come next.
 #[derive(Drop)]
 pub(crate) struct Machine {
     goals: Goals,
@@ -51,7 +51,8 @@ impl Machine {
         Ok(Machine { goals, at: 0 })
     }
 
-    /// Takes all items that are whole so far; the bytes are all that have come. After an error nothing may follow.
+    /// Takes all items that are whole so far. As the file grows it may be called again, each time over all bytes so far,
+    /// from the first on; after an error it may not.
     pub(crate) fn feed(&mut self, alloc: Global, bytes: &[u8]) -> Result<(), CheckFault>
         requires { Stands bytes.now self.old.at self.old.goals }
         ensures ok { OnOk result (Waits bytes.now self.new.at self.new.goals) }

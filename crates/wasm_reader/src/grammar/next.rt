@@ -117,7 +117,7 @@ fn others(kind: Kind, n: u32) -> Option<Goal>
     }
 }
 
-// Whether a section may stand behind others (standard, section 5.5.2); the data section owes no body.
+// Whether a section may stand behind others (standard, section 5.5.15); the data section owes no body.
 fn may_follow(id: u8, last: u8, owed: u32) -> bool
     ensures { result ≡ may_follow id last owed }
 {
