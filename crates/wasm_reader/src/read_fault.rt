@@ -18,7 +18,7 @@ pub enum ReadFault {
     #[error("limit nesting at {at}")]
     Deep { at: u64 },
     /// A limit is passed, by this number.
-    #[error("limit passed with {found}")]
+    #[error("limit {what:?} passed with {found}")]
     Limit { what: LimitKind, found: u64 },
 }
 
