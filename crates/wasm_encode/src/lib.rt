@@ -26,7 +26,6 @@ ghost use Rattle.wasm_encode.specs.Modules.{FewLocals};
 
 use crate::module::{module_len, put_module};
 use bytes::BytesMut;
-pub use entries::body_len;
 use std::alloc::{AllocError, Global};
 use thiserror::Error;
 use wa_types::Module;
