@@ -1,8 +1,9 @@
 -- The shortest spelling of signed numbers, byte by byte.
-use Rattle.std.proofs.Common.{◌≡◌, ℕ, zero, suc, ◌+◌, ◌-◌, ◌*◌, ◌/◌, ◌%◌, ◌^◌, ◌<◌, ◌≤◌, ◌⊎◌, inl, inr, Ok, List, [], ◌∷◌, ◌++◌, min, refl, append_assoc, ap, sym, ◌∙◌, arith, length}
-use Rattle.std.proofs.lemmas.Bool.{lt-ltb, le-ltb, le-leb, lt-leb, cases_lt}
+use Rattle.std.proofs.Common.{◌≡◌, ℕ, zero, suc, ◌+◌, ◌-◌, ◌*◌, ◌/◌, ◌%◌, ◌^◌, ◌<◌, ◌≤◌, ◌⊎◌, inl, inr, Ok, List, [], ◌∷◌, ◌++◌, min, nat_lt, refl, append_assoc, ap, sym, ◌∙◌, arith, length}
+use Rattle.std.proofs.lemmas.Bool.{lt-ltb, le-ltb, le-leb, lt-leb, ltb-true, ltb-false, cases_lt}
 use Rattle.std.proofs.Math.Pow.{pow_mono}
 use Rattle.std.proofs.lemmas.List.{length_push}
+use Rattle.wa_types.proofs.LebAnswers.{chosen, ok-injective}
 use Rattle.wa_types.proofs.LebLemmas.{pow_split, pow_half}
 use Rattle.wa_types.specs.Leb.{IsSigned, last_signed, signed_spelled, shortest_signed, IsLong, IsOneByte}
 
@@ -99,3 +100,47 @@ signed_spells (suc k) bits n some few fits = elim (first_byte bits n some fits) 
 
 pub shortest_signed_spells : (bits n : ℕ) → 1 ≤ bits → bits ≤ 64 → n < 2 ^ bits → IsSigned bits (shortest_signed bits n) n
 shortest_signed_spells bits n some few fits = signed_spells 9 bits n some (omega arith) fits
+
+-- these bits take one byte, or more
+one_or_long : (k bits n : ℕ) → (length (signed_spelled (suc k) bits n) ≡ 1) ⊎ IsLong bits n
+unfolding signed_spelled
+one_or_long k bits n = elim (cases_lt n (min 64 (2 ^ (bits - 1)))) [
+  | inl low ↦ inl (rw (lt-ltb _ _ low) refl)
+  | inr high ↦ elim (cases_lt (n + 64) (2 ^ bits)) [
+    | inl large ↦ inr (record { above_low = high; below_minus = large })
+    | inr small ↦ inl (rw (le-ltb _ _ high, le-leb _ _ small) refl)
+  ]
+]
+
+-- what one byte spells doesn't take more
+last_not_long : (bits n b : ℕ) → last_signed bits b ≡ Ok n → IsLong bits n → ⊥
+last_not_long bits n b e long = elim (chosen (nat_lt b 64) _ _ _ e) [
+  | inl low ↦ elim (chosen (nat_lt b (2 ^ (bits - 1))) _ _ _ low.1) [
+    | inl small ↦ omega (arith, ok-injective b n _ refl small.1, ltb-true _ _ low.0, ltb-true _ _ small.0, long.above_low)
+    | inr past ↦ cc
+  ]
+  | inr high ↦ elim (chosen (nat_lt (b + 2 ^ (bits - 1)) 128) _ _ _ high.1) [
+    | inl past ↦ cc
+    | inr sign ↦ omega (arith, ok-injective (b + 2 ^ bits - 128) n _ refl sign.1, ltb-false _ _ high.0, long.below_minus)
+  ]
+]
+
+-- no spelling is shorter
+signed_least : (k bits n : ℕ) (a : List ℕ) → IsSigned bits a n → length (signed_spelled k bits n) ≤ length a
+unfolding signed_spelled
+signed_least zero bits n a h = omega arith
+signed_least (suc k) bits n [] h = absurd h
+signed_least (suc k) bits n (b ∷ bs) (inl h) = elim (one_or_long k bits n) [
+  | inl one ↦ omega (arith, one)
+  | inr long ↦ absurd (last_not_long bits n b h.2 long)
+]
+signed_least (suc k) bits n (b ∷ bs) (inr h) = elim (one_or_long k bits n) [
+  | inl one ↦ omega (arith, one)
+  | inr long ↦
+      let e : n / 128 ≡ h.3 = omega (arith, h.0, h.1, h.4) in
+      let more = signed_least k (bits - 7) h.3 bs h.5 in
+      rw (signed_high k bits n long.above_low long.below_minus, e) (omega (arith, more))
+]
+
+pub shortest_signed_least : (bits n : ℕ) (a : List ℕ) → IsSigned bits a n → length (shortest_signed bits n) ≤ length a
+shortest_signed_least bits n a h = signed_least 10 bits n a h

@@ -79,3 +79,20 @@ spelled_spells (suc k) bits n h small = elim (cases_lt n 128) [
 
 pub shortest_spells : (bits n : ℕ) → n < 2 ^ 64 → n < 2 ^ bits → IsUnsigned bits (shortest n) n
 shortest_spells bits n h small = spelled_spells 9 bits n (omega arith) small
+
+-- no spelling is shorter
+spelled_least : (k bits n : ℕ) (a : List ℕ) → IsUnsigned bits a n → length (spelled k n) ≤ length a
+unfolding spelled
+spelled_least zero bits n a h = omega arith
+spelled_least (suc k) bits n [] h = absurd h
+spelled_least (suc k) bits n (b ∷ bs) (inl h) = rw (spelled_low k n (omega (arith, h.0, h.3))) (omega arith)
+spelled_least (suc k) bits n (b ∷ bs) (inr h) = elim (cases_lt n 128) [
+  | inl low ↦ rw (spelled_low k n low) (omega arith)
+  | inr high ↦
+      let e : n / 128 ≡ h.3 = omega (arith, h.0, h.1, h.4) in
+      let more = spelled_least k (bits - 7) h.3 bs h.5 in
+      rw (spelled_high k n high, e) (omega (arith, more))
+]
+
+pub shortest_least : (bits n : ℕ) (a : List ℕ) → IsUnsigned bits a n → length (shortest n) ≤ length a
+shortest_least bits n a h = spelled_least 10 bits n a h

@@ -70,7 +70,7 @@ abbrev pub const_bytes : Value → List ℕ
 const_bytes (value_32 n) = 0x41 ∷ shortest_signed 32 n
 const_bytes (value_64 n) = 0x42 ∷ shortest_signed 64 n
 
--- an instruction of operands and the store alone (5.4.2 to 5.4.5)
+-- an instruction of operands and the store alone (5.4.2 to 5.4.5, and nop of 5.4.1)
 abbrev pub basic_bytes : Basic → List ℕ
 basic_bytes nop = 0x01 ∷ []
 basic_bytes drop = 0x1A ∷ []

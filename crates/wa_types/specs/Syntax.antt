@@ -8,7 +8,7 @@ use Rattle.wa_types.specs.declared.syntax.Limits.{Limits}
 use Rattle.wa_types.specs.declared.syntax.Import.{Import}
 use Rattle.wa_types.specs.declared.syntax.Export.{Export}
 
--- An instruction that touches only its own operands and the store (2.4.1 to 2.4.4).
+-- An instruction that touches only its own operands and the store (2.4.1 to 2.4.4, and nop of 2.4.5).
 pub data Basic : Type 0 where
   nop drop select : Basic
   const : Value → Basic

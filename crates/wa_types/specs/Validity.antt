@@ -93,7 +93,7 @@ abbrev pub constant_of : Option GlobalType → ValType → Bool
 constant_of None t = false
 constant_of (Some g) t = not g.mutable && same_type g.ty t
 
--- the code is one constant of this type, or one `global.get` of a constant global of this type (3.3.7.1)
+-- the code is one constant of this type, or one `global.get` of a constant global of this type (3.3.7.2)
 abbrev pub is_constant : List GlobalType → ValType → Code → Bool
 is_constant globals t (plain (basic (const v)) done) = same_type (type_of v) t
 is_constant globals t (plain (basic (global_get x)) done) = constant_of (slice_get globals x) t

@@ -249,7 +249,7 @@ pub fn write_s64(_alloc: Global, out: &mut Vec<u8>, v: i64) -> Result<(), AllocE
 }
 
 /// The laws of unsigned numbers: reading answers exactly what the bytes spell, no spelling begins another,
-/// and the shortest spelling is one.
+/// and the shortest spelling is one, than which none is shorter.
 pub fn unsigned_spelling_laws()
     ensures read_is_spelled { (bits : ℕ) (bytes : List ℕ) (at n end : ℕ) → ((i : ℕ) → slice_index bytes i < 256)
         → unsigned_at bits bytes at ≡ (Ok n, end) → Front (λ front. IsUnsigned bits front n) bytes at end }
@@ -258,6 +258,7 @@ pub fn unsigned_spelling_laws()
     ensures one_form { (bits : ℕ) (a b x y : List ℕ) (m n : ℕ) → IsUnsigned bits a m → IsUnsigned bits b n
         → a ++ x ≡ b ++ y → (m ≡ n) × (a ≡ b) }
     ensures shortest_spells { (bits n : ℕ) → n < 2 ^ 64 → n < 2 ^ bits → IsUnsigned bits (shortest n) n }
+    ensures none_is_shorter { (bits n : ℕ) (front : List ℕ) → IsUnsigned bits front n → length (shortest n) ≤ length front }
 {}
 
 /// The laws of signed numbers, as those of unsigned ones.
@@ -269,6 +270,7 @@ pub fn signed_spelling_laws()
     ensures one_form { (bits : ℕ) (a b x y : List ℕ) (m n : ℕ) → IsSigned bits a m → IsSigned bits b n
         → a ++ x ≡ b ++ y → (m ≡ n) × (a ≡ b) }
     ensures shortest_spells { (bits n : ℕ) → 1 ≤ bits → bits ≤ 64 → n < 2 ^ bits → IsSigned bits (shortest_signed bits n) n }
+    ensures none_is_shorter { (bits n : ℕ) (front : List ℕ) → IsSigned bits front n → length (shortest_signed bits n) ≤ length front }
 {}
 
 #[cfg(test)]
@@ -281,6 +283,7 @@ mod tests {
         let alloc = rt.alloc();
         let wide = [
             (-1i64, b"\x7f".as_slice()),
+            (-2, b"\x7e".as_slice()),
             (-64, b"\x40".as_slice()),
             (-65, b"\xbf\x7f".as_slice()),
             (63, b"\x3f".as_slice()),
@@ -300,16 +303,91 @@ mod tests {
             assert_eq!(rt; out.as_slice(), spelling, "{n}");
             assert_eq!(rt; read_s64(spelling, &mut 0)?, n);
         }
+        Ok(())
+    }
+
+    #[test]
+    fn numbers_follow_one_another(rt: HostRuntime) -> Result<(), Fail> {
+        let alloc = rt.alloc();
         let mut out = Vec::new(alloc);
         write_s32(alloc, &mut out, i32::MIN)?;
         write_u32(alloc, &mut out, 624_485)?;
+        write_u32(alloc, &mut out, 3)?;
         assert_eq!(rt;
             out.as_slice(),
-            b"\x80\x80\x80\x80\x78\xe5\x8e\x26".as_slice()
+            b"\x80\x80\x80\x80\x78\xe5\x8e\x26\x03".as_slice()
         );
         let mut at = 0;
         assert_eq!(rt; read_s32(&out, &mut at)?, i32::MIN);
         assert_eq!(rt; read_u32(&out, &mut at)?, 624_485);
+        assert_eq!(rt; read_u32(&out, &mut at)?, 3);
+        assert_eq!(rt; at, 9);
+        Ok(())
+    }
+
+    // The standard's own examples: 3 and -2, and both padded.
+    #[test]
+    fn padded_numbers_are_read(rt: HostRuntime) -> Result<(), Fail> {
+        for spelling in [b"\x03".as_slice(), b"\x83\x00".as_slice()] {
+            let mut at = 0;
+            assert_eq!(rt; read_u32(spelling, &mut at)?, 3);
+            assert_eq!(rt; at, spelling.len());
+        }
+        for spelling in [
+            b"\x7e".as_slice(),
+            b"\xfe\x7f".as_slice(),
+            b"\xfe\xff\x7f".as_slice(),
+        ] {
+            let mut at = 0;
+            assert_eq!(rt; read_s32(spelling, &mut at)?, -2);
+            assert_eq!(rt; at, spelling.len());
+            assert_eq!(rt; read_s64(spelling, &mut 0)?, -2);
+        }
+        Ok(())
+    }
+
+    #[test]
+    fn wrong_unsigned_numbers_are_refused(rt: HostRuntime) -> Result<(), Fail> {
+        for (bytes, fault, end) in [
+            (b"\xe5\x8e".as_slice(), LebFault::Short, 2),
+            (b"\x83\x80\x80\x80\x80\x00".as_slice(), LebFault::Long, 5),
+            (b"\x83\x80\x80\x80\x10\x00".as_slice(), LebFault::Bits, 5),
+        ] {
+            let mut at = 0;
+            assert_eq!(rt; read_u32(bytes, &mut at), Err(fault));
+            assert_eq!(rt; at, end);
+        }
+        Ok(())
+    }
+
+    #[test]
+    fn wrong_signed_numbers_are_refused(rt: HostRuntime) -> Result<(), Fail> {
+        for (bytes, fault, end) in [
+            (b"\xfe\xff".as_slice(), LebFault::Short, 2),
+            (b"\xfe\xff\xff\xff\xff\x7f".as_slice(), LebFault::Long, 5),
+            (b"\xfe\xff\xff\xff\x4f\x00".as_slice(), LebFault::Bits, 5),
+        ] {
+            let mut at = 0;
+            assert_eq!(rt; read_s32(bytes, &mut at), Err(fault));
+            assert_eq!(rt; at, end);
+        }
+        for (bytes, fault, end) in [
+            (b"\xfe\xff\xff".as_slice(), LebFault::Short, 3),
+            (
+                b"\xfe\xff\xff\xff\xff\xff\xff\xff\xff\xff\x7f".as_slice(),
+                LebFault::Long,
+                10,
+            ),
+            (
+                b"\xfe\xff\xff\xff\xff\xff\xff\xff\xff\x01".as_slice(),
+                LebFault::Bits,
+                10,
+            ),
+        ] {
+            let mut at = 0;
+            assert_eq!(rt; read_s64(bytes, &mut at), Err(fault));
+            assert_eq!(rt; at, end);
+        }
         Ok(())
     }
 }

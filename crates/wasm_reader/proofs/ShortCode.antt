@@ -1,6 +1,7 @@
 -- No spelling of code is shorter than the one that it is written in.
 use Rattle.std.proofs.Common.{◌≡◌, ℕ, zero, suc, ◌+◌, ◌<◌, ◌≤◌, List, [], ◌∷◌, ◌++◌, flat_map, length, refl, ap, sym, ◌∙◌, subst, arith, length-append, All, Bool, true, false}
 use Rattle.std.proofs.lemmas.List.Elements.{All-head, All-tail}
+use Rattle.wa_types.proofs.SignedSpelling.{shortest_signed_least}
 use Rattle.wa_types.specs.declared.values.Value.TheVariants.{I32 as value_32, I64 as value_64}
 use Rattle.wa_types.specs.Leb.{shortest}
 use Rattle.wa_types.specs.Encoding.{vector, sized, code_bytes, plain_bytes, else_bytes, expression_bytes}
@@ -8,7 +9,7 @@ use Rattle.wa_types.specs.Syntax.{nop, drop, select, const, num, global_get, glo
 use Rattle.wa_types.specs.Binary.{Placed, Operands, RawCode, ended, otherwise, instr, nested, branched}
 use Rattle.wa_types.specs.Spells.{Exactly, Number, Items, Vector, Sized, OperandsOf, CodeOf}
 use Rattle.wa_types.specs.Reading.{plain_operands, IsPlain, IsCode, Each}
-use Rattle.wasm_reader.proofs.ShortNumbers.{number_short, signed_number_short, shortest_rises}
+use Rattle.wasm_reader.proofs.ShortNumbers.{number_short, shortest_rises}
 use Rattle.wasm_reader.proofs.SpelledCodeSizes.{length_split}
 use Rattle.wasm_reader.proofs.SpelledSizes.{each_length}
 
@@ -56,8 +57,8 @@ operands_short : (p : Plain) (at : ℕ) (a : List ℕ) → OperandsOf (plain_ope
 operands_short (basic nop) at a h = omega arith
 operands_short (basic drop) at a h = omega arith
 operands_short (basic select) at a h = omega arith
-operands_short (basic (const (value_32 n))) at a h = omega (arith, signed_number_short 32 n a h)
-operands_short (basic (const (value_64 n))) at a h = omega (arith, signed_number_short 64 n a h)
+operands_short (basic (const (value_32 n))) at a h = omega (arith, shortest_signed_least 32 n a h)
+operands_short (basic (const (value_64 n))) at a h = omega (arith, shortest_signed_least 64 n a h)
 operands_short (basic (num op)) at a h = omega arith
 operands_short (basic (global_get x)) at a h = omega (arith, number_short x a h)
 operands_short (basic (global_set x)) at a h = omega (arith, number_short x a h)

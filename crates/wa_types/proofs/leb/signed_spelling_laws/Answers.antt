@@ -1,5 +1,5 @@
 use Rattle.wa_types.proofs.SignedReads.{again, one_form, takes}
-use Rattle.wa_types.proofs.SignedSpelling.{shortest_signed_spells}
+use Rattle.wa_types.proofs.SignedSpelling.{shortest_signed_spells, shortest_signed_least}
 use Rattle.wa_types.proofs.leb.signed_spelling_laws.Goals as goal
 
 pub returns : goal.returns
@@ -8,4 +8,5 @@ returns c = record {
   spelled_is_read = again;
   one_form = one_form;
   shortest_spells = shortest_signed_spells;
+  none_is_shorter = shortest_signed_least;
 }

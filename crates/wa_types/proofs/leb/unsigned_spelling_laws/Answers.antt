@@ -1,5 +1,5 @@
 use Rattle.wa_types.proofs.UnsignedReads.{again, one_form, takes}
-use Rattle.wa_types.proofs.UnsignedSpelling.{shortest_spells}
+use Rattle.wa_types.proofs.UnsignedSpelling.{shortest_spells, shortest_least}
 use Rattle.wa_types.proofs.leb.unsigned_spelling_laws.Goals as goal
 
 pub returns : goal.returns
@@ -8,4 +8,5 @@ returns c = record {
   spelled_is_read = again;
   one_form = one_form;
   shortest_spells = shortest_spells;
+  none_is_shorter = shortest_least;
 }
