@@ -1,7 +1,7 @@
 //! The parts that a written module has behind those of the original.
 //!
 //! `add_runtime` appends three types, two globals, five functions and their exports, and a memory where the
-//! module has none. Before, `func_space` functions; behind them:
+//! module has none. The five functions stand behind the module's own, of which there are `func_space`:
 //!
 //! ```text
 //! asyncify_start_unwind(address)   state 1, address set, test
