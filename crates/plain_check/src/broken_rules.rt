@@ -2,8 +2,8 @@ use crate::{Fault, first_fault};
 use std::alloc::{AllocError, Global};
 use std::test::Fail;
 use wa_types::{
-    Elem, Export, Func, FuncType, GlobalDef, Import, ImportKind, Instr, Limits, Module, Name, NumOp,
-    Segment, Space, ValType, Value,
+    Elem, Export, Func, FuncType, GlobalDef, Import, ImportKind, Instr, Limits, Module, Name,
+    NumOp, Segment, Space, ValType, Value,
 };
 
 fn func_type(
@@ -289,11 +289,7 @@ fn ends_and_elses_are_counted(rt: HostRuntime) -> Result<(), Fail> {
     };
     let m = typed(alloc, &[], &[ValType::I32], vec![in alloc; one(), choice]?)?;
     assert_eq!(rt; first_fault(alloc, &m)?, inside(0, 8, 5));
-    let dead = vec![in alloc;
-        Instr::Unreachable,
-        long(),
-        Instr::Num(NumOp::I32Add),
-    ]?;
+    let dead = vec![in alloc; Instr::Unreachable, long(), Instr::Num(NumOp::I32Add)]?;
     let m = body(alloc, dead)?;
     assert_eq!(rt; first_fault(alloc, &m)?, inside(0, 8, 2));
     Ok(())
@@ -340,7 +336,12 @@ fn operands_lie_in_their_order(rt: HostRuntime) -> Result<(), Fail> {
     let m = typed(alloc, &[], &[ValType::I32], vec![in alloc; again]?)?;
     assert_eq!(rt; first_fault(alloc, &m)?, None);
     let params = [ValType::I32, ValType::I64];
-    let m = typed(alloc, &params, &[], vec![in alloc; one(), long(), Instr::Call(0)]?)?;
+    let m = typed(
+        alloc,
+        &params,
+        &[],
+        vec![in alloc; one(), long(), Instr::Call(0)]?,
+    )?;
     assert_eq!(rt; first_fault(alloc, &m)?, None);
     let store = Instr::Store {
         op: 0x37,

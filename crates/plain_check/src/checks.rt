@@ -226,24 +226,20 @@ fn known(
     ensures { IfOk result (λ v. v.items ≡ knows types.now ++ os.now) }
 {
     let mut left = Vec::new(alloc);
-    put_known(alloc, types, &mut left)?;
+    put_known(types, &mut left)?;
     left.extend_from_slice(os)?;
     Ok(left)
 }
 
 #[tactic(auto, using(crate::proofs::CheckLemmas::knowing))]
-fn put_known(
-    alloc: Global,
-    types: &[ValType],
-    out: &mut Vec<Option<ValType>>,
-) -> Result<(), AllocError>
+fn put_known(types: &[ValType], out: &mut Vec<Option<ValType>>) -> Result<(), AllocError>
     ensures { OnOk result (out.new.items ≡ out.old.items ++ knows types.now) }
 {
     let [ty, rest @ ..] = types else {
         return Ok(());
     };
     out.push(Some(*ty))?;
-    put_known(alloc, rest, out)
+    put_known(rest, out)
 }
 
 // What an instruction does to the operands.

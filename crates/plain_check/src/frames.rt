@@ -153,15 +153,7 @@ pub fn saved(
     let tree = pruned_tree(alloc, &func.body)?;
     let mut places = Vec::new(alloc);
     put_named(alloc, policy, &tree, place, 0, &locals, &mut places)?;
-    put_slots(
-        alloc,
-        policy,
-        &calls,
-        place,
-        locals.len(),
-        &slots,
-        &mut places,
-    )?;
+    put_slots(policy, &calls, place, locals.len(), &slots, &mut places)?;
     Ok(places)
 }
 
@@ -183,14 +175,13 @@ fn put_named(
         return Ok(());
     };
     let keep = keeps_local(alloc, policy, tree, place, x)?;
-    put_place(alloc, keep, x, *ty, out)?;
+    put_place(keep, x, *ty, out)?;
     put_named(alloc, policy, tree, place, x + 1, rest, out)
 }
 
 // Appends the slots that are kept, from one on.
 #[tactic(auto, using(crate::proofs::FrameLemmas::naming))]
 fn put_slots(
-    alloc: Global,
     policy: Policy,
     calls: &[Vec<ValType>],
     place: usize,
@@ -204,24 +195,13 @@ fn put_slots(
     let [pair, rest @ ..] = slots else {
         return Ok(());
     };
-    put_place(
-        alloc,
-        keeps_slot(policy, calls, place, *pair),
-        x,
-        pair.ty,
-        out,
-    )?;
-    put_slots(alloc, policy, calls, place, x + 1, rest, out)
+    let keep = keeps_slot(policy, calls, place, *pair);
+    put_place(keep, x, pair.ty, out)?;
+    put_slots(policy, calls, place, x + 1, rest, out)
 }
 
 #[tactic(auto, using(crate::proofs::FrameLemmas::pushing))]
-fn put_place(
-    _alloc: Global,
-    keep: bool,
-    local: usize,
-    ty: ValType,
-    out: &mut Vec<Place>,
-) -> Result<(), AllocError>
+fn put_place(keep: bool, local: usize, ty: ValType, out: &mut Vec<Place>) -> Result<(), AllocError>
     ensures { OnOk result (places_of out.new.items ≡ places_of out.old.items ++ place_onto keep local ty []) }
 {
     if keep {

@@ -116,13 +116,13 @@ fn funcs_exist(alloc: Global, module: &Module) -> Result<bool, AllocError>
 {
     let sorts = sorts(alloc, module)?;
     let mut indices = exported_in(alloc, module, Space::Func)?;
-    put_start(alloc, module.start, &mut indices)?;
-    put_elem_funcs(alloc, &module.elems, &mut indices)?;
+    put_start(module.start, &mut indices)?;
+    put_elem_funcs(&module.elems, &mut indices)?;
     Ok(all_under(&indices, sorts.len()))
 }
 
 #[tactic(auto, using(crate::proofs::RuleLemmas::listing))]
-fn put_start(_alloc: Global, start: Option<u32>, out: &mut Vec<u32>) -> Result<(), AllocError>
+fn put_start(start: Option<u32>, out: &mut Vec<u32>) -> Result<(), AllocError>
     ensures { OnOk result (out.new.items ≡ out.old.items ++ start_indices start) }
 {
     match start {
@@ -135,14 +135,14 @@ fn put_start(_alloc: Global, start: Option<u32>, out: &mut Vec<u32>) -> Result<(
 }
 
 #[tactic(auto, using(crate::proofs::RuleLemmas::listing))]
-fn put_elem_funcs(alloc: Global, elems: &[Elem], out: &mut Vec<u32>) -> Result<(), AllocError>
+fn put_elem_funcs(elems: &[Elem], out: &mut Vec<u32>) -> Result<(), AllocError>
     ensures { OnOk result (out.new.items ≡ out.old.items ++ flat_map (λ (e : PlainElem). e.funcs) (map elem_of elems.now)) }
 {
     let [elem, rest @ ..] = elems else {
         return Ok(());
     };
     out.extend_from_slice(&elem.funcs)?;
-    put_elem_funcs(alloc, rest, out)
+    put_elem_funcs(rest, out)
 }
 
 // Rule 3: the tables that element segments and exports name are there.
@@ -152,19 +152,19 @@ fn tables_exist(alloc: Global, module: &Module) -> Result<bool, AllocError>
 {
     let tables = tables(alloc, module)?;
     let mut indices = exported_in(alloc, module, Space::Table)?;
-    put_elem_tables(alloc, &module.elems, &mut indices)?;
+    put_elem_tables(&module.elems, &mut indices)?;
     Ok(all_under(&indices, tables.len()))
 }
 
 #[tactic(auto, using(crate::proofs::RuleLemmas::listing))]
-fn put_elem_tables(alloc: Global, elems: &[Elem], out: &mut Vec<u32>) -> Result<(), AllocError>
+fn put_elem_tables(elems: &[Elem], out: &mut Vec<u32>) -> Result<(), AllocError>
     ensures { OnOk result (out.new.items ≡ out.old.items ++ map (λ (e : PlainElem). e.table) (map elem_of elems.now)) }
 {
     let [elem, rest @ ..] = elems else {
         return Ok(());
     };
     out.push(elem.table)?;
-    put_elem_tables(alloc, rest, out)
+    put_elem_tables(rest, out)
 }
 
 // Rule 4: the memories that data segments and exports name are there.
@@ -174,19 +174,19 @@ fn memories_exist(alloc: Global, module: &Module) -> Result<bool, AllocError>
 {
     let memories = memories(alloc, module)?;
     let mut indices = exported_in(alloc, module, Space::Memory)?;
-    put_memories(alloc, &module.segments, &mut indices)?;
+    put_memories(&module.segments, &mut indices)?;
     Ok(all_under(&indices, memories.len()))
 }
 
 #[tactic(auto, using(crate::proofs::RuleLemmas::listing))]
-fn put_memories(alloc: Global, segments: &[Segment], out: &mut Vec<u32>) -> Result<(), AllocError>
+fn put_memories(segments: &[Segment], out: &mut Vec<u32>) -> Result<(), AllocError>
     ensures { OnOk result (out.new.items ≡ out.old.items ++ map (λ (s : PlainSegment). s.memory) (map segment_of segments.now)) }
 {
     let [segment, rest @ ..] = segments else {
         return Ok(());
     };
     out.push(segment.memory)?;
-    put_memories(alloc, rest, out)
+    put_memories(rest, out)
 }
 
 /// What an initialiser or an offset is: one constant, one `global.get`, or other code.

@@ -30,7 +30,7 @@ pub fn slots(alloc: Global, module: &Module, func: &Func) -> Result<Vec<Pair>, A
 {
     let points = body_points(alloc, module, func)?;
     let mut pairs = Vec::new(alloc);
-    put_pairs(alloc, &points, 0, highest(&points), &mut pairs)?;
+    put_pairs(&points, 0, highest(&points), &mut pairs)?;
     Ok(pairs)
 }
 
@@ -71,7 +71,6 @@ pub fn body_call_points(
 // Appends the pairs of so many heights from one on.
 #[tactic(auto, using(crate::proofs::SlotLemmas::pairing))]
 fn put_pairs(
-    alloc: Global,
     points: &[Vec<ValType>],
     height: usize,
     left: usize,
@@ -84,20 +83,14 @@ fn put_pairs(
         return Ok(());
     }
     let small = stands(points, height, ValType::I32);
-    put_pair(alloc, small, height, ValType::I32, out)?;
+    put_pair(small, height, ValType::I32, out)?;
     let wide = stands(points, height, ValType::I64);
-    put_pair(alloc, wide, height, ValType::I64, out)?;
-    put_pairs(alloc, points, height + 1, left - 1, out)
+    put_pair(wide, height, ValType::I64, out)?;
+    put_pairs(points, height + 1, left - 1, out)
 }
 
 #[tactic(auto, using(crate::proofs::SlotLemmas::pushing))]
-fn put_pair(
-    _alloc: Global,
-    test: bool,
-    number: usize,
-    ty: ValType,
-    out: &mut Vec<Pair>,
-) -> Result<(), AllocError>
+fn put_pair(test: bool, number: usize, ty: ValType, out: &mut Vec<Pair>) -> Result<(), AllocError>
     ensures { OnOk result (pairs_of out.new.items ≡ pairs_of out.old.items ++ pair_onto test number ty []) }
 {
     if test {

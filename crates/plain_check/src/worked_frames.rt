@@ -5,7 +5,7 @@ use wa_types::{
     Func, FuncType, Import, ImportKind, Instr, Limits, Module, Name, NumOp, Run, ValType, Value,
 };
 
-// The type [i32] -> [i32], or [] -> [ty].
+// The type [i32] -> [i32].
 fn unary(alloc: Global) -> Result<FuncType, AllocError> {
     Ok(FuncType {
         params: vec![in alloc; ValType::I32]?,
@@ -13,6 +13,7 @@ fn unary(alloc: Global) -> Result<FuncType, AllocError> {
     })
 }
 
+// The type [] -> [ty].
 fn gives(alloc: Global, ty: ValType) -> Result<FuncType, AllocError> {
     Ok(FuncType {
         params: Vec::new(alloc),
