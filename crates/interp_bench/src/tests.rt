@@ -1,8 +1,9 @@
 //! Runs of small modules, from their bytes through `validate` and `Instance::make`, against values from outside.
 
-use crate::load::load;
+use crate::load::{LoadFault, load};
 use crate::runner::Runner;
 use interp::{MakeFault, Turn};
+use std::alloc::Global;
 use std::test::Fail;
 use wa_types::{Trap, Value};
 
@@ -53,6 +54,36 @@ const THROUGH_TABLE: &[u8] = b"\
 /// A memory of 1,025 pages.
 const LARGE: &[u8] = b"\
     \x00asm\x01\x00\x00\x00\x05\x04\x01\x00\x81\x08";
+
+/// A table of one element; the first element segment fits it, and the second lies at 1.
+const ELEMENTS_OUT: &[u8] = b"\
+    \x00asm\x01\x00\x00\x00\x01\x04\x01\x60\x00\x00\x03\x02\x01\x00\x04\x04\x01\x70\x00\x01\x09\x0d\x02\x00\
+    \x41\x00\x0b\x01\x00\x00\x41\x01\x0b\x01\x00\x0a\x04\x01\x02\x00\x0b";
+
+/// A memory of one page; the first data segment is its last byte, and the second has a byte more.
+const BYTES_OUT: &[u8] = b"\
+    \x00asm\x01\x00\x00\x00\x05\x03\x01\x00\x01\x0b\x12\x02\x00\x41\xff\xff\x03\x0b\x01\x2a\x00\x41\xff\xff\
+    \x03\x0b\x02\x2a\x2a";
+
+/// An element segment behind a table of one element, and a data segment behind a memory of one page.
+const BOTH_OUT: &[u8] = b"\
+    \x00asm\x01\x00\x00\x00\x01\x04\x01\x60\x00\x00\x03\x02\x01\x00\x04\x04\x01\x70\x00\x01\x05\x03\x01\x00\
+    \x01\x09\x07\x01\x00\x41\x01\x0b\x01\x00\x0a\x04\x01\x02\x00\x0b\x0b\x09\x01\x00\x41\x80\x80\x04\x0b\x01\
+    \x2a";
+
+/// A table of 100,001 elements.
+const LONG_TABLE: &[u8] = b"\
+    \x00asm\x01\x00\x00\x00\x04\x06\x01\x70\x00\xa1\x8d\x06";
+
+/// The same with a memory of 1,025 pages.
+const BOTH_LARGE: &[u8] = b"\
+    \x00asm\x01\x00\x00\x00\x04\x06\x01\x70\x00\xa1\x8d\x06\x05\x04\x01\x00\x81\x08";
+
+/// Why no instance of this module is made.
+fn fault_of(alloc: Global, bytes: &[u8]) -> Result<Option<MakeFault>, LoadFault> {
+    let valid = load(alloc, bytes)?;
+    Ok(Runner::new(alloc, &valid, 100).err())
+}
 
 fn is_returned(turn: &Turn, value: Option<Value>) -> bool {
     match turn {
@@ -183,10 +214,30 @@ fn traps_without_a_page(rt: HostRuntime) -> Result<(), Fail> {
 
 #[test]
 fn makes_no_instance_past_the_pages(rt: HostRuntime) -> Result<(), Fail> {
-    let valid = load(rt.alloc(), LARGE)?;
-    let fault = Runner::new(rt.alloc(), &valid, 100).err();
     let entries = false;
     let found = 1_025;
-    assert!(rt; fault == Some(MakeFault::HostLimit { entries, found }));
+    let limit = Some(MakeFault::HostLimit { entries, found });
+    assert!(rt; fault_of(rt.alloc(), LARGE)? == limit);
+    assert!(rt; fault_of(rt.alloc(), BOTH_LARGE)? == limit);
+    Ok(())
+}
+
+#[test]
+fn makes_no_instance_past_the_entries(rt: HostRuntime) -> Result<(), Fail> {
+    let entries = true;
+    let found = 100_001;
+    let limit = Some(MakeFault::HostLimit { entries, found });
+    assert!(rt; fault_of(rt.alloc(), LONG_TABLE)? == limit);
+    Ok(())
+}
+
+#[test]
+fn makes_no_instance_with_segments_out(rt: HostRuntime) -> Result<(), Fail> {
+    let elements = fault_of(rt.alloc(), ELEMENTS_OUT)?;
+    assert!(rt; elements == Some(MakeFault::ElementsOut(1)));
+    let bytes = fault_of(rt.alloc(), BYTES_OUT)?;
+    assert!(rt; bytes == Some(MakeFault::BytesOut(1)));
+    let both = fault_of(rt.alloc(), BOTH_OUT)?;
+    assert!(rt; both == Some(MakeFault::ElementsOut(0)));
     Ok(())
 }
