@@ -2,8 +2,9 @@
 # Times reading and validating: `asyncify transform` of valid modules that it refuses behind both as not yet built (status
 # 14), beside `wasm-opt` reading and writing the same file and `wasm-validate` (Debian's binaryen and wabt). Each shape is
 # made at an eighth, a quarter, half and the whole of its bound: a body of 1 MB, blocks nested 1,000 deep, 100,000
-# functions, as many small bodies of 50,000 locals each, and tables of 10,000 labels; and, for its growth alone, bodies
-# with a run for each of 50,000 locals. User time, the least of RUNS runs (5). SHAPES names the shapes to time.
+# functions, as many small bodies of 50,000 locals each, tables of 10,000 labels, and a body of 1 MB of calls with 1,000
+# parameters behind `unreachable`; and, for its growth alone, bodies with a run for each of 50,000 locals. User time, the
+# least of RUNS runs (5), of `wasm-opt` one. SHAPES names the shapes to time.
 # Fails where twice the size takes more than 2.6 times the time, and where 8 MB take more than half the time of `wasm-opt`
 # or of `wasm-validate`, whichever is less.
 . "$(dirname "$0")/common.sh"
@@ -29,8 +30,15 @@ def plain(size, local=b"\x20\x00"):
     piece = local + b"\x41\x2a\x6b\x1a"
     return piece * (size // len(piece))
 
+types = [b"\x60\x01\x7f\x01\x7f"]
+first = []
 if shape == "long":
     one = body(plain(part * 125_000))
+    count = 8 if eighths == "whole" else 1
+elif shape == "dead":
+    types.append(b"\x60" + unsigned(1_000) + b"\x7f" * 1_000 + b"\x00")
+    first = [(b"\x01", sized(b"\x00\x0b"))]
+    one = body(b"\x00" + b"\x10\x00" * (part * 62_500))
     count = 8 if eighths == "whole" else 1
 elif shape == "deep":
     one = body(b"\x02\x40" * (part * 125) + b"\x0b" * (part * 125))
@@ -47,16 +55,17 @@ elif shape == "runs":
 elif shape == "labels":
     one = body(b"\x02\x40\x20\x00\x0e" + unsigned(part * 1_250) + b"\x00" * (part * 1_250) + b"\x00\x0b")
     count = FILE // 10_020
-whole = module(section(1, [b"\x60\x01\x7f\x01\x7f"]), section(3, [b"\x00"] * count), section(10, [one] * count))
+funcs = first + [(b"\x00", one)] * count
+whole = module(section(1, types), section(3, [sort for sort, _ in funcs]), section(10, [code for _, code in funcs]))
 open(path, "wb").write(whole)
 PY
 }
 
 build_asyncify
-for shape in ${SHAPES:-long deep functions locals labels runs}; do
+for shape in ${SHAPES:-long dead deep functions locals labels runs}; do
     half=
     for part in 1 2 4 8 whole; do
-        [ "$part" = whole ] && [ "$shape" != long ] && continue
+        [ "$part" = whole ] && [[ "$shape" != long && "$shape" != dead ]] && continue
         make_module "$shape" "$part" "$temp/in.wasm"
         read -r time _ < <(measure 14 "$runs" "$asyncify" transform "$temp/in.wasm" "$temp/out.wasm")
         echo "$shape: $(stat -c %s "$temp/in.wasm") bytes in $time s"
