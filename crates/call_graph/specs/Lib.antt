@@ -1,0 +1,8 @@
+pub mod Callers
+pub mod Calls
+pub mod Entries
+pub mod Graph
+pub mod Index
+pub mod Lists
+pub mod Sample
+pub mod Settings

@@ -1,0 +1,24 @@
+use crate::lists::ImportList;
+
+/// Which function imports are listed: every one, none, or those that a list names.
+#[derive(Debug, Drop)]
+pub enum Choice {
+    Every,
+    Nobody,
+    Listed(ImportList),
+}
+
+/// Which locals a frame saves: all of them, or those that may still be read.
+#[derive(Clone, Copy, Debug, PartialEq, Eq)]
+pub enum Policy {
+    All,
+    Live,
+}
+
+/// How a module is rewritten: what may pause it, whether calls through the table count, and what frames save.
+#[derive(Debug, Drop)]
+pub struct Settings {
+    pub choice: Choice,
+    pub ignore_indirect: bool,
+    pub policy: Policy,
+}
