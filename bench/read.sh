@@ -45,7 +45,7 @@ for kind in many long deep labels; do
         bytes=$(stat -c %s "$temp/in.wasm")
         read -r time kilobytes < <(measure 14 "$runs" "$asyncify" transform "$temp/in.wasm" "$temp/out.wasm")
         echo "$kind: $bytes bytes in $time s, $((kilobytes * 1024 / bytes)) bytes of memory a byte"
-        [ -z "$before" ] || bar "$time <= 1.3 * $before * $bytes / $fewer + 0.004" "$kind: a byte takes 1.3 times the time of before"
+        [ -z "$before" ] || bar "$time <= 1.3 * $before * $bytes / $fewer + 0.02" "$kind: a byte takes 1.3 times the time of before"
         before=$time fewer=$bytes
     done
     if has_peer wasm-opt; then

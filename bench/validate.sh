@@ -70,7 +70,7 @@ for shape in ${SHAPES:-long dead deep functions locals labels runs}; do
         read -r time _ < <(measure 14 "$runs" "$asyncify" transform "$temp/in.wasm" "$temp/out.wasm")
         echo "$shape: $(stat -c %s "$temp/in.wasm") bytes in $time s"
         if [ "$part" != whole ] && [ -n "$half" ]; then
-            bar "$time <= 2.6 * $half + 0.004" "$shape: twice the size takes more than 2.6 times the time"
+            bar "$time <= 2.6 * $half + 0.02" "$shape: twice the size takes more than 2.6 times the time"
         fi
         half=$time
     done
