@@ -60,3 +60,24 @@ for _ in range(runs):
 print("%.3f %d" % (min(times), after.ru_maxrss))
 PY
 }
+
+# The median user seconds of two commands that run in turns, so that both meet the machine's changes of speed:
+# RUNS STATUS COMMAND [WORD ...] -- STATUS COMMAND [WORD ...]. Fails where one ends with another status.
+in_turns() {
+    python3 - "$@" <<'PY'
+import resource, statistics, subprocess, sys
+
+runs, words = int(sys.argv[1]), sys.argv[2:]
+cut = words.index("--")
+commands = [words[:cut], words[cut + 1:]]
+times = [[], []]
+for _ in range(runs):
+    for (status, *command), taken in zip(commands, times):
+        before = resource.getrusage(resource.RUSAGE_CHILDREN).ru_utime
+        ended = subprocess.run(command, stdout=subprocess.DEVNULL, stderr=subprocess.DEVNULL)
+        if ended.returncode != int(status):
+            sys.exit("%s ended with status %d" % (command[0], ended.returncode))
+        taken.append(resource.getrusage(resource.RUSAGE_CHILDREN).ru_utime - before)
+print("%.3f %.3f" % tuple(statistics.median(taken) for taken in times))
+PY
+}

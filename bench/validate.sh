@@ -4,7 +4,8 @@
 # made at an eighth, a quarter, half and the whole of its bound: a body of 1 MB, blocks nested 1,000 deep, 100,000
 # functions, as many small bodies of 50,000 locals each, tables of 10,000 labels, and a body of 1 MB of calls with 1,000
 # parameters behind `unreachable`; and, for its growth alone, bodies with a run for each of 50,000 locals. User time, the
-# least of RUNS runs (5), of `wasm-opt` one. SHAPES names the shapes to time.
+# least of RUNS runs (5), of `wasm-opt` one; beside `wasm-validate` the median of RUNS runs of both in turns. SHAPES names
+# the shapes to time.
 # Fails where twice the size takes more than 2.6 times the time, and where 8 MB take more than half the time of `wasm-opt`
 # or of `wasm-validate`, whichever is less.
 . "$(dirname "$0")/common.sh"
@@ -82,9 +83,10 @@ for shape in ${SHAPES:-long dead deep functions locals labels runs}; do
         [ "$opt" = none ] || bar "$time <= $opt / 2 + 0.004" "$shape: past half of wasm-opt's time"
     fi
     if has_peer wasm-validate; then
-        read -r valid _ < <(measure 0 "$runs" wasm-validate "$temp/in.wasm")
-        echo "$shape: wasm-validate $valid s"
-        bar "$time <= $valid / 2 + 0.004" "$shape: past half of wasm-validate's time"
+        read -r ours valid < <(in_turns "$runs" 14 "$asyncify" transform "$temp/in.wasm" "$temp/out.wasm" -- \
+            0 wasm-validate "$temp/in.wasm")
+        echo "$shape: $ours s in turns with wasm-validate, $valid s"
+        bar "$ours <= $valid / 2 + 0.004" "$shape: past half of wasm-validate's time"
     fi
 done
 exit $failed
