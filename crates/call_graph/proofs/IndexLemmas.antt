@@ -1,5 +1,5 @@
 -- What an index of listed names has, one entry more.
-use Rattle.std.proofs.Common.{◌≡◌, ℕ, List, [], ◌∷◌, ◌++◌, Option, Some, None, Bool, true, false, ◌||◌, nat_eq, if◌then◌else◌, refl, sym, ap, ◌∙◌}
+use Rattle.std.proofs.Common.{◌≡◌, ℕ, List, [], ◌∷◌, ◌++◌, Option, Some, None, Bool, true, false, ◌||◌, nat_eq, refl, sym, ap, ◌∙◌}
 use Rattle.std.specs.List.{list_any, starts_with}
 use Rattle.std.specs.Option.{is_some}
 use Rattle.std.specs.Cmp.Lexicographic.{pointwise, bytes_decides}
@@ -9,11 +9,9 @@ use Rattle.std.proofs.lemmas.List.Folds.{list_any-append}
 use Rattle.wa_types.specs.declared.syntax.Import.{Import}
 use Rattle.wa_types.specs.Modules.{imported_func}
 use Rattle.wa_types.specs.Pausing.{Choice, beginning, exactly, names, is_listed, listed_import, joined_name}
+use Rattle.std.specs.BTreeSet.{insert_key}
+use Rattle.wasm_validate.proofs.OrderedNames.{by_name, any_named, one_more}
 use Rattle.call_graph.proofs.ListLemmas.{names_exact}
-
--- one of the texts is the name
-abbrev pub any_is : List (Bor (List ℕ)) → List ℕ → Bool
-any_is keys name = list_any (λ (k : Bor (List ℕ)). pointwise nat_eq name k.now) keys
 
 -- the name begins with one of the texts
 abbrev pub any_begins : List (Bor (List ℕ)) → List ℕ → Bool
@@ -38,28 +36,16 @@ same_exact text name =
     same_from_decides {P = text ≡ name} (pointwise nat_eq name text) (names (exactly text) name) (λ h. sym ((bytes_decides name text).0 h), λ e. (bytes_decides name text).1 (sym e)) (names_exact text name)
 
 -- one beginning more
-pub one_beginning : (keys texts new : List (Bor (List ℕ))) (t : Bor (List ℕ)) (text name : List ℕ) → new ≡ texts ++ t ∷ [] → t.now ≡ text → (any_is keys name || any_begins new name) ≡ ((any_is keys name || any_begins texts name) || names (beginning text) name)
+pub one_beginning : (keys texts new : List (Bor (List ℕ))) (t : Bor (List ℕ)) (text name : List ℕ) → new ≡ texts ++ t ∷ [] → t.now ≡ text → (any_named name keys || any_begins new name) ≡ ((any_named name keys || any_begins texts name) || names (beginning text) name)
 one_beginning keys texts new t text name e is =
-    ap (λ b. any_is keys name || b) (ap (λ l. any_begins l name) e ∙ list_any-append (λ (b : Bor (List ℕ)). starts_with nat_eq name b.now) texts (t ∷ []) ∙ ap (λ b. any_begins texts name || b) (or_false (starts_with nat_eq name t.now) ∙ ap (starts_with nat_eq name) is))
-    ∙ sym (or_assoc (any_is keys name) (any_begins texts name) (names (beginning text) name))
-
-already : (keys : List (Bor (List ℕ))) (t name : List ℕ) → any_is keys t ≡ true → (any_is keys name || pointwise nat_eq name t) ≡ any_is keys name
-already keys t name h = by_same (pointwise nat_eq name t) refl
-  where
-    by_same : (b : Bool) → pointwise nat_eq name t ≡ b → (any_is keys name || b) ≡ any_is keys name
-    by_same true e = let s : any_is keys name ≡ true = ap (any_is keys) ((bytes_decides name t).0 e) ∙ h in rw s refl
-    by_same false e = or_false (any_is keys name)
-
-keys_more : (keys new : List (Bor (List ℕ))) (t : Bor (List ℕ)) (name : List ℕ) (b : Bool) → any_is keys t.now ≡ b → new ≡ (if b then keys else keys ++ t ∷ []) → any_is new name ≡ (any_is keys name || pointwise nat_eq name t.now)
-keys_more keys new t name true h e = ap (λ l. any_is l name) e ∙ sym (already keys t.now name h)
-keys_more keys new t name false h e =
-    ap (λ l. any_is l name) e ∙ list_any-append (λ (k : Bor (List ℕ)). pointwise nat_eq name k.now) keys (t ∷ []) ∙ ap (λ b. any_is keys name || b) (or_false (pointwise nat_eq name t.now))
+    ap (λ b. any_named name keys || b) (ap (λ l. any_begins l name) e ∙ list_any-append (λ (b : Bor (List ℕ)). starts_with nat_eq name b.now) texts (t ∷ []) ∙ ap (λ b. any_begins texts name || b) (or_false (starts_with nat_eq name t.now) ∙ ap (starts_with nat_eq name) is))
+    ∙ sym (or_assoc (any_named name keys) (any_begins texts name) (names (beginning text) name))
 
 -- one name more
-pub one_name : (keys new texts : List (Bor (List ℕ))) (t : Bor (List ℕ)) (text name : List ℕ) → new ≡ (if any_is keys t.now then keys else keys ++ t ∷ []) → t.now ≡ text → (any_is new name || any_begins texts name) ≡ ((any_is keys name || any_begins texts name) || names (exactly text) name)
+pub one_name : (keys new texts : List (Bor (List ℕ))) (t : Bor (List ℕ)) (text name : List ℕ) → new ≡ insert_key by_name keys t → t.now ≡ text → (any_named name new || any_begins texts name) ≡ ((any_named name keys || any_begins texts name) || names (exactly text) name)
 one_name keys new texts t text name e is =
-    ap (λ b. b || any_begins texts name) (keys_more keys new t name (any_is keys t.now) refl e ∙ ap (λ b. any_is keys name || b) (ap (pointwise nat_eq name) is ∙ same_exact text name))
-    ∙ or_swap (any_is keys name) (any_begins texts name) (names (exactly text) name)
+    ap (λ b. b || any_begins texts name) (ap (any_named name) e ∙ one_more name t keys ∙ ap (λ b. any_named name keys || b) (ap (pointwise nat_eq name) is ∙ same_exact text name))
+    ∙ or_swap (any_named name keys) (any_begins texts name) (names (exactly text) name)
 
 pub marked : (choice : Choice) (i : Import) (b : Bool) → is_some (imported_func i.kind) ≡ true → b ≡ is_listed choice (joined_name i) → Some b ≡ listed_import choice i (imported_func i.kind)
 marked choice i b h e = by_kind (imported_func i.kind) h
@@ -74,6 +60,9 @@ unmarked choice i h = by_kind (imported_func i.kind) h
     by_kind : (o : Option ℕ) → is_some o ≡ false → None ≡ listed_import choice i o
     by_kind None h = refl
     by_kind (Some sort) h = absurd (cc)
+
+pub or_first : (a b : Bool) → a ≡ true → true ≡ (a || b)
+or_first a b e = ap (λ c. c || b) (sym e)
 
 pub or_second : (a b r : Bool) → a ≡ false → r ≡ b → r ≡ (a || b)
 or_second a b r e f = f ∙ ap (λ c. c || b) (sym e)

@@ -10,15 +10,15 @@ ghost use Rattle.wa_types.specs.View.{module_of};
 
 use crate::lists::{Entry, ImportList};
 use crate::settings::{Choice, Settings};
-use indexmap::IndexSet;
 use std::alloc::{AllocError, Global};
+use std::collections::BTreeSet;
 use wa_types::{Import, ImportKind};
 use wasm_validate::Valid;
 
-/// Listed names, to be looked up.
+/// Listed names, to be looked up: whole ones in order, so that whoever chooses them can't make a look-up slow.
 #[derive(Drop)]
 pub(crate) struct Index<'a> {
-    names: IndexSet<&'a str>,
+    names: BTreeSet<&'a str>,
     beginnings: Vec<&'a str>,
 }
 
@@ -37,7 +37,7 @@ impl<'a> Index<'a> {
         ensures { (name : List ℕ) → indexed result name ≡ false }
     {
         Index {
-            names: IndexSet::new(alloc),
+            names: BTreeSet::new(alloc),
             beginnings: Vec::new(alloc),
         }
     }
@@ -46,7 +46,7 @@ impl<'a> Index<'a> {
     fn every(alloc: Global) -> Result<Index<'a>, AllocError>
         ensures { IfOk result (λ index. (name : List ℕ) → indexed index name ≡ true) }
     {
-        let names = IndexSet::new(alloc);
+        let names = BTreeSet::new(alloc);
         let mut beginnings = Vec::new(alloc);
         beginnings.push("")?;
         Ok(Index { names, beginnings })

@@ -5,6 +5,7 @@ pub mod ExpressionLemmas
 pub mod FuncLemmas
 pub mod Lists
 pub mod NameLemmas
+pub mod OrderedNames
 pub mod OutsideLemmas
 pub mod Right
 pub mod SmallLemmas

@@ -1,9 +1,13 @@
--- Names that differ, one more at the end.
-use Rattle.std.proofs.Common.{arith, ◌≡◌, ℕ, ◌++◌, List, [], ◌∷◌, refl, sym, ◌∙◌, ap, Bool, true, false, not, ◌&&◌, ◌||◌, nat_eq, map, if◌then◌else◌, ◌+◌, ◌<◌, length, get_or, take, drop}
+-- Names that differ, one more at the end; names kept in order.
+use Rattle.std.proofs.Common.{arith, ◌≡◌, ℕ, ◌++◌, List, [], ◌∷◌, refl, sym, ◌∙◌, ap, Bool, true, false, not, ◌&&◌, ◌||◌, nat_eq, map, ◌+◌, ◌<◌, length, get_or, take, drop}
 use Rattle.std.proofs.lemmas.List.{map_more, map-append, take-append-drop}
 use Rattle.wa_types.specs.declared.syntax.Export.{Export}
 use Rattle.std.specs.List.{list_any}
 use Rattle.std.specs.Cmp.Lexicographic.{pointwise}
+use Rattle.std.specs.BTreeMap.{is_at}
+use Rattle.std.specs.BTreeSet.{insert_key}
+use Rattle.std.specs.Borrow.{Bor}
+use Rattle.wasm_validate.proofs.OrderedNames.{by_name, any_named, found, one_more}
 use Rattle.std.proofs.lemmas.List.Folds.{list_any-append}
 use Rattle.std.proofs.lemmas.Bool.Decides.{nat_tests}
 use Rattle.wa_types.specs.Validity.{same_name, all_differ}
@@ -52,42 +56,54 @@ differ_less [] ys h = absurd (cc)
 differ_less (x ∷ xs) ys h =
     rw (list_any-append (same_name x) xs ys) (more_false (list_any (same_name x) xs) (list_any (same_name x) ys) (all_differ xs) (all_differ (xs ++ ys)) (differ_less xs ys) h)
 
--- what a test finds among what is behind references
-pub any_behind : {X : Type 0} (now : X → List ℕ) (name : List ℕ) (xs : List X) → list_any (λ x. pointwise nat_eq name (now x)) xs ≡ list_any (same_name name) (map now xs)
-any_behind now name [] = refl
-any_behind now name (x ∷ xs) = rw (same-pointwise name (now x), any_behind now name xs) refl
+abbrev behind : List (Bor (List ℕ)) → List (List ℕ)
+behind keys = map (λ k. k.now) keys
 
-not_true : (b : Bool) → not b ≡ true → b ≡ false
-not_true true h = absurd (cc)
-not_true false h = refl
+any_behind : (name : List ℕ) (keys : List (Bor (List ℕ))) → any_named name keys ≡ list_any (same_name name) (behind keys)
+any_behind name [] = refl
+any_behind name (k ∷ ks) = rw (same-pointwise name k.now, any_behind name ks) refl
 
-module _ {X : Type 0} (now : X → List ℕ) (v : X) (keys : List X) (es : List Export) (i : ℕ) (e : Export) (fresh : Bool)
-    (added : fresh ≡ not (list_any (λ k. pointwise nat_eq (now v) (now k)) keys)) (seen : map now keys ≡ map (λ (x : Export). x.name) (take i es)) (here : now v ≡ e.name) (lt : i < length es) (is : e ≡ get_or es i e) where
-  any_is : list_any (λ k. pointwise nat_eq (now v) (now k)) keys ≡ list_any (same_name e.name) (map (λ (x : Export). x.name) (take i es))
-  any_is = any_behind now (now v) keys ∙ ap (λ n. list_any (same_name n) (map now keys)) here ∙ ap (list_any (same_name e.name)) seen
+or_false : (b : Bool) → (b || false) ≡ b
+or_false true = refl
+or_false false = refl
 
-  longer : map (λ (x : Export). x.name) (take (i + 1) es) ≡ map (λ (x : Export). x.name) (take i es) ++ e.name ∷ []
-  longer = map_more (λ (x : Export). x.name) es i e lt ∙ ap (λ (x : Export). map (λ (y : Export). y.name) (take i es) ++ x.name ∷ []) (sym is)
+-- the names of the exports
+abbrev names_of : List Export → List (List ℕ)
+names_of es = map (λ (x : Export). x.name) es
 
-  differ_is : all_differ (map (λ (x : Export). x.name) (take (i + 1) es)) ≡ (all_differ (map (λ (x : Export). x.name) (take i es)) && fresh)
+module _ (v : Bor (List ℕ)) (keys : List (Bor (List ℕ))) (es : List Export) (i : ℕ) (e : Export) (fresh : Bool)
+    (added : fresh ≡ not (list_any (is_at (by_name v)) keys))
+    (seen : (name : List ℕ) → list_any (same_name name) (behind keys) ≡ list_any (same_name name) (names_of (take i es))) (here : v.now ≡ e.name) (lt : i < length es) (is : e ≡ get_or es i e) where
+  any_is : list_any (is_at (by_name v)) keys ≡ list_any (same_name e.name) (names_of (take i es))
+  any_is = found v.now keys ∙ any_behind v.now keys ∙ ap (λ n. list_any (same_name n) (behind keys)) here ∙ seen e.name
+
+  longer : names_of (take (i + 1) es) ≡ names_of (take i es) ++ e.name ∷ []
+  longer = map_more (λ (x : Export). x.name) es i e lt ∙ ap (λ (x : Export). names_of (take i es) ++ x.name ∷ []) (sym is)
+
+  differ_is : all_differ (names_of (take (i + 1) es)) ≡ (all_differ (names_of (take i es)) && fresh)
   differ_is =
-      ap all_differ longer ∙ differ_push (map (λ (x : Export). x.name) (take i es)) e.name
-      ∙ ap (λ b. all_differ (map (λ (x : Export). x.name) (take i es)) && not b) (sym any_is)
-      ∙ ap (λ b. all_differ (map (λ (x : Export). x.name) (take i es)) && b) (sym added)
+      ap all_differ longer ∙ differ_push (names_of (take i es)) e.name
+      ∙ ap (λ b. all_differ (names_of (take i es)) && not b) (sym any_is)
+      ∙ ap (λ b. all_differ (names_of (take i es)) && b) (sym added)
 
   -- a name that is there already
-  pub again : fresh ≡ false → all_differ (map (λ (x : Export). x.name) (take i es)) ≡ true → false ≡ all_differ (map (λ (x : Export). x.name) es)
+  pub again : fresh ≡ false → all_differ (names_of (take i es)) ≡ true → false ≡ all_differ (names_of es)
   again f d =
-      let less : all_differ (map (λ (x : Export). x.name) (take (i + 1) es)) ≡ false = differ_is ∙ rw (d, f) refl in
-      let whole : map (λ (x : Export). x.name) (take (i + 1) es) ++ map (λ (x : Export). x.name) (drop (i + 1) es) ≡ map (λ (x : Export). x.name) es = sym (map-append (λ (x : Export). x.name) (take (i + 1) es) (drop (i + 1) es)) ∙ ap (map (λ (x : Export). x.name)) (take-append-drop (i + 1) es) in
-      sym (ap all_differ (sym whole) ∙ differ_less (map (λ (x : Export). x.name) (take (i + 1) es)) (map (λ (x : Export). x.name) (drop (i + 1) es)) less)
+      let less : all_differ (names_of (take (i + 1) es)) ≡ false = differ_is ∙ rw (d, f) refl in
+      let whole : names_of (take (i + 1) es) ++ names_of (drop (i + 1) es) ≡ names_of es = sym (map-append (λ (x : Export). x.name) (take (i + 1) es) (drop (i + 1) es)) ∙ ap names_of (take-append-drop (i + 1) es) in
+      sym (ap all_differ (sym whole) ∙ differ_less (names_of (take (i + 1) es)) (names_of (drop (i + 1) es)) less)
 
   -- a new name
-  pub still : fresh ≡ true → all_differ (map (λ (x : Export). x.name) (take i es)) ≡ true → all_differ (map (λ (x : Export). x.name) (take (i + 1) es)) ≡ true
+  pub still : fresh ≡ true → all_differ (names_of (take i es)) ≡ true → all_differ (names_of (take (i + 1) es)) ≡ true
   still f d = differ_is ∙ rw (d, f) refl
 
-  pub kept : fresh ≡ true → (news : List X) → news ≡ (if list_any (λ k. pointwise nat_eq (now v) (now k)) keys then keys else keys ++ v ∷ []) → map now news ≡ map (λ (x : Export). x.name) (take (i + 1) es)
-  kept f news n =
-      let none : list_any (λ k. pointwise nat_eq (now v) (now k)) keys ≡ false = not_true (list_any (λ k. pointwise nat_eq (now v) (now k)) keys) (sym added ∙ f) in
-      let m : news ≡ keys ++ v ∷ [] = n ∙ rw none refl in
-      ap (map now) m ∙ map-append now keys (v ∷ []) ∙ rw (seen, here, longer) refl
+  any_one : (name n : List ℕ) → list_any (same_name name) (n ∷ []) ≡ same_name name n
+  any_one name n = or_false (same_name name n)
+
+  pub kept : (news : List (Bor (List ℕ))) → news ≡ insert_key by_name keys v
+      → (name : List ℕ) → list_any (same_name name) (behind news) ≡ list_any (same_name name) (names_of (take (i + 1) es))
+  kept news n name =
+      ap (λ ks. list_any (same_name name) (behind ks)) n ∙ sym (any_behind name (insert_key by_name keys v)) ∙ one_more name v keys
+      ∙ ap (λ b. b || pointwise nat_eq name v.now) (any_behind name keys ∙ seen name) ∙ ap (λ b. list_any (same_name name) (names_of (take i es)) || b) (sym (same-pointwise name v.now)) ∙ ap (λ x. list_any (same_name name) (names_of (take i es)) || same_name name x) here
+      ∙ ap (λ b. list_any (same_name name) (names_of (take i es)) || b) (sym (any_one name e.name))
+      ∙ sym (list_any-append (same_name name) (names_of (take i es)) (e.name ∷ [])) ∙ ap (list_any (same_name name)) (sym longer)

@@ -1,4 +1,4 @@
-use Rattle.std.proofs.Common.{arith, ◌≡◌, ◌<◌, ◌≤◌, reverse, take, length, ap, sym, ◌∙◌}
+use Rattle.std.proofs.Common.{arith, ◌<◌, reverse, take, length, ap, sym, ◌∙◌}
 use Rattle.std.proofs.lemmas.List.{length-reverse, length-take-le}
 use Rattle.wasm_validate.specs.Stack.{known, popped}
 use Rattle.wasm_validate.proofs.Lists.{pops_none}
