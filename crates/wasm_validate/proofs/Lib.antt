@@ -7,7 +7,6 @@ pub mod Lists
 pub mod NameLemmas
 pub mod OutsideLemmas
 pub mod Right
-pub mod SmallLemmas
 pub mod SpaceLemmas
 pub mod Trees
 pub mod WalkUses
