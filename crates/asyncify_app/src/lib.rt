@@ -20,6 +20,3 @@ mod words;
 
 pub use command::asyncify;
 pub use small::is_small;
-
-#[cfg(test)]
-mod tests;

@@ -5,5 +5,4 @@ pub mod GraphLemmas
 pub mod IndexLemmas
 pub mod ListLemmas
 pub mod ParseLemmas
-pub mod SampleLemmas
 pub mod SpreadLemmas

@@ -4,5 +4,4 @@ pub mod Entries
 pub mod Graph
 pub mod Index
 pub mod Lists
-pub mod Sample
 pub mod Settings

@@ -27,6 +27,3 @@ pub use imports::listed_imports;
 pub use lists::{ImportList, ListFault};
 pub use pausing::may_pause;
 pub use settings::{Choice, Policy, Settings};
-
-#[cfg(test)]
-mod tests;

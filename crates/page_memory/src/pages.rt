@@ -160,6 +160,3 @@ impl Pages {
         self.bytes[at..].first_chunk()
     }
 }
-
-#[cfg(test)]
-mod tests;

@@ -42,6 +42,3 @@ pub use sink::{Sink, SinkFail};
 pub use sure_vault::{NamedFile, SureVault};
 pub use vault::{Vault, VaultFail};
 pub use whole::{FetchFault, PutFault, SaveFault, fetch_whole, put_whole, save_whole};
-
-#[cfg(test)]
-mod tests;

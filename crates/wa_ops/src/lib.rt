@@ -17,8 +17,6 @@ ghost use Rattle.wa_ops.specs.Operate.{operate, class_of};
 mod class;
 mod loads;
 mod narrow;
-#[cfg(test)]
-mod tests;
 mod wide;
 
 pub use class::OperatorClass;

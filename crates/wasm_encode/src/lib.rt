@@ -74,6 +74,3 @@ pub fn encode(alloc: Global, module: &Module) -> Result<BytesMut, EncodeFault>
     put_module(&mut out, module)?;
     Ok(out)
 }
-
-#[cfg(test)]
-mod tests;

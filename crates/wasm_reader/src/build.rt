@@ -88,6 +88,3 @@ pub(crate) fn build(alloc: Global, bytes: &[u8]) -> Result<Module, BuildFault>
     }
     Ok(sections.into_module())
 }
-
-#[cfg(test)]
-mod tests;

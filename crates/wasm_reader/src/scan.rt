@@ -2,8 +2,6 @@
 mod code;
 mod entries;
 mod skips;
-#[cfg(test)]
-mod tests;
 
 ghost use Rattle.std.specs.Prelude.{◌≡◌, ℕ, ◌<◌, ◌^◌, List, length, IfOk};
 ghost use Rattle.wa_types.specs.Binary.{Section, section_id};

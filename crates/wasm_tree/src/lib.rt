@@ -13,39 +13,3 @@ mod pruning;
 
 pub use measures::{count, depth};
 pub use pruning::prune;
-
-#[cfg(test)]
-mod tests {
-    use super::*;
-    use std::alloc::AllocError;
-    use wa_types::{Instr, Value};
-
-    #[test]
-    fn prunes_each_sequence(rt: HostRuntime) -> Result<(), AllocError> {
-        let alloc = rt.alloc();
-        let inner = vec![in alloc; Instr::Nop, Instr::Return, Instr::Const(Value::I32(7))]?;
-        let arm = vec![in alloc;
-            Instr::BrTable {
-                labels: vec![in alloc; 0]?,
-                last: 1
-            },
-            Instr::Drop,
-        ]?;
-        let body = vec![in alloc;
-            Instr::If {
-                result: None,
-                then_arm: inner,
-                else_arm: arm
-            },
-            Instr::BrIf(0),
-            Instr::Unreachable,
-            Instr::Nop,
-        ]?;
-        let kept = prune(alloc, &body)?;
-        let text = format!(in alloc; "{kept:?}")?;
-        let want =
-            "[If { result: None, then_arm: [Nop, Return], else_arm: [BrTable { labels: [0], last: 1 }] }, BrIf(0), Unreachable]";
-        assert_eq!(rt; text.as_str(), want);
-        Ok(())
-    }
-}

@@ -8,7 +8,6 @@ pub mod NameLemmas
 pub mod OrderedNames
 pub mod OutsideLemmas
 pub mod Right
-pub mod SmallLemmas
 pub mod SpaceLemmas
 pub mod Trees
 pub mod WalkUses

@@ -2,7 +2,6 @@ pub mod Judging
 pub mod Laws
 pub mod Outside
 pub mod Running
-pub mod Small
 pub mod Spaces
 pub mod Stack
 pub mod Table

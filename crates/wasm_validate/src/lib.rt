@@ -26,6 +26,3 @@ mod walk;
 
 pub use valid::{Valid, ValidateFault, validate};
 pub use walk::Typing;
-
-#[cfg(test)]
-mod tests;

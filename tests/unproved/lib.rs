@@ -1,0 +1,35 @@
+//! The public calls that no command reaches, or not at this edge, with values from outside: each allocating call with
+//! ample memory, worked numbers and operators, files and outputs that fail in the middle. `tests/run` runs it; nothing
+//! here is proved.
+#![tactic(auto)]
+
+#[cfg(test)]
+mod building;
+#[cfg(test)]
+mod commands;
+#[cfg(test)]
+mod limits;
+#[cfg(test)]
+mod modules;
+#[cfg(test)]
+mod numbers;
+#[cfg(test)]
+mod operators;
+#[cfg(test)]
+mod pages;
+#[cfg(test)]
+mod pausing;
+#[cfg(test)]
+mod running;
+#[cfg(test)]
+mod runtime;
+#[cfg(test)]
+mod texts;
+#[cfg(test)]
+mod trees;
+#[cfg(test)]
+mod validating;
+#[cfg(test)]
+mod vaults;
+#[cfg(test)]
+mod writing;
