@@ -82,10 +82,11 @@ fn grows_up_to_the_declared_maximum(rt: HostRuntime) -> Result<(), Fail> {
 
 #[test]
 fn grows_up_to_1024_pages(rt: HostRuntime) -> Result<(), Fail> {
-    let mut memory = Pages::new(rt.alloc(), 1_023, Some(65_536))?;
-    assert_eq!(rt; memory.grow(2)?, None);
-    assert_eq!(rt; memory.grow(1)?, Some(1_023));
-    assert_eq!(rt; memory.bytes().len(), 67_108_864);
-    assert_eq!(rt; memory.grow(1)?, None);
+    let mut memory = Pages::new(rt.alloc(), 1, Some(65_536))?;
+    assert_eq!(rt; memory.grow(1_024)?, None);
+    assert_eq!(rt; memory.size(), 1);
+    assert_eq!(rt; memory.grow(1)?, Some(1));
+    assert_eq!(rt; memory.grow(1_023)?, None);
+    assert_eq!(rt; memory.bytes().len(), 131_072);
     Ok(())
 }
