@@ -1,0 +1,3 @@
+pub mod NotEach
+pub mod StandingPauses
+pub mod StandingSteps
