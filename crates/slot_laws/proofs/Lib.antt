@@ -1,0 +1,4 @@
+pub mod Closed
+pub mod Order
+pub mod Results
+pub mod SavedOperands
