@@ -40,12 +40,12 @@ pairs_ascend test n (suc k) =
     let behind = λ (t : ValType). All-weaker (FromNumber (suc n)) (Precedes (record { number = n; ty = t })) (λ p h. inl (omega (arith, h))) rest (numbers_from test (suc n) k) in
     onto_ascends (test n I32) n I32 (pair_onto (test n I64) n I64 rest) (onto_precedes (test n I64) n rest (behind I32)) (onto_ascends (test n I64) n I64 rest (behind I64) (pairs_ascend test (suc n) k))
 
-all_there : {X : Type 0} (P : X → Type 0) (xs : List X) (i : ℕ) (x : X) → All P xs → slice_get xs i ≡ Some x → P x
+pub all_there : {X : Type 0} (P : X → Type 0) (xs : List X) (i : ℕ) (x : X) → All P xs → slice_get xs i ≡ Some x → P x
 all_there P [] i x h e = cc
 all_there P (y ∷ xs) zero x h e = let f : y ≡ x = cc in subst P f (All-head P y xs h)
 all_there P (y ∷ xs) (suc i) x h e = all_there P xs i x (All-tail P y xs h) e
 
-never_itself : (p : Pair) → Precedes p p → ⊥
+pub never_itself : (p : Pair) → Precedes p p → ⊥
 never_itself p (inl lt) = omega (arith, lt)
 never_itself p (inr (same, narrow, wide)) = let z : I32 ≡ I64 = sym narrow ∙ wide in cc
 

@@ -16,33 +16,33 @@ use Rattle.slot_laws.proofs.Order.{pairs_ascend, stand_once}
 use Rattle.wa_types.specs.Frames.{stands_at, greatest}
 use Rattle.wa_types.specs.Points.{func_points}
 
-any_either : (test : Pair → Bool) (xs ys : List Pair) → list_any test (xs ++ ys) ≡ true → (list_any test xs ≡ true) ⊎ (list_any test ys ≡ true)
+pub any_either : (test : Pair → Bool) (xs ys : List Pair) → list_any test (xs ++ ys) ≡ true → (list_any test xs ≡ true) ⊎ (list_any test ys ≡ true)
 any_either test [] ys e = inr e
 any_either test (x ∷ xs) ys e = elim (either_true (test x) (list_any test (xs ++ ys)) e) [
   | inl h ↦ inl (or_left (test x) (list_any test xs) h)
   | inr h ↦ elim (any_either test xs ys h) [ inl k ↦ inl (or_right (test x) (list_any test xs) k) | inr k ↦ inr k ]
 ]
 
-any_left : (test : Pair → Bool) (xs ys : List Pair) → list_any test xs ≡ true → list_any test (xs ++ ys) ≡ true
+pub any_left : (test : Pair → Bool) (xs ys : List Pair) → list_any test xs ≡ true → list_any test (xs ++ ys) ≡ true
 any_left test [] ys e = cc
 any_left test (x ∷ xs) ys e = elim (either_true (test x) (list_any test xs) e) [
   | inl h ↦ or_left (test x) (list_any test (xs ++ ys)) h
   | inr h ↦ or_right (test x) (list_any test (xs ++ ys)) (any_left test xs ys h)
 ]
 
-any_right : (test : Pair → Bool) (xs ys : List Pair) → list_any test ys ≡ true → list_any test (xs ++ ys) ≡ true
+pub any_right : (test : Pair → Bool) (xs ys : List Pair) → list_any test ys ≡ true → list_any test (xs ++ ys) ≡ true
 any_right test [] ys e = e
 any_right test (x ∷ xs) ys e = or_right (test x) (list_any test (xs ++ ys)) (any_right test xs ys e)
 
 -- a result of a construct at a depth
-pair_is : (n d : ℕ) (t : ValType) (r : Option ValType) → list_any (same_pair d t) (pair_of n r) ≡ true → (d ≡ n) × (r ≡ Some t)
+pub pair_is : (n d : ℕ) (t : ValType) (r : Option ValType) → list_any (same_pair d t) (pair_of n r) ≡ true → (d ≡ n) × (r ≡ Some t)
 pair_is n d t None e = cc
 pair_is n d t (Some u) e = elim (either_true (same_pair d t (record { number = n; ty = u })) false e) [
   | inl h ↦ let w = own_pair d n t u h in (w.0, ap Some (sym w.1))
   | inr h ↦ cc
 ]
 
-is_pair : (n d : ℕ) (t : ValType) (r : Option ValType) → d ≡ n → r ≡ Some t → list_any (same_pair d t) (pair_of n r) ≡ true
+pub is_pair : (n d : ℕ) (t : ValType) (r : Option ValType) → d ≡ n → r ≡ Some t → list_any (same_pair d t) (pair_of n r) ≡ true
 is_pair n d t r e f =
     let own : list_any (same_pair d t) (pair_of d (Some t)) ≡ true = or_left (same_pair d t (record { number = d; ty = t })) false (and_both (nat_eq d d) (same_type t t) (eq-eqb d d refl) (same_self t)) in
     ap (λ k. list_any (same_pair d t) (pair_of k r)) (sym e) ∙ ap (λ o. list_any (same_pair d t) (pair_of d o)) f ∙ own

@@ -1,14 +1,17 @@
--- Laws of slots and result locals: their order, what they are, and which slots a frame saves.
-use Rattle.std.specs.Prelude.{◌≡◌, ◌↔◌, ◌⊎◌, ◌≤◌, ◌<◌, ◌+◌, ℕ, suc, List, [], ◌∷◌, length, reverse, Some, All, true, slice_get}
+-- Laws of slots and result locals: their order, what they are, how many, and which slots a frame saves.
+use Rattle.std.specs.Prelude.{◌≡◌, ◌↔◌, ◌⊎◌, ◌≤◌, ◌<◌, ◌+◌, ◌^◌, ℕ, suc, List, [], ◌∷◌, length, reverse, Some, All, true, slice_get}
 use Rattle.std.specs.List.{list_any}
 use Rattle.wa_types.specs.declared.values.ValType.{ValType}
 use Rattle.wa_types.specs.declared.values.ValType.TheVariants.{I32, I64}
 use Rattle.wa_types.specs.Syntax.{a_block, a_loop, Code, done, plain, nest, branch, Func, Module}
 use Rattle.wa_types.specs.Pruned.{pruned}
 use Rattle.wa_types.specs.Modules.{around, locals_of}
+use Rattle.wa_types.specs.Counts.{count_of}
+use Rattle.wa_types.specs.Validity.{Valid}
+use Rattle.wa_types.specs.Sizes.{StrictSizeRule}
 use Rattle.wa_types.specs.Pausing.{Policy}
 use Rattle.wa_types.specs.Points.{func_call_points}
-use Rattle.wa_types.specs.Frames.{Pair, same_pair, SlotPairs, ResultPairs, Place, Saved}
+use Rattle.wa_types.specs.Frames.{Pair, same_pair, SlotPairs, ResultPairs, Count, Place, Saved}
 
 -- ---- order
 
@@ -56,6 +59,18 @@ ResultPair m f d t = ((d ≡ 0) × ((around m f).result ≡ Some t)) ⊎ ResultI
 -- The result locals of a function are these pairs.
 abbrev pub ResultsArePairs : Type 0
 ResultsArePairs = (m : Module) (f : Func) (d : ℕ) (t : ValType) → (list_any (same_pair d t) (ResultPairs m f) ≡ true) ↔ ResultPair m f d t
+
+-- ---- how many
+
+-- Slots and result locals are together at most the instructions of the pruned body, and one.
+abbrev pub SlotsAreFew : Type 0
+SlotsAreFew =
+    (m : Module) (i : ℕ) (f : Func) → Valid m → slice_get m.funcs i ≡ Some f
+    → length (SlotPairs m f) + length (ResultPairs m f) ≤ count_of (pruned f.body) + 1
+
+-- So the locals of a rewritten function can be numbered by a u32, where the original keeps the size rule.
+abbrev pub CountFits : Type 0
+CountFits = (m : Module) (i : ℕ) (f : Func) → Valid m → StrictSizeRule m → slice_get m.funcs i ≡ Some f → Count m f < 2 ^ 32
 
 -- ---- what a frame saves
 
