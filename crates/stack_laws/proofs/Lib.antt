@@ -1,3 +1,5 @@
 pub mod NotEach
+pub mod SpotPlaces
+pub mod Spots
 pub mod StandingPauses
 pub mod StandingSteps
