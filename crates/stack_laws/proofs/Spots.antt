@@ -161,12 +161,12 @@ Placed c body results (loop_label height inner rest ∷ labels) code own below =
     × Spot c body results (loop_label height inner rest ∷ labels) inner [] below
 
 -- the code's type, and that other code of the same type has the same labels
-record Retyped (c : Around) (body : Code) (results : List (Option ValType)) (labels : List Label) (code : Code) (own below : List ValType) : Type 0 where
-  outs : List ValType
-  typed : Types c results code outs own
-  again : (code' : Code) (own' : List ValType) → Types c results code' outs own' → Placed c body results labels code' own' below
+pub record Retyped (c : Around) (body : Code) (results : List (Option ValType)) (labels : List Label) (code : Code) (own below : List ValType) : Type 0 where
+  pub outs : List ValType
+  pub typed : Types c results code outs own
+  pub again : (code' : Code) (own' : List ValType) → Types c results code' outs own' → Placed c body results labels code' own' below
 
-retyped : (c : Around) (body : Code) (results : List (Option ValType)) (labels : List Label) (code : Code) (own below : List ValType) → Placed c body results labels code own below → Retyped c body results labels code own below
+pub retyped : (c : Around) (body : Code) (results : List (Option ValType)) (labels : List Label) (code : Code) (own below : List ValType) → Placed c body results labels code own below → Retyped c body results labels code own below
 retyped c body results [] code own below h = record { outs = listed c.result; typed = h.2; again = λ code' own' t. (h.0, h.1, t) }
 retyped c body results (block_label height arity rest skipped ∷ labels) code own below h =
     record { outs = listed h.0; typed = h.8; again = λ code' own' t. (h.0, h.1, h.2, h.3, h.4, h.5, h.6, h.7, t, h.9) }

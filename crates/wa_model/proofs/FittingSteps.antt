@@ -48,7 +48,7 @@ agrees_true r None e = cc
 agrees_true r (Some s) e = ap (λ x. Some x) (sym (result_true r s e))
 
 -- the label that a branch table chooses takes the result of the last one
-chosen_alike : (ls : List (Option ValType)) (r : Option ValType) (labels : List ℕ) (last n : ℕ) → slice_get ls last ≡ Some r → all_alike ls r labels ≡ true
+pub chosen_alike : (ls : List (Option ValType)) (r : Option ValType) (labels : List ℕ) (last n : ℕ) → slice_get ls last ≡ Some r → all_alike ls r labels ≡ true
     → slice_get ls (unwrap_or (slice_get labels n) last) ≡ Some r
 chosen_alike ls r [] last n e h = e
 chosen_alike ls r (l ∷ labels) last zero e h = agrees_true r (slice_get ls l) (and_parts (agrees_with r (slice_get ls l)) (all_alike ls r labels) h).0
