@@ -1,6 +1,6 @@
 -- What an instruction does with its own operands keeps the store fitting, and gives values of its types.
 use Rattle.std.proofs.Common.{◌≡◌, ℕ, zero, suc, ◌+◌, ◌++◌, List, [], ◌∷◌, Option, Some, None, Result, Ok, Err, Bool, true, false, refl, sym, ap, ◌∙◌, subst, length, take, drop}
-use Rattle.std.specs.Prelude.{IsSome, nat_le, if◌then◌else◌, slice_get, slice_set}
+use Rattle.std.specs.Prelude.{IsSome, nat_le, if◌then◌else◌, slice_get}
 use Rattle.std.specs.Option.{option_map}
 use Rattle.std.proofs.lemmas.Option.{slice_get-map}
 use Rattle.wa_types.specs.declared.values.ValType.{ValType}

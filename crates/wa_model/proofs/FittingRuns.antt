@@ -1,5 +1,5 @@
 -- All that is reached from a configuration that fits fits too.
-use Rattle.std.proofs.Common.{arith, ◌≡◌, ◌≤◌, ℕ, List, [], ◌∷◌, ◌++◌, Option, Some, None, true, length, refl, sym, ap, ◌∙◌, subst}
+use Rattle.std.proofs.Common.{arith, ◌≡◌, ◌≤◌, ℕ, List, [], ◌∷◌, Option, Some, None, true, length, refl, sym, subst}
 use Rattle.std.specs.Prelude.{slice_get}
 use Rattle.std.proofs.lemmas.List.{map-append}
 use Rattle.wa_types.specs.Syntax.{Func, Module}
@@ -8,12 +8,12 @@ use Rattle.wa_types.specs.Typing.{listed, type_of}
 use Rattle.wa_types.specs.declared.values.ValType.{ValType}
 use Rattle.wa_types.specs.Modules.{func_type_at, defined_at}
 use Rattle.wa_types.specs.declared.values.Value.{Value}
-use Rattle.wa_model.specs.Machine.{Turn, stops, goes, Leads, stays, moves}
+use Rattle.wa_model.specs.Machine.{goes, Leads, stays, moves}
 use Rattle.wa_model.specs.Store.{Store}
 use Rattle.wa_model.specs.Configuration.{Activation, Configuration}
 use Rattle.wa_model.specs.Step.{Next, steps, asks, returns, traps, stuck, entered, step}
 use Rattle.wa_model.specs.Blocking.{Note, resumed}
-use Rattle.wa_model.specs.Alone.{alone, alone_next, Goes, Finish, it_returned, it_trapped, it_asks, it_spent, FinishesAt, EndsAs, by_finish, by_steps}
+use Rattle.wa_model.specs.Alone.{alone, alone_next, Finish, FinishesAt, EndsAs, by_finish, by_steps}
 use Rattle.wa_model.specs.Fitting.{types_of, results_of, StoreFits, ActFits, CallersFit, Fits, NextFits, EndFits}
 use Rattle.wa_model.proofs.FittingSteps.{entered_fits, steps_fit}
 

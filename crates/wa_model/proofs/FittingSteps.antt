@@ -1,28 +1,27 @@
 -- From a configuration that fits a valid module there is a reduction, to one that fits again.
 use Rattle.std.proofs.Common.{arith, ◌≡◌, ℕ, zero, suc, ◌+◌, ◌-◌, ◌<◌, ◌≤◌, List, [], ◌∷◌, ◌++◌, map, reverse, Option, Some, None, Bool, true, false, refl, sym, ap, ◌∙◌, subst, length, take, drop, append_assoc}
-use Rattle.std.specs.Prelude.{nat_lt, ◌&&◌, if◌then◌else◌, slice_get, slice_set, unwrap_or}
+use Rattle.std.specs.Prelude.{nat_lt, if◌then◌else◌, slice_get, slice_set, unwrap_or}
 use Rattle.std.proofs.lemmas.Bool.{ltb-true, ltb-false, and_parts}
 use Rattle.std.proofs.lemmas.List.{length-map, map-append, length-reverse, reverse-reverse}
-use Rattle.std.proofs.lemmas.Option.{slice_get-map}
 use Rattle.wa_types.specs.declared.values.ValType.{ValType}
-use Rattle.wa_types.specs.declared.values.ValType.TheVariants.{I32, I64}
+use Rattle.wa_types.specs.declared.values.ValType.TheVariants.{I32}
 use Rattle.wa_types.specs.declared.values.Value.{Value}
 use Rattle.wa_types.specs.declared.values.Value.TheVariants as V
 use Rattle.wa_types.specs.declared.values.Trap.TheVariants.{StackExhausted, TypeMismatch}
 use Rattle.wa_types.specs.Counts.{depth_of}
 use Rattle.wa_types.specs.Pruned.{is_last}
 use Rattle.wa_types.specs.Syntax.{Plain, basic, local_get, local_set, local_tee, br, br_if, br_table, return, unreachable, call, call_indirect, a_block, a_loop, Code, done, plain, nest, branch, FuncType, Func, Module}
-use Rattle.wa_types.specs.Typing.{Around, Sig, moves, leaves, drops, selects, lacks, late, listed, type_of, same_result, all_there, agrees_with, all_alike, jump as jump_sig, may_jump, jumps, calls, calls_at, gets, sets, tees, basic_sig, sig, Takes, label, Types}
+use Rattle.wa_types.specs.Typing.{Around, Sig, moves, leaves, drops, selects, lacks, late, listed, type_of, same_result, all_there, agrees_with, all_alike, jump as jump_sig, may_jump, jumps, calls, calls_at, gets, sets, tees, basic_sig, sig, Takes, Types}
 use Rattle.wa_types.specs.Validity.{Valid}
-use Rattle.wa_types.specs.Modules.{func_imports, func_sorts, func_types, func_type_at, type_at, or_empty, all_globals, declared_locals, locals_of, around, defined_at}
+use Rattle.wa_types.specs.Modules.{func_imports, func_sorts, func_types, func_type_at, type_at, or_empty, declared_locals, locals_of, around, defined_at}
 use Rattle.wa_model.specs.Store.{Store, value_at, Did, works, fails, lacks as lacking, takes, act}
 use Rattle.wa_model.specs.Configuration.{Label, block_label, loop_label, Activation, Configuration, running, waiting}
-use Rattle.wa_model.specs.Step.{Next, steps, asks, returns, traps, stuck, keep, result_count, leave, jump, finish, did, with_top, with_number, choose, arity_of, zero_of, entered, invoke, param_count, same_func_type, through, memory_max, step_at, step}
+use Rattle.wa_model.specs.Step.{Next, steps, asks, traps, stuck, keep, result_count, leave, jump, finish, did, with_top, with_number, choose, arity_of, zero_of, entered, invoke, param_count, same_func_type, through, memory_max, step_at, step}
 use Rattle.wa_model.specs.Growth.{EntryNamed}
 use Rattle.wa_model.specs.Heights.{behind_plain, most_operands, Within}
-use Rattle.wa_model.specs.Fitting.{types_of, results_of, StoreFits, Stands, ActFits, CallersFit, Fits, WaitingFits, NextFits, ActWithin}
+use Rattle.wa_model.specs.Fitting.{types_of, results_of, StoreFits, Stands, ActFits, CallersFit, Fits, NextFits, ActWithin}
 use Rattle.wa_model.proofs.GrownSteps.{each_got}
-use Rattle.wa_model.proofs.FittingNames.{split_types, arity_is, carried_types, kept_types, reversed_types, value_typed, set_typed, zeros_typed, same_true, func_types_true, one_reversed, type_small, func_type_small, results_are, count_is, defined_type, not_defined, func_found}
+use Rattle.wa_model.proofs.FittingNames.{split_types, carried_types, kept_types, reversed_types, value_typed, set_typed, zeros_typed, same_true, func_types_true, one_reversed, type_small, func_type_small, results_are, count_is, defined_type, not_defined, func_found}
 use Rattle.wa_model.proofs.FittingActs.{DidFits, act_fits}
 use Rattle.wa_model.proofs.HeightLemmas.{listed_height, basic_height, gets_height, sets_height, tees_height, may_jump_height, calls_height, calls_at_height, begins_within, rest_within, nest_within, branch_within}
 
@@ -49,7 +48,7 @@ agrees_true r None e = cc
 agrees_true r (Some s) e = ap (λ x. Some x) (sym (result_true r s e))
 
 -- the label that a branch table chooses takes the result of the last one
-chosen_alike : (ls : List (Option ValType)) (r : Option ValType) (labels : List ℕ) (last n : ℕ) → slice_get ls last ≡ Some r → all_alike ls r labels ≡ true
+pub chosen_alike : (ls : List (Option ValType)) (r : Option ValType) (labels : List ℕ) (last n : ℕ) → slice_get ls last ≡ Some r → all_alike ls r labels ≡ true
     → slice_get ls (unwrap_or (slice_get labels n) last) ≡ Some r
 chosen_alike ls r [] last n e h = e
 chosen_alike ls r (l ∷ labels) last zero e h = agrees_true r (slice_get ls l) (and_parts (agrees_with r (slice_get ls l)) (all_alike ls r labels) h).0
@@ -79,6 +78,14 @@ heights_within m a types h =
     let w = begins_within m (most_operands m f.body 0) (depth_of f.body) a.code (length (h.own ++ h.below)) (length a.labels) k.within in
     record { func = f; func_is = h.func_is; operands = subst (λ ts. length ts ≤ most_operands m f.body 0) (sym h.types_are) w.0; labels = w.1 }
 
+-- the body of a defined function of a valid module has its type
+pub body_typed : (m : Module) (v : Valid m) (x : ℕ) (g : Func) → defined_at m x ≡ Some g → Types (around m g) ((around m g).result ∷ []) g.body (listed (around m g).result) []
+body_typed m v x g = by_import (nat_lt x (func_imports m))
+  where
+    by_import : (b : Bool) → (if b then None else slice_get m.funcs (x - func_imports m)) ≡ Some g → Types (around m g) ((around m g).result ∷ []) g.body (listed (around m g).result) []
+    by_import true e = cc
+    by_import false e = v.bodies (x - func_imports m) g e
+
 module _ (m : Module) (v : Valid m) (outs : List ValType) where
   module _ (s : Store) (so : StoreFits m s) where
     -- ---- results
@@ -94,13 +101,6 @@ module _ (m : Module) (v : Valid m) (outs : List ValType) where
 
     -- ---- calls
 
-    body_typed : (x : ℕ) (g : Func) → defined_at m x ≡ Some g → Types (around m g) ((around m g).result ∷ []) g.body (listed (around m g).result) []
-    body_typed x g = by_import (nat_lt x (func_imports m))
-      where
-        by_import : (b : Bool) → (if b then None else slice_get m.funcs (x - func_imports m)) ≡ Some g → Types (around m g) ((around m g).result ∷ []) g.body (listed (around m g).result) []
-        by_import true e = cc
-        by_import false e = v.bodies (x - func_imports m) g e
-
     -- a function that is entered with arguments of its types
     pub entered_fits : (under : List Activation) (args : List Value) (x : ℕ) (g : Func) → defined_at m x ≡ Some g → types_of args ≡ (func_type_at m x).params → CallersFit m outs (results_of m x) under
         → Fits m outs (entered s under args x g)
@@ -112,7 +112,7 @@ module _ (m : Module) (v : Valid m) (outs : List ValType) where
         ∙ ap (λ ts. (type_at m g.sort).params ++ ts) (zeros_typed (declared_locals g.locals)) in
         let c : Around = around m g in record {
           store = so;
-          here = record { func = g; func_is = is; locals_fit = locals; results = c.result ∷ []; own = []; below = []; types_are = refl; stands = (refl, refl, body_typed x g is, record { operands = omega arith; labels = omega arith }) };
+          here = record { func = g; func_is = is; locals_fit = locals; results = c.result ∷ []; own = []; below = []; types_are = refl; stands = (refl, refl, body_typed m v x g is, record { operands = omega arith; labels = omega arith }) };
           under = w;
         }
 

@@ -26,6 +26,13 @@ module _ (Q : Note → Note → Type 0) where
       subst (λ z. Q x z) q (subst (λ z. Q z b) p h.0)
   at_each (a ∷ xs) (b ∷ ys) h (suc i) x y ex ey = at_each xs ys h.1 i x y ex ey
 
+  -- and each on the right has its own on the left
+  pub begins_right : (xs ys : List Note) → Begins Q xs ys → (i : ℕ) (y : Note) → slice_get ys i ≡ Some y → (x : Note) × (slice_get xs i ≡ Some x) × Q x y
+  begins_right xs [] h i y e = cc
+  begins_right [] (b ∷ ys) h i y e = absurd h
+  begins_right (a ∷ xs) (b ∷ ys) h zero y e = let f : b ≡ y = cc in (a, refl, subst (Q a) f h.0)
+  begins_right (a ∷ xs) (b ∷ ys) h (suc i) y e = begins_right xs ys h.1 i y e
+
   -- notes that are alike have the same events
   pub events_of_alike : ((x y : Note) → Q x y → x.event ≡ y.event) → (xs ys : List Note) → Alike Q xs ys → events_of xs ≡ events_of ys
   events_of_alike same [] [] h = refl

@@ -1,5 +1,5 @@
 -- How high operands stand, by the types that instructions take and give.
-use Rattle.std.proofs.Common.{arith, ◌≡◌, ℕ, suc, ◌+◌, ◌-◌, ◌≤◌, max, min, if◌then◌else◌, List, [], ◌∷◌, ◌++◌, reverse, Option, Some, None, Bool, true, false, refl, sym, ap, ◌∙◌, subst, length, length-append}
+use Rattle.std.proofs.Common.{arith, ◌≡◌, ℕ, suc, ◌+◌, ◌-◌, ◌≤◌, max, if◌then◌else◌, List, [], ◌∷◌, ◌++◌, reverse, Option, Some, None, Bool, true, false, refl, sym, ap, ◌∙◌, subst, length, length-append}
 use Rattle.std.specs.Prelude.{slice_get}
 use Rattle.std.proofs.lemmas.List.{length-reverse}
 use Rattle.wa_types.specs.declared.values.ValType.{ValType}

@@ -15,6 +15,7 @@ pub mod GrownRuns
 pub mod GrownSteps
 pub mod GrownStretches
 pub mod HeightLemmas
+pub mod Invariants
 pub mod Moments
 pub mod NamedModules
 pub mod PrunedRuns

@@ -16,7 +16,7 @@ use Rattle.wa_model.specs.Plan.{Plan, Outcome}
 use Rattle.wa_model.specs.Blocking.{Note, events_of, Blocking, store_of}
 use Rattle.wa_model.specs.Protocol.{Held, exports_of, protocol, Protocol, store_held}
 use Rattle.wa_model.specs.Expected.{shown_at, shown, SameEnd}
-use Rattle.wa_model.specs.Behaves.{IsPrefix, pause_stacks, Compared, expected_notes, protocol_notes, AtPaused, AreaKept, unless_pause, without_pauses, BehavesOn, Behaves}
+use Rattle.wa_model.specs.Behaves.{IsPrefix, pause_stacks, PausesNumbered, Compared, expected_notes, protocol_notes, AtPaused, AreaKept, SameNote, unless_pause, without_pauses, BehavesOn, Behaves}
 use Rattle.wa_model.specs.Laws.{held_start_of}
 use Rattle.wa_model.specs.Quiet.{NeverPauses}
 use Rattle.wa_model.proofs.Runs.{prefix_of_longer, prefix_on}
@@ -26,21 +26,12 @@ use Rattle.wa_model.proofs.QuietRuns.{StoreAgrees, NoteAgrees, agree}
 
 -- ---- notes that agree
 
-alike_at : {A B : Type 0} (Q : A → B → Type 0) (xs : List A) (ys : List B) → Alike Q xs ys → (i : ℕ) (x : A) (y : B) → slice_get xs i ≡ Some x → slice_get ys i ≡ Some y → Q x y
-alike_at Q [] [] h i x y ex ey = cc
-alike_at Q [] (b ∷ ys) h i x y ex ey = absurd h
-alike_at Q (a ∷ xs) [] h i x y ex ey = absurd h
-alike_at Q (a ∷ xs) (b ∷ ys) h zero x y ex ey =
-    let e : a ≡ x = cc in
-    let f : b ≡ y = cc in
-    subst (λ z. Q x z) f (subst (λ z. Q z b) e h.0)
-alike_at Q (a ∷ xs) (b ∷ ys) h (suc i) x y ex ey = alike_at Q xs ys h.1 i x y ex ey
-
-alike_right : {A B : Type 0} (Q : A → B → Type 0) (xs : List A) (ys : List B) → Alike Q xs ys → (i : ℕ) (y : B) → slice_get ys i ≡ Some y → (x : A) × Q x y
+-- each on the right has its own on the left, at the same place
+alike_right : {A B : Type 0} (Q : A → B → Type 0) (xs : List A) (ys : List B) → Alike Q xs ys → (i : ℕ) (y : B) → slice_get ys i ≡ Some y → (x : A) × (slice_get xs i ≡ Some x) × Q x y
 alike_right Q [] [] h i y e = cc
 alike_right Q [] (b ∷ ys) h i y e = absurd h
 alike_right Q (a ∷ xs) [] h i y e = absurd h
-alike_right Q (a ∷ xs) (b ∷ ys) h zero y e = let f : b ≡ y = cc in (a, subst (Q a) f h.0)
+alike_right Q (a ∷ xs) (b ∷ ys) h zero y e = let f : b ≡ y = cc in (a, refl, subst (Q a) f h.0)
 alike_right Q (a ∷ xs) (b ∷ ys) h (suc i) y e = alike_right Q xs ys h.1 i y e
 
 filter_kept : {X Y : Type 0} (f : X → Option Y) (x : X) (xs : List X) (y : Y) → f x ≡ Some y → filter_map f (x ∷ xs) ≡ y ∷ filter_map f xs
@@ -91,7 +82,7 @@ protocol_grows p plan os n more =
     let le : n ≤ n = omega arith in
     prefix_on Held Note (protocol p (exports_of p) plan) (held_start_of p plan os).events _ _ (prefix_of_longer Held Note (protocol p (exports_of p) plan) n n more (held_start_of p plan os).last le)
 
-module _ (m : Module) (s : Settings) (valid : Valid m) (never : NeverPauses m s) (which : List Bool) (tells : TellsMayPause m s which) (plan : Plan) (os : List Outcome) (n : ℕ) (c : Compared m s which plan os n) where
+module _ (m : Module) (s : Settings) (valid : Valid m) (never : NeverPauses m s) (which : List Bool) (tells : TellsMayPause m s which) (plan : Plan) (os : List Outcome) (n : ℕ) (c : Compared m s plan os n) (pauses : PausesNumbered m s which (Blocking m plan os n).events) where
   abbrev p : Module
   p = with_runtime m
 
@@ -105,7 +96,7 @@ module _ (m : Module) (s : Settings) (valid : Valid m) (never : NeverPauses m s)
   ys = (Protocol p plan os n).events
 
   alike : Alike (NoteAgrees g) xs ys
-  alike = (agree m s valid never which tells plan os n c).0
+  alike = (agree m s valid never which tells plan os n c pauses).0
 
   expected_are : expected_notes m s plan os n ≡ xs
   expected_are = shown_plain g (Room m s.policy) (λ stack. Fit m s.policy stack plan.area.len) plan.area.len xs ys alike
@@ -123,32 +114,35 @@ module _ (m : Module) (s : Settings) (valid : Valid m) (never : NeverPauses m s)
       let up : IsPrefix (events_of ys) (events_of (protocol_notes p plan os (256 * (n + 1) + k))) = subst (λ j. IsPrefix (events_of ys) (events_of (Protocol p plan os j).events)) (enough n k) grows in
       subst (λ es. IsPrefix es (events_of (protocol_notes p plan os (Bound m n (pause_stacks xs))))) (sym expected_events) up
 
-  pair : (i : ℕ) (x y : Note) → slice_get (expected_notes m s plan os n) i ≡ Some x → slice_get ys i ≡ Some y → NoteAgrees g x y
-  pair i x y ex ey = alike_at (NoteAgrees g) xs ys alike i x y (ap (λ zs. slice_get zs i) (sym expected_are) ∙ ex) ey
+  never_since : (y : Note) (at : Store) → y.since ≡ None → y.since ≡ Some at → AreaKept plan.area at y.store
+  never_since y at none e = absurd (let z : None ≡ Some at = sym none ∙ e in cc)
 
-  never_since : (i : ℕ) (y : Note) (at : Store) → slice_get ys i ≡ Some y → y.since ≡ Some at → AreaKept plan.area at y.store
-  never_since i y at ey e =
-      let q = (alike_right (NoteAgrees g) xs ys alike i y ey).1 in
-      let none = q.since in
-      absurd (let z : None ≡ Some at = sym none ∙ e in cc)
+  same_note : (x y : Note) → NoteAgrees g x y → SameNote m s which plan.area x y
+  same_note x y q = record {
+    event = q.event;
+    ends = same_end g plan.area x.store y.store q.store;
+    image = not_paused y.event (Image m s which x.stack plan.area.at plan.area.len y.store.memory) (subst (λ e. unless_pause e ≡ Some e) q.event q.plain);
+    kept = λ at e. never_since y at q.since e;
+  }
 
-  pub behaves_on : BehavesOn m s p plan os n which
+  each_note : (i : ℕ) (y : Note) → slice_get ys i ≡ Some y → (x : Note) × (slice_get (expected_notes m s plan os n) i ≡ Some x) × SameNote m s which plan.area x y
+  each_note i y e =
+      let there = alike_right (NoteAgrees g) xs ys alike i y e in
+      (there.0, ap (λ zs. slice_get zs i) expected_are ∙ there.1, same_note there.0 y there.2)
+
+  pub behaves_on : BehavesOn m s p plan os n which (expected_notes m s plan os n)
   behaves_on = record {
     reaches = reaches;
     follows = ([], expected_events ∙ sym (append-nil (events_of ys)));
-    ends = λ i x y ex ey. let q = pair i x y ex ey in same_end g plan.area x.store y.store q.store;
-    images = λ i x y ex ey.
-        let q = pair i x y ex ey in
-        not_paused y.event (Image m s which x.stack plan.area.at plan.area.len y.store.memory) (subst (λ e. unless_pause e ≡ Some e) q.event q.plain);
-    kept = λ i y at ey e. never_since i y at ey e;
+    notes = each_note;
     moments = (
       events_of xs,
       store_of (Blocking m plan os n).last,
       inl (n, omega arith, refl, refl),
       none_left_out g xs ys alike,
-      same_end g plan.area (store_of (Blocking m plan os n).last) (store_held (Protocol p plan os n).last) (agree m s valid never which tells plan os n c).1,
+      same_end g plan.area (store_of (Blocking m plan os n).last) (store_held (Protocol p plan os n).last) (agree m s valid never which tells plan os n c pauses).1,
     );
   }
 
 pub quiet_behaves : (m : Module) (s : Settings) → Valid m → NeverPauses m s → Behaves m s (with_runtime m)
-quiet_behaves m s valid never = λ which tells plan os n c. behaves_on m s valid never which tells plan os n c
+quiet_behaves m s valid never = λ sizes which tells plan os n c pauses. behaves_on m s valid never which tells plan os n c pauses

@@ -22,7 +22,7 @@ use Rattle.wa_model.specs.Plan.{Entry, Plan, Outcome, OutcomeFits, EntryFits}
 use Rattle.wa_model.specs.Instantiation.{Opening, fails_as, opens, opening}
 use Rattle.wa_model.specs.Blocking.{Note, note, Left, State, between, begins, runs, halts, done_notes, on_to, no_store, all_left, begun, continued, blocking, Blocking, store_of}
 use Rattle.wa_model.specs.Protocol.{Held, over, exports_of, protocol, held_on, held_begun, held_continued, Protocol, store_held}
-use Rattle.wa_model.specs.Behaves.{StandsNumbered, PauseNumbered, Compared, unless_pause}
+use Rattle.wa_model.specs.Behaves.{StandsNumbered, PauseNumbered, PausesNumbered, Compared, unless_pause}
 use Rattle.wa_model.specs.Growth.{grown_module, spaces_of, Each, grown_store}
 use Rattle.wa_model.specs.Quiet.{NeverPauses}
 use Rattle.wa_model.proofs.Runs.{no_move}
@@ -145,7 +145,7 @@ base_count : (m : Module) → (spaces_of (Base m)).globals ≡ global_space m
 unfolding Base
 base_count m = refl
 
-module _ (m : Module) (s : Settings) (valid : Valid m) (never : NeverPauses m s) (which : List Bool) (tells : TellsMayPause m s which) (plan : Plan) (os : List Outcome) (n : ℕ) (c : Compared m s which plan os n) where
+module _ (m : Module) (s : Settings) (valid : Valid m) (never : NeverPauses m s) (which : List Bool) (tells : TellsMayPause m s which) (plan : Plan) (os : List Outcome) (n : ℕ) (c : Compared m s plan os n) (pauses : PausesNumbered m s which (Blocking m plan os n).events) where
   abbrev q : Module
   q = with_runtime m
 
@@ -161,7 +161,7 @@ module _ (m : Module) (s : Settings) (valid : Valid m) (never : NeverPauses m s)
   idle : Each SuspendsNone (Blocking m plan os n).events
   idle =
       let P : Note → Type 0 = λ (x : Note). PauseNumbered m s which x.stack x.pause in
-      each_weaker P SuspendsNone (Blocking m plan os n).events suspends_none (each_of_all P (Blocking m plan os n).events c.pauses)
+      each_weaker P SuspendsNone (Blocking m plan os n).events suspends_none (each_of_all P (Blocking m plan os n).events pauses)
 
   pub agree : AgreeOn (global_space m) (Blocking m plan os n) (Protocol q plan os n)
   agree =

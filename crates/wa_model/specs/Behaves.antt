@@ -3,6 +3,7 @@ use Rattle.std.specs.Prelude.{◌≡◌, ℕ, suc, ◌+◌, ◌≤◌, ◌<◌, 
 use Rattle.std.specs.List.{filter_map}
 use Rattle.wa_types.specs.Syntax.{Func, Module}
 use Rattle.wa_types.specs.Modules.{defined_at}
+use Rattle.wa_types.specs.Sizes.{WellFormed}
 use Rattle.wa_types.specs.Pausing.{Settings, Listed, TellsMayPause, Numbered}
 use Rattle.wa_types.specs.Frames.{Suspended, HoldsBytes, word, Image}
 use Rattle.wa_types.specs.Bounds.{Bound}
@@ -44,13 +45,12 @@ abbrev pub pause_stacks : List Note → List (List Suspended)
 pause_stacks notes = filter_map (λ (x : Note). stack_if x.stack x.pause) notes
 
 -- The runs that are compared: the plan fits the original and tells the listed imports, outcomes are in range, and up to a
--- cost of n the run with blocking imports doesn't touch the area and pauses at numbered calls alone.
-pub record Compared (m : Module) (s : Settings) (which : List Bool) (plan : Plan) (os : List Outcome) (n : ℕ) : Type 0 where
+-- cost of n the run with blocking imports doesn't touch the area.
+pub record Compared (m : Module) (s : Settings) (plan : Plan) (os : List Outcome) (n : ℕ) : Type 0 where
   pub fits : Fits m plan
   pub listed : plan.listed ≡ Some (Listed m s)
   pub outcomes : All OutcomeFits os
   pub untouched : Untouched m plan os n
-  pub pauses : PausesNumbered m s which (Blocking m plan os n).events
 
 -- the notes of a run with blocking imports up to a cost of n, with its pauses shown
 abbrev pub expected_notes : Module → Settings → Plan → List Outcome → ℕ → List Note
@@ -69,6 +69,15 @@ AtPaused _ T = Unit {0}
 pub record AreaKept (area : Area) (at_pause now : Store) : Type 0 where
   pub location : HoldsBytes now.memory area.at (word (area.at + 8))
   pub others : (x : ℕ) → area.at + 4 ≤ x → x < area.at + area.len → slice_get now.memory x ≡ slice_get at_pause.memory x
+
+-- What a note of the rewritten module owes the expected note beside it, which shows this stack: it has the same event; the
+-- stores agree; at a pause the area holds the image of the stack; and an answer behind a pause has read the frames, and has
+-- changed nothing else of the area.
+pub record SameNote (m : Module) (s : Settings) (which : List Bool) (area : Area) (x y : Note) : Type 0 where
+  pub event : x.event ≡ y.event
+  pub ends : SameEnd (global_space m) area x.store y.store
+  pub image : AtPaused y.event (Image m s which x.stack area.at area.len y.store.memory)
+  pub kept : (at_pause : Store) → y.since ≡ Some at_pause → AreaKept area at_pause y.store
 
 abbrev pub is_pause_end : End → Bool
 is_pause_end (UnwindTrap trap used len) = true
@@ -94,23 +103,22 @@ IsMoment m plan os n events s =
     ((j : ℕ) × (j ≤ n) × (events ≡ events_of (Blocking m plan os j).events) × (s ≡ store_of (Blocking m plan os j).last))
     ⊎ ((i : ℕ) × (x : Note) × (slice_get (Blocking m plan os n).events i ≡ Some x) × (events ≡ events_of (take (suc i) (Blocking m plan os n).events)) × (s ≡ x.store))
 
--- The rewritten module p behaves like its original m, for one plan, outcomes and cost. `which` tells the functions that may
--- pause.
-pub record BehavesOn (m : Module) (s : Settings) (p : Module) (plan : Plan) (os : List Outcome) (n : ℕ) (which : List Bool) : Type 0 where
+-- The rewritten module p behaves like its original m, for one plan, outcomes and cost, where these notes are expected of it
+-- for the run of m within that cost. `which` tells the functions that may pause.
+pub record BehavesOn (m : Module) (s : Settings) (p : Module) (plan : Plan) (os : List Outcome) (n : ℕ) (which : List Bool) (expected : List Note) : Type 0 where
   -- it gets as far, within the bound
-  pub reaches : IsPrefix (events_of (expected_notes m s plan os n)) (events_of (protocol_notes p plan os (Bound m n (pause_stacks (Blocking m plan os n).events))))
+  pub reaches : IsPrefix (events_of expected) (events_of (protocol_notes p plan os (Bound m n (pause_stacks (Blocking m plan os n).events))))
   -- it does nothing else, and is never the cheaper one
-  pub follows : IsPrefix (events_of (protocol_notes p plan os n)) (events_of (expected_notes m s plan os n))
-  -- at each event the stores agree
-  pub ends : (i : ℕ) (x y : Note) → slice_get (expected_notes m s plan os n) i ≡ Some x → slice_get (protocol_notes p plan os n) i ≡ Some y → SameEnd (global_space m) plan.area x.store y.store
-  -- at each pause the area holds the image of the suspended stack
-  pub images : (i : ℕ) (x y : Note) → slice_get (expected_notes m s plan os n) i ≡ Some x → slice_get (protocol_notes p plan os n) i ≡ Some y → AtPaused y.event (Image m s which x.stack plan.area.at plan.area.len y.store.memory)
-  -- at the answer behind it the frames are read, and nothing else of the area has changed
-  pub kept : (i : ℕ) (y : Note) (at_pause : Store) → slice_get (protocol_notes p plan os n) i ≡ Some y → y.since ≡ Some at_pause → AreaKept plan.area at_pause y.store
+  pub follows : IsPrefix (events_of (protocol_notes p plan os n)) (events_of expected)
+  -- each of its notes has an expected one beside it: stores, images and what is kept of the area are right at each event
+  pub notes : (i : ℕ) (y : Note) → slice_get (protocol_notes p plan os n) i ≡ Some y → (x : Note) × (slice_get expected i ≡ Some x) × SameNote m s which plan.area x y
   -- between events too the store is one that the original has at a moment with the same events
   pub moments : (events : List Event) × (at : Store) × IsMoment m plan os n events at × (events ≡ without_pauses (events_of (protocol_notes p plan os n))) × SameEnd (global_space m) plan.area at (store_held (Protocol p plan os n).last)
 
--- For every plan, list of outcomes and cost the rewritten module behaves like its original.
+-- For every plan, list of outcomes and cost at which each pause finds its activations at numbered calls, the rewritten module
+-- behaves like its original. The original's numbers lie in the ranges of their types: else what passes through a frame
+-- comes back changed.
 abbrev pub Behaves : Module → Settings → Module → Type 0
 Behaves m s p =
-    (which : List Bool) → TellsMayPause m s which → (plan : Plan) (os : List Outcome) (n : ℕ) → Compared m s which plan os n → BehavesOn m s p plan os n which
+    WellFormed m → (which : List Bool) → TellsMayPause m s which → (plan : Plan) (os : List Outcome) (n : ℕ)
+    → Compared m s plan os n → PausesNumbered m s which (Blocking m plan os n).events → BehavesOn m s p plan os n which (expected_notes m s plan os n)

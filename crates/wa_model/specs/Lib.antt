@@ -5,10 +5,13 @@ pub mod Configuration
 pub mod Expected
 pub mod Fitting
 pub mod Flat
+pub mod FlatFits
 pub mod FlatView
 pub mod Growth
 pub mod Heights
 pub mod Instantiation
+pub mod Keeping
+pub mod LawfulStacks
 pub mod Laws
 pub mod Machine
 pub mod Outside
@@ -19,6 +22,7 @@ pub mod Quiet
 pub mod Rewrites
 pub mod Step
 pub mod Store
+pub mod Touches
 pub mod Untouched
 pub mod View
 pub mod World

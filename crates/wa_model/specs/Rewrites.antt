@@ -9,6 +9,7 @@ use Rattle.wa_types.specs.Validity.{Valid}
 use Rattle.wa_types.specs.Sizes.{label_count}
 use Rattle.wa_types.specs.Norm.{Norm}
 use Rattle.wa_types.specs.Counts.{depth_of}
+use Rattle.wa_types.specs.Pruned.{pruned}
 use Rattle.wa_types.specs.Runtime.{with_runtime}
 use Rattle.wa_types.specs.Pausing.{Policy, save_all, save_live, Settings, MayPause, TellsMayPause, Numbered}
 use Rattle.wa_types.specs.Frames.{Count, Saved}
@@ -33,11 +34,11 @@ pub record SameFunc (f g : Func) : Type 0 where
   pub locals : merged g.locals ≡ merged f.locals
   pub body : g.body ≡ f.body
 
--- A function that may pause keeps its type, and has bounds on its locals, nesting and size.
+-- A function that may pause keeps its type, and has bounds on its locals, nesting and size by those of its pruned body.
 pub record RewrittenFunc (m : Module) (s : Settings) (p : Module) (which : List Bool) (f g : Func) : Type 0 where
   pub sort : g.sort ≡ f.sort
   pub locals : length (locals_of p g) ≡ Count m f
-  pub nesting : depth_of g.body ≤ 3 * depth_of f.body + 8
+  pub nesting : depth_of g.body ≤ 3 * depth_of (pruned f.body) + 8
   pub size : instructions_and_labels g.body ≤ 128 * (Weight m f + 4) + frames_size m s.policy f (Numbered m s which f)
 
 -- p is the module m rewritten under the settings s.

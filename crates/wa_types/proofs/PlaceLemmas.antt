@@ -31,7 +31,7 @@ behind_each ls (branch r a b rest) =
     )
 
 -- a last instruction is no call
-last_no_call : (p : Plain) → is_last p ≡ true → callee p ≡ None
+pub last_no_call : (p : Plain) → is_last p ≡ true → callee p ≡ None
 last_no_call (basic b) e = refl
 last_no_call (local_get x) e = refl
 last_no_call (local_set x) e = refl

@@ -14,26 +14,26 @@ abbrev pub In : List ValType → List (List ValType) → Type 0
 In x [] = ⊥
 In x (y ∷ ys) = (x ≡ y) ⊎ In x ys
 
-in_left : (x : List ValType) (xs ys : List (List ValType)) → In x xs → In x (xs ++ ys)
+pub in_left : (x : List ValType) (xs ys : List (List ValType)) → In x xs → In x (xs ++ ys)
 in_left x [] ys h = absurd h
 in_left x (z ∷ xs) ys (inl e) = inl e
 in_left x (z ∷ xs) ys (inr h) = inr (in_left x xs ys h)
 
-in_right : (x : List ValType) (xs ys : List (List ValType)) → In x ys → In x (xs ++ ys)
+pub in_right : (x : List ValType) (xs ys : List (List ValType)) → In x ys → In x (xs ++ ys)
 in_right x [] ys h = h
 in_right x (z ∷ xs) ys h = inr (in_right x xs ys h)
 
-in_either : (x : List ValType) (xs ys : List (List ValType)) → In x (xs ++ ys) → In x xs ⊎ In x ys
+pub in_either : (x : List ValType) (xs ys : List (List ValType)) → In x (xs ++ ys) → In x xs ⊎ In x ys
 in_either x [] ys h = inr h
 in_either x (z ∷ xs) ys (inl e) = inl (inl e)
 in_either x (z ∷ xs) ys (inr h) = elim (in_either x xs ys h) [ inl k ↦ inl (inr k) | inr k ↦ inr k ]
 
 -- control goes on behind the instruction
-abbrev Passes : Sig → Type 0
+abbrev pub Passes : Sig → Type 0
 Passes (leaves ps) = ⊥
 Passes _ = Unit {0}
 
-takes_after : (s : Sig) (ins mids : List ValType) → Passes s → Takes s ins mids → mids ≡ after s ins
+pub takes_after : (s : Sig) (ins mids : List ValType) → Passes s → Takes s ins mids → mids ≡ after s ins
 takes_after (moves ps rs) ins mids p h = h.2 ∙ ap (λ z. rs ++ z) (sym (ap (drop (length ps)) h.1 ∙ drop-append_seam ps h.0))
 takes_after (leaves ps) ins mids p h = absurd p
 takes_after drops ins mids p h = sym (ap (drop 1) h.1)
@@ -108,7 +108,7 @@ passes_basic c (store op align offset) = passes_stores c.memory align (store_row
 passes_basic c memory_size = passes_with_memory c.memory [] (I32 ∷ [])
 passes_basic c memory_grow = passes_with_memory c.memory (I32 ∷ []) (I32 ∷ [])
 
-passes : (c : Around) (ls : List (Option ValType)) (p : Plain) → is_last p ≡ false → Passes (sig c ls p)
+pub passes : (c : Around) (ls : List (Option ValType)) (p : Plain) → is_last p ≡ false → Passes (sig c ls p)
 passes c ls (basic b) e = passes_basic c b
 passes c ls (local_get x) e = passes_gets (slice_get c.locals x)
 passes c ls (local_set x) e = passes_sets (slice_get c.locals x)

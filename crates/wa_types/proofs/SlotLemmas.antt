@@ -16,34 +16,34 @@ use Rattle.wa_types.specs.Frames.{Pair, pair_onto, pairs_from, is_type, stands_a
 use Rattle.wa_types.proofs.TypingLemmas.{less_on, pruned_types}
 use Rattle.wa_types.proofs.PointLemmas.{In, visited, is_visited}
 
-same_true : (t u : ValType) → same_type t u ≡ true → t ≡ u
+pub same_true : (t u : ValType) → same_type t u ≡ true → t ≡ u
 same_true I32 I32 e = refl
 same_true I32 I64 e = cc
 same_true I64 I32 e = cc
 same_true I64 I64 e = refl
 
-same_self : (t : ValType) → same_type t t ≡ true
+pub same_self : (t : ValType) → same_type t t ≡ true
 same_self I32 = refl
 same_self I64 = refl
 
-get_left : (ys zs : List ValType) (h : ℕ) → h < length ys → slice_get (ys ++ zs) h ≡ slice_get ys h
+pub get_left : (ys zs : List ValType) (h : ℕ) → h < length ys → slice_get (ys ++ zs) h ≡ slice_get ys h
 get_left [] zs h lt = absurd (omega (arith, lt))
 get_left (y ∷ ys) zs zero lt = refl
 get_left (y ∷ ys) zs (suc h) lt = get_left ys zs h (omega (arith, lt))
 
-get_seam : (ys : List ValType) (x : ValType) (zs : List ValType) → slice_get (ys ++ x ∷ zs) (length ys) ≡ Some x
+pub get_seam : (ys : List ValType) (x : ValType) (zs : List ValType) → slice_get (ys ++ x ∷ zs) (length ys) ≡ Some x
 get_seam [] x zs = refl
 get_seam (y ∷ ys) x zs = get_seam ys x zs
 
-length-cons : (x : ValType) (xs : List ValType) → length (x ∷ xs) ≡ suc (length xs)
+pub length-cons : (x : ValType) (xs : List ValType) → length (x ∷ xs) ≡ suc (length xs)
 length-cons x xs = refl
 
 -- the operand at the bottom's distance
-reverse_left : (x : ValType) (xs : List ValType) (h : ℕ) → h < length xs → slice_get (reverse (x ∷ xs)) h ≡ slice_get (reverse xs) h
+pub reverse_left : (x : ValType) (xs : List ValType) (h : ℕ) → h < length xs → slice_get (reverse (x ∷ xs)) h ≡ slice_get (reverse xs) h
 reverse_left x xs h lt =
     ap (λ ys. slice_get ys h) (reverse-append (x ∷ []) xs) ∙ get_left (reverse xs) (x ∷ []) h (omega (arith, lt, length-reverse xs))
 
-reverse_top : (x : ValType) (xs : List ValType) → slice_get (reverse (x ∷ xs)) (length xs) ≡ Some x
+pub reverse_top : (x : ValType) (xs : List ValType) → slice_get (reverse (x ∷ xs)) (length xs) ≡ Some x
 reverse_top x xs =
     ap (λ ys. slice_get ys (length xs)) (reverse-append (x ∷ []) xs) ∙ ap (slice_get (reverse xs ++ x ∷ [])) (sym (length-reverse xs)) ∙ get_seam (reverse xs) x []
 
@@ -73,7 +73,7 @@ stands_splits h t (x ∷ xs) s = elim (less_on h (length xs)) [
   ]
 ]
 
-split_left : (above lower : List ValType) (t : ValType) → slice_get (reverse (above ++ t ∷ lower)) (length lower) ≡ Some t
+pub split_left : (above lower : List ValType) (t : ValType) → slice_get (reverse (above ++ t ∷ lower)) (length lower) ≡ Some t
 split_left above lower t =
     ap (λ ys. slice_get ys (length lower)) (reverse-append above (t ∷ lower))
     ∙ get_left (reverse (t ∷ lower)) (reverse above) (length lower) (omega (arith, length-reverse (t ∷ lower), length-cons t lower))
@@ -84,7 +84,7 @@ pub splits_stands : (h : ℕ) (t : ValType) (ops above lower : List ValType) →
 splits_stands h t ops above lower e f =
     ap (λ ys. is_type t (slice_get (reverse ys) h)) e ∙ ap (λ k. is_type t (slice_get (reverse (above ++ t ∷ lower)) k)) f ∙ ap (is_type t) (split_left above lower t) ∙ same_self t
 
-stands_below : (h : ℕ) (t : ValType) (ops : List ValType) → stands_at h t ops ≡ true → h < length ops
+pub stands_below : (h : ℕ) (t : ValType) (ops : List ValType) → stands_at h t ops ≡ true → h < length ops
 stands_below h t ops s = elim (less_on h (length ops)) [
   | inl lt ↦ lt
   | inr ge ↦ absurd (
@@ -92,44 +92,44 @@ stands_below h t ops s = elim (less_on h (length ops)) [
       let none : false ≡ true = sym (ap (is_type t) past) ∙ s in cc)
 ]
 
-either_true : (a b : Bool) → (a || b) ≡ true → (a ≡ true) ⊎ (b ≡ true)
+pub either_true : (a b : Bool) → (a || b) ≡ true → (a ≡ true) ⊎ (b ≡ true)
 either_true true b e = inl refl
 either_true false b e = inr e
 
-or_left : (a b : Bool) → a ≡ true → (a || b) ≡ true
+pub or_left : (a b : Bool) → a ≡ true → (a || b) ≡ true
 or_left true b e = refl
 or_left false b e = cc
 
-or_right : (a b : Bool) → b ≡ true → (a || b) ≡ true
+pub or_right : (a b : Bool) → b ≡ true → (a || b) ≡ true
 or_right true b e = refl
 or_right false b e = e
 
-both_true : (a b : Bool) → (a && b) ≡ true → (a ≡ true) × (b ≡ true)
+pub both_true : (a b : Bool) → (a && b) ≡ true → (a ≡ true) × (b ≡ true)
 both_true true b e = (refl, e)
 both_true false b e = cc
 
-and_both : (a b : Bool) → a ≡ true → b ≡ true → (a && b) ≡ true
+pub and_both : (a b : Bool) → a ≡ true → b ≡ true → (a && b) ≡ true
 and_both true b e f = f
 and_both false b e f = cc
 
-any_in : (test : List ValType → Bool) (xs : List (List ValType)) → list_any test xs ≡ true → (x : List ValType) × In x xs × (test x ≡ true)
+pub any_in : (test : List ValType → Bool) (xs : List (List ValType)) → list_any test xs ≡ true → (x : List ValType) × In x xs × (test x ≡ true)
 any_in test [] e = cc
 any_in test (x ∷ xs) e = elim (either_true (test x) (list_any test xs) e) [
   | inl h ↦ (x, inl refl, h)
   | inr h ↦ let w = any_in test xs h in (w.0, inr w.1, w.2)
 ]
 
-in_any : (test : List ValType → Bool) (xs : List (List ValType)) (x : List ValType) → In x xs → test x ≡ true → list_any test xs ≡ true
+pub in_any : (test : List ValType → Bool) (xs : List (List ValType)) (x : List ValType) → In x xs → test x ≡ true → list_any test xs ≡ true
 in_any test [] x i e = absurd i
 in_any test (y ∷ ys) x (inl f) e = or_left (test y) (list_any test ys) (sym (ap test f) ∙ e)
 in_any test (y ∷ ys) x (inr i) e = or_right (test y) (list_any test ys) (in_any test ys x i e)
 
-in_greatest : (xs : List (List ValType)) (x : List ValType) → In x xs → length x ≤ greatest xs
+pub in_greatest : (xs : List (List ValType)) (x : List ValType) → In x xs → length x ≤ greatest xs
 in_greatest [] x i = absurd i
 in_greatest (y ∷ ys) x (inl e) = let f : length x ≡ length y = ap length e in omega (arith, f)
 in_greatest (y ∷ ys) x (inr i) = let h = in_greatest ys x i in omega (arith, h)
 
-own_pair : (h n : ℕ) (t u : ValType) → (nat_eq h n && same_type t u) ≡ true → (h ≡ n) × (t ≡ u)
+pub own_pair : (h n : ℕ) (t u : ValType) → (nat_eq h n && same_type t u) ≡ true → (h ≡ n) × (t ≡ u)
 own_pair h n t u e = let w = both_true (nat_eq h n) (same_type t u) e in (eqb-true h n w.0, same_true t u w.1)
 
 -- one pair that may stand in front

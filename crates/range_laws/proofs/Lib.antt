@@ -1,0 +1,10 @@
+pub mod Acts
+pub mod BlockingRuns
+pub mod Bytes
+pub mod Host
+pub mod Numbers
+pub mod Openings
+pub mod Operators
+pub mod ProtocolRuns
+pub mod Steps
+pub mod Stretches

@@ -1,0 +1,49 @@
+//! Laws of ranges and of memories. Each is the contract of a function that does nothing.
+
+ghost use Rattle.range_laws.specs.Ranges.{AnswersIn, BlockingGrows, BlockingIn, BlockingLater, CallsIn, ComparedIn, EndsIn, FitsAreas, FitsIn, OpeningsIn, OperatorsIn, ProtocolGrows, ProtocolIn, ProtocolLater, StepsIn, StretchesIn, WellFormedIn};
+
+/// What an operator makes of operands in range is in range (standard, section 4.4.1).
+pub fn operators_in_range()
+    ensures { OperatorsIn }
+{}
+
+/// A reduction of a module whose constants are in range leads from a configuration in range to one in range.
+pub fn reductions_in_range()
+    ensures steps { StepsIn }
+    ensures stretches { StretchesIn }
+    ensures ends { EndsIn }
+{}
+
+/// Calls and answers in range begin and go on in range.
+pub fn calls_in_range()
+    ensures calls { CallsIn }
+    ensures answers { AnswersIn }
+{}
+
+/// An instance of a module whose constants are in range is in range, with a memory as it declares it.
+pub fn openings_in_range()
+    ensures { OpeningsIn }
+{}
+
+/// Each note of a run, with blocking imports or under the protocol, is in range, and so is where the run then stands.
+pub fn runs_in_range()
+    ensures blocking { BlockingIn }
+    ensures protocol { ProtocolIn }
+    ensures compared { ComparedIn }
+{}
+
+/// No move makes the memory shorter, and it stays whole pages, 1,024 of them at most.
+pub fn memory_never_shrinks()
+    ensures blocking_moves { BlockingGrows }
+    ensures protocol_moves { ProtocolGrows }
+    ensures blocking { BlockingLater }
+    ensures protocol { ProtocolLater }
+{}
+
+/// A well-formed module holds constants and bytes in range. So does what a plan that fits it gives, and its area lies inside
+/// the memory of the rewritten module.
+pub fn plans_in_range()
+    ensures modules { WellFormedIn }
+    ensures values { FitsIn }
+    ensures areas { FitsAreas }
+{}

@@ -1,0 +1,3 @@
+pub mod Keeping
+pub mod RewrittenByHand
+pub mod Silence

@@ -1,0 +1,2 @@
+pub mod RewrittenByHand
+pub mod Stretches

@@ -1,0 +1,15 @@
+//! Laws of runs that the proof on rewritten modules rests on, and a module rewritten by hand.
+//!
+//! Code that a rewriter adds keeps the original's store: it writes in the area and its own globals alone. Along a stretch of
+//! such reductions a run shows no event and the old store at each cost on the way (`specs/Stretches.antt`), which is what the
+//! headline says of the moments between events. `specs/RewrittenByHand.antt` has a module of three instructions rewritten by
+//! hand, that does what is expected, and wrong rewritings, each of which the definitions tell apart.
+#![tactic(auto)]
+
+mod by_hand;
+mod stretch_laws;
+
+pub use by_hand::{
+    frames_cut_numbers, rewritten_by_hand_as_expected, wrong_rewritings_are_told_apart,
+};
+pub use stretch_laws::{calm_stays_off, silent_reductions_are_kept, stretches_are_kept};

@@ -1,0 +1,8 @@
+use Rattle.slot_laws.proofs.SavedOperands.{saved_rise, operands_saved}
+use Rattle.slot_laws.proofs.slot_laws.operands_are_saved_once.Goals as goal
+
+pub returns-clause-order : goal.returns-clause-order
+returns-clause-order c = λ m policy f place. saved_rise m f policy place
+
+pub returns-clause-operands : goal.returns-clause-operands
+returns-clause-operands c = operands_saved

@@ -1,0 +1,2 @@
+pub mod SlotBounds
+pub mod PauseLaws

@@ -1,0 +1,16 @@
+//! Laws of slots and result locals, of what frames save, and of which functions may pause: what flattening and the frames of a
+//! rewritten function rest on.
+//!
+//! A function's slots are its pairs of a height and a type, in order, each once, and so are its result locals; together
+//! they are no more than the instructions of its pruned body, and one. An operand that stands at a call has exactly one place
+//! in the frame under each policy, so none is lost (`specs/SlotBounds.antt`). The functions that may pause are told by one
+//! list, and are the least closed set (`specs/PauseLaws.antt`).
+#![tactic(auto)]
+
+mod pause_laws;
+mod slot_laws;
+
+pub use pause_laws::{functions_that_may_pause_are_least, one_list_tells};
+pub use slot_laws::{
+    operands_are_saved_once, results_are_pairs, slots_are_few, slots_stand_in_order,
+};

@@ -1,0 +1,30 @@
+//! Laws of slots and result locals. Each is the contract of a function that does nothing.
+
+ghost use Rattle.slot_laws.specs.SlotBounds.{CountFits, OperandsAreSaved, ResultsArePairs, ResultsAscend, ResultsStandOnce, SavedRise, SlotsAreFew, SlotsAscend, SlotsStandOnce};
+
+/// Slots and result locals stand in order, by number and i32 before i64, each pair once.
+pub fn slots_stand_in_order()
+    ensures slots { SlotsAscend }
+    ensures slots_once { SlotsStandOnce }
+    ensures results { ResultsAscend }
+    ensures results_once { ResultsStandOnce }
+{}
+
+/// The result locals of a function are the depths and types of the results of its blocks and ifs, and its own result's.
+pub fn results_are_pairs()
+    ensures { ResultsArePairs }
+{}
+
+/// A function has no more slots and result locals than its pruned body has instructions, and one. So a u32 numbers the locals
+/// of a rewritten function.
+pub fn slots_are_few()
+    ensures few { SlotsAreFew }
+    ensures count { CountFits }
+{}
+
+/// What a frame saves stands in the order of the locals. Under each policy an operand that stands at a call has exactly one
+/// place there.
+pub fn operands_are_saved_once()
+    ensures order { SavedRise }
+    ensures operands { OperandsAreSaved }
+{}

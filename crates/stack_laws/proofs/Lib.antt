@@ -1,0 +1,6 @@
+pub mod NotEach
+pub mod SpotPlaces
+pub mod SpotSteps
+pub mod Spots
+pub mod StandingPauses
+pub mod StandingSteps

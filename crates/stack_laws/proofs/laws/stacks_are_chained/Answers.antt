@@ -1,0 +1,8 @@
+use Rattle.stack_laws.proofs.StandingPauses.{stacks_chained, pauses_told}
+use Rattle.stack_laws.proofs.laws.stacks_are_chained.Goals as goal
+
+pub returns-clause-stacks : goal.returns-clause-stacks
+returns-clause-stacks c = stacks_chained
+
+pub returns-clause-pauses : goal.returns-clause-pauses
+returns-clause-pauses c = pauses_told

@@ -1,0 +1,17 @@
+//! Laws of suspended stacks. Each is the contract of a function that does nothing.
+
+ghost use Rattle.stack_laws.specs.Standing.{CallsAtNumbers, PausesAtNumbers, PausesTold, StacksChained};
+
+/// At each call of an import the stack leads, call by call, from what the host called to the import, and has 4,096
+/// activations at most. A pause is at a call of an import that the plan tells as listed.
+pub fn stacks_are_chained()
+    ensures stacks { StacksChained }
+    ensures pauses { PausesTold }
+{}
+
+/// Where `call_indirect` isn't ignored, each activation below a call of a listed import, and so each one that a pause
+/// suspends, stands at a numbered call of a function that may pause.
+pub fn activations_stand_at_numbers()
+    ensures calls { CallsAtNumbers }
+    ensures pauses { PausesAtNumbers }
+{}

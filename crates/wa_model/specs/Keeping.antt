@@ -1,0 +1,65 @@
+-- Tests of a configuration's next reduction, by which a module's own machine can be kept from going on: it writes nothing
+-- of the original's store, it touches no store at all, or its access stays off the area. They compute.
+use Rattle.std.specs.Prelude.{ℕ, ◌+◌, List, Option, Some, None, Bool, true, false, not, ◌&&◌, ◌||◌, nat_lt, nat_le, length, take}
+use Rattle.wa_types.specs.declared.values.Value.{Value}
+use Rattle.wa_types.specs.Syntax.{Basic, global_set, load, store, memory_grow, Plain, basic, call, call_indirect, Code, plain}
+use Rattle.wa_model.specs.declared.answers.Area.{Area}
+use Rattle.wa_model.specs.Store.{takes, Access, accessed}
+use Rattle.wa_model.specs.Configuration.{Configuration}
+use Rattle.wa_model.specs.Blocking.{overlap}
+use Rattle.wa_model.specs.Untouched.{next_access}
+
+-- ---- nothing of the original's store is written
+
+-- the bytes of an access lie in the area
+abbrev pub in_area : Area → Option Access → Bool
+in_area area None = true
+in_area area (Some x) = nat_le area.at x.at && nat_le (x.at + x.width) (area.at + area.len)
+
+abbrev pub keeps_basic : (globals : ℕ) → Area → Basic → List Value → Bool
+keeps_basic globals area (global_set x) ops = nat_le globals x
+keeps_basic globals area (store op align offset) ops = in_area area (accessed (store op align offset) ops)
+keeps_basic globals area memory_grow ops = false
+keeps_basic globals area _ ops = true
+
+abbrev pub keeps_code : (globals : ℕ) → Area → List Value → Code → Bool
+keeps_code globals area ops (plain (basic b) rest) = keeps_basic globals area b (take (takes b) ops)
+keeps_code globals area ops _ = true
+
+-- The next reduction writes none of so many globals and no byte outside the area, and doesn't grow the memory.
+abbrev pub keeps : (globals : ℕ) → Area → Configuration → Bool
+keeps globals area c = keeps_code globals area c.here.operands c.here.code
+
+-- ---- no call, and no store touched
+
+abbrev pub silent_basic : Basic → Bool
+silent_basic (global_set x) = false
+silent_basic (load op align offset) = false
+silent_basic (store op align offset) = false
+silent_basic memory_grow = false
+silent_basic _ = true
+
+abbrev pub silent_plain : Plain → Bool
+silent_plain (basic b) = silent_basic b
+silent_plain (call x) = false
+silent_plain (call_indirect sort) = false
+silent_plain _ = true
+
+abbrev pub silent_code : Code → Bool
+silent_code (plain p rest) = silent_plain p
+silent_code _ = true
+
+-- The next reduction is no call, no load, no store, no change of a global and no growth of the memory.
+abbrev pub silent : Configuration → Bool
+silent c = silent_code c.here.code
+
+-- ---- the area is not touched
+
+-- an access that doesn't trap, in a memory of this size, stays off the area
+abbrev pub stays_off : Area → (size : ℕ) → Option Access → Bool
+stays_off area size None = true
+stays_off area size (Some x) = nat_lt size (x.at + x.width) || not (overlap x.at x.width area.at area.len)
+
+-- The next reduction's load or store, if it makes one that doesn't trap, stays off the area.
+abbrev pub calm : Area → Configuration → Bool
+calm area c = stays_off area (length c.store.memory) (next_access c)
