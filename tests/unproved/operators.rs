@@ -1,148 +1,696 @@
-//! Integer operators at the edges (standard, section 4.3).
+//! Integer operators, with values that another engine gave (V8, standard, section 4.3).
 
 use Value::{I32, I64};
 use wa_ops::{binary, compare, convert, load_value, unary};
 use wa_types::{NumOp, Trap, ValType, Value};
 
+/// Two operands of i32 and the result.
+const BINARY_32: [(NumOp, u32, u32, Result<u32, Trap>); 75] = [
+    (NumOp::I32Add, 0x80000000, 0xFFFFFFFF, Ok(0x7FFFFFFF)),
+    (NumOp::I32Add, 0x7, 0x0, Ok(0x7)),
+    (NumOp::I32Add, 0xFFFFFFF9, 0x2, Ok(0xFFFFFFFB)),
+    (NumOp::I32Add, 0x80000005, 0x21, Ok(0x80000026)),
+    (NumOp::I32Add, 0x12345678, 0x9ABCDEF0, Ok(0xACF13568)),
+    (NumOp::I32Sub, 0x80000000, 0xFFFFFFFF, Ok(0x80000001)),
+    (NumOp::I32Sub, 0x7, 0x0, Ok(0x7)),
+    (NumOp::I32Sub, 0xFFFFFFF9, 0x2, Ok(0xFFFFFFF7)),
+    (NumOp::I32Sub, 0x80000005, 0x21, Ok(0x7FFFFFE4)),
+    (NumOp::I32Sub, 0x12345678, 0x9ABCDEF0, Ok(0x77777788)),
+    (NumOp::I32Mul, 0x80000000, 0xFFFFFFFF, Ok(0x80000000)),
+    (NumOp::I32Mul, 0x7, 0x0, Ok(0x0)),
+    (NumOp::I32Mul, 0xFFFFFFF9, 0x2, Ok(0xFFFFFFF2)),
+    (NumOp::I32Mul, 0x80000005, 0x21, Ok(0x800000A5)),
+    (NumOp::I32Mul, 0x12345678, 0x9ABCDEF0, Ok(0x242D2080)),
+    (
+        NumOp::I32DivS,
+        0x80000000,
+        0xFFFFFFFF,
+        Err(Trap::IntegerOverflow),
+    ),
+    (NumOp::I32DivS, 0x7, 0x0, Err(Trap::DivideByZero)),
+    (NumOp::I32DivS, 0xFFFFFFF9, 0x2, Ok(0xFFFFFFFD)),
+    (NumOp::I32DivS, 0x80000005, 0x21, Ok(0xFC1F07C3)),
+    (NumOp::I32DivS, 0x12345678, 0x9ABCDEF0, Ok(0x0)),
+    (NumOp::I32DivU, 0x80000000, 0xFFFFFFFF, Ok(0x0)),
+    (NumOp::I32DivU, 0x7, 0x0, Err(Trap::DivideByZero)),
+    (NumOp::I32DivU, 0xFFFFFFF9, 0x2, Ok(0x7FFFFFFC)),
+    (NumOp::I32DivU, 0x80000005, 0x21, Ok(0x3E0F83E)),
+    (NumOp::I32DivU, 0x12345678, 0x9ABCDEF0, Ok(0x0)),
+    (NumOp::I32RemS, 0x80000000, 0xFFFFFFFF, Ok(0x0)),
+    (NumOp::I32RemS, 0x7, 0x0, Err(Trap::DivideByZero)),
+    (NumOp::I32RemS, 0xFFFFFFF9, 0x2, Ok(0xFFFFFFFF)),
+    (NumOp::I32RemS, 0x80000005, 0x21, Ok(0xFFFFFFE2)),
+    (NumOp::I32RemS, 0x12345678, 0x9ABCDEF0, Ok(0x12345678)),
+    (NumOp::I32RemU, 0x80000000, 0xFFFFFFFF, Ok(0x80000000)),
+    (NumOp::I32RemU, 0x7, 0x0, Err(Trap::DivideByZero)),
+    (NumOp::I32RemU, 0xFFFFFFF9, 0x2, Ok(0x1)),
+    (NumOp::I32RemU, 0x80000005, 0x21, Ok(0x7)),
+    (NumOp::I32RemU, 0x12345678, 0x9ABCDEF0, Ok(0x12345678)),
+    (NumOp::I32And, 0x80000000, 0xFFFFFFFF, Ok(0x80000000)),
+    (NumOp::I32And, 0x7, 0x0, Ok(0x0)),
+    (NumOp::I32And, 0xFFFFFFF9, 0x2, Ok(0x0)),
+    (NumOp::I32And, 0x80000005, 0x21, Ok(0x1)),
+    (NumOp::I32And, 0x12345678, 0x9ABCDEF0, Ok(0x12345670)),
+    (NumOp::I32Or, 0x80000000, 0xFFFFFFFF, Ok(0xFFFFFFFF)),
+    (NumOp::I32Or, 0x7, 0x0, Ok(0x7)),
+    (NumOp::I32Or, 0xFFFFFFF9, 0x2, Ok(0xFFFFFFFB)),
+    (NumOp::I32Or, 0x80000005, 0x21, Ok(0x80000025)),
+    (NumOp::I32Or, 0x12345678, 0x9ABCDEF0, Ok(0x9ABCDEF8)),
+    (NumOp::I32Xor, 0x80000000, 0xFFFFFFFF, Ok(0x7FFFFFFF)),
+    (NumOp::I32Xor, 0x7, 0x0, Ok(0x7)),
+    (NumOp::I32Xor, 0xFFFFFFF9, 0x2, Ok(0xFFFFFFFB)),
+    (NumOp::I32Xor, 0x80000005, 0x21, Ok(0x80000024)),
+    (NumOp::I32Xor, 0x12345678, 0x9ABCDEF0, Ok(0x88888888)),
+    (NumOp::I32Shl, 0x80000000, 0xFFFFFFFF, Ok(0x0)),
+    (NumOp::I32Shl, 0x7, 0x0, Ok(0x7)),
+    (NumOp::I32Shl, 0xFFFFFFF9, 0x2, Ok(0xFFFFFFE4)),
+    (NumOp::I32Shl, 0x80000005, 0x21, Ok(0xA)),
+    (NumOp::I32Shl, 0x12345678, 0x9ABCDEF0, Ok(0x56780000)),
+    (NumOp::I32ShrS, 0x80000000, 0xFFFFFFFF, Ok(0xFFFFFFFF)),
+    (NumOp::I32ShrS, 0x7, 0x0, Ok(0x7)),
+    (NumOp::I32ShrS, 0xFFFFFFF9, 0x2, Ok(0xFFFFFFFE)),
+    (NumOp::I32ShrS, 0x80000005, 0x21, Ok(0xC0000002)),
+    (NumOp::I32ShrS, 0x12345678, 0x9ABCDEF0, Ok(0x1234)),
+    (NumOp::I32ShrU, 0x80000000, 0xFFFFFFFF, Ok(0x1)),
+    (NumOp::I32ShrU, 0x7, 0x0, Ok(0x7)),
+    (NumOp::I32ShrU, 0xFFFFFFF9, 0x2, Ok(0x3FFFFFFE)),
+    (NumOp::I32ShrU, 0x80000005, 0x21, Ok(0x40000002)),
+    (NumOp::I32ShrU, 0x12345678, 0x9ABCDEF0, Ok(0x1234)),
+    (NumOp::I32Rotl, 0x80000000, 0xFFFFFFFF, Ok(0x40000000)),
+    (NumOp::I32Rotl, 0x7, 0x0, Ok(0x7)),
+    (NumOp::I32Rotl, 0xFFFFFFF9, 0x2, Ok(0xFFFFFFE7)),
+    (NumOp::I32Rotl, 0x80000005, 0x21, Ok(0xB)),
+    (NumOp::I32Rotl, 0x12345678, 0x9ABCDEF0, Ok(0x56781234)),
+    (NumOp::I32Rotr, 0x80000000, 0xFFFFFFFF, Ok(0x1)),
+    (NumOp::I32Rotr, 0x7, 0x0, Ok(0x7)),
+    (NumOp::I32Rotr, 0xFFFFFFF9, 0x2, Ok(0x7FFFFFFE)),
+    (NumOp::I32Rotr, 0x80000005, 0x21, Ok(0xC0000002)),
+    (NumOp::I32Rotr, 0x12345678, 0x9ABCDEF0, Ok(0x56781234)),
+];
+
+/// Two operands of i64 and the result.
+const BINARY_64: [(NumOp, u64, u64, Result<u64, Trap>); 75] = [
+    (
+        NumOp::I64Add,
+        0x8000000000000000,
+        0xFFFFFFFFFFFFFFFF,
+        Ok(0x7FFFFFFFFFFFFFFF),
+    ),
+    (NumOp::I64Add, 0x7, 0x0, Ok(0x7)),
+    (
+        NumOp::I64Add,
+        0xFFFFFFFFFFFFFFF9,
+        0x2,
+        Ok(0xFFFFFFFFFFFFFFFB),
+    ),
+    (
+        NumOp::I64Add,
+        0x8000000000000005,
+        0x41,
+        Ok(0x8000000000000046),
+    ),
+    (
+        NumOp::I64Add,
+        0x123456789ABCDEF,
+        0xFEDCBA9876543210,
+        Ok(0xFFFFFFFFFFFFFFFF),
+    ),
+    (
+        NumOp::I64Sub,
+        0x8000000000000000,
+        0xFFFFFFFFFFFFFFFF,
+        Ok(0x8000000000000001),
+    ),
+    (NumOp::I64Sub, 0x7, 0x0, Ok(0x7)),
+    (
+        NumOp::I64Sub,
+        0xFFFFFFFFFFFFFFF9,
+        0x2,
+        Ok(0xFFFFFFFFFFFFFFF7),
+    ),
+    (
+        NumOp::I64Sub,
+        0x8000000000000005,
+        0x41,
+        Ok(0x7FFFFFFFFFFFFFC4),
+    ),
+    (
+        NumOp::I64Sub,
+        0x123456789ABCDEF,
+        0xFEDCBA9876543210,
+        Ok(0x2468ACF13579BDF),
+    ),
+    (
+        NumOp::I64Mul,
+        0x8000000000000000,
+        0xFFFFFFFFFFFFFFFF,
+        Ok(0x8000000000000000),
+    ),
+    (NumOp::I64Mul, 0x7, 0x0, Ok(0x0)),
+    (
+        NumOp::I64Mul,
+        0xFFFFFFFFFFFFFFF9,
+        0x2,
+        Ok(0xFFFFFFFFFFFFFFF2),
+    ),
+    (
+        NumOp::I64Mul,
+        0x8000000000000005,
+        0x41,
+        Ok(0x8000000000000145),
+    ),
+    (
+        NumOp::I64Mul,
+        0x123456789ABCDEF,
+        0xFEDCBA9876543210,
+        Ok(0x2236D88FE5618CF0),
+    ),
+    (
+        NumOp::I64DivS,
+        0x8000000000000000,
+        0xFFFFFFFFFFFFFFFF,
+        Err(Trap::IntegerOverflow),
+    ),
+    (NumOp::I64DivS, 0x7, 0x0, Err(Trap::DivideByZero)),
+    (
+        NumOp::I64DivS,
+        0xFFFFFFFFFFFFFFF9,
+        0x2,
+        Ok(0xFFFFFFFFFFFFFFFD),
+    ),
+    (
+        NumOp::I64DivS,
+        0x8000000000000005,
+        0x41,
+        Ok(0xFE07E07E07E07E08),
+    ),
+    (
+        NumOp::I64DivS,
+        0x123456789ABCDEF,
+        0xFEDCBA9876543210,
+        Ok(0x0),
+    ),
+    (
+        NumOp::I64DivU,
+        0x8000000000000000,
+        0xFFFFFFFFFFFFFFFF,
+        Ok(0x0),
+    ),
+    (NumOp::I64DivU, 0x7, 0x0, Err(Trap::DivideByZero)),
+    (
+        NumOp::I64DivU,
+        0xFFFFFFFFFFFFFFF9,
+        0x2,
+        Ok(0x7FFFFFFFFFFFFFFC),
+    ),
+    (
+        NumOp::I64DivU,
+        0x8000000000000005,
+        0x41,
+        Ok(0x1F81F81F81F81F8),
+    ),
+    (
+        NumOp::I64DivU,
+        0x123456789ABCDEF,
+        0xFEDCBA9876543210,
+        Ok(0x0),
+    ),
+    (
+        NumOp::I64RemS,
+        0x8000000000000000,
+        0xFFFFFFFFFFFFFFFF,
+        Ok(0x0),
+    ),
+    (NumOp::I64RemS, 0x7, 0x0, Err(Trap::DivideByZero)),
+    (
+        NumOp::I64RemS,
+        0xFFFFFFFFFFFFFFF9,
+        0x2,
+        Ok(0xFFFFFFFFFFFFFFFF),
+    ),
+    (
+        NumOp::I64RemS,
+        0x8000000000000005,
+        0x41,
+        Ok(0xFFFFFFFFFFFFFFFD),
+    ),
+    (
+        NumOp::I64RemS,
+        0x123456789ABCDEF,
+        0xFEDCBA9876543210,
+        Ok(0x123456789ABCDEF),
+    ),
+    (
+        NumOp::I64RemU,
+        0x8000000000000000,
+        0xFFFFFFFFFFFFFFFF,
+        Ok(0x8000000000000000),
+    ),
+    (NumOp::I64RemU, 0x7, 0x0, Err(Trap::DivideByZero)),
+    (NumOp::I64RemU, 0xFFFFFFFFFFFFFFF9, 0x2, Ok(0x1)),
+    (NumOp::I64RemU, 0x8000000000000005, 0x41, Ok(0xD)),
+    (
+        NumOp::I64RemU,
+        0x123456789ABCDEF,
+        0xFEDCBA9876543210,
+        Ok(0x123456789ABCDEF),
+    ),
+    (
+        NumOp::I64And,
+        0x8000000000000000,
+        0xFFFFFFFFFFFFFFFF,
+        Ok(0x8000000000000000),
+    ),
+    (NumOp::I64And, 0x7, 0x0, Ok(0x0)),
+    (NumOp::I64And, 0xFFFFFFFFFFFFFFF9, 0x2, Ok(0x0)),
+    (NumOp::I64And, 0x8000000000000005, 0x41, Ok(0x1)),
+    (
+        NumOp::I64And,
+        0x123456789ABCDEF,
+        0xFEDCBA9876543210,
+        Ok(0x0),
+    ),
+    (
+        NumOp::I64Or,
+        0x8000000000000000,
+        0xFFFFFFFFFFFFFFFF,
+        Ok(0xFFFFFFFFFFFFFFFF),
+    ),
+    (NumOp::I64Or, 0x7, 0x0, Ok(0x7)),
+    (
+        NumOp::I64Or,
+        0xFFFFFFFFFFFFFFF9,
+        0x2,
+        Ok(0xFFFFFFFFFFFFFFFB),
+    ),
+    (
+        NumOp::I64Or,
+        0x8000000000000005,
+        0x41,
+        Ok(0x8000000000000045),
+    ),
+    (
+        NumOp::I64Or,
+        0x123456789ABCDEF,
+        0xFEDCBA9876543210,
+        Ok(0xFFFFFFFFFFFFFFFF),
+    ),
+    (
+        NumOp::I64Xor,
+        0x8000000000000000,
+        0xFFFFFFFFFFFFFFFF,
+        Ok(0x7FFFFFFFFFFFFFFF),
+    ),
+    (NumOp::I64Xor, 0x7, 0x0, Ok(0x7)),
+    (
+        NumOp::I64Xor,
+        0xFFFFFFFFFFFFFFF9,
+        0x2,
+        Ok(0xFFFFFFFFFFFFFFFB),
+    ),
+    (
+        NumOp::I64Xor,
+        0x8000000000000005,
+        0x41,
+        Ok(0x8000000000000044),
+    ),
+    (
+        NumOp::I64Xor,
+        0x123456789ABCDEF,
+        0xFEDCBA9876543210,
+        Ok(0xFFFFFFFFFFFFFFFF),
+    ),
+    (
+        NumOp::I64Shl,
+        0x8000000000000000,
+        0xFFFFFFFFFFFFFFFF,
+        Ok(0x0),
+    ),
+    (NumOp::I64Shl, 0x7, 0x0, Ok(0x7)),
+    (
+        NumOp::I64Shl,
+        0xFFFFFFFFFFFFFFF9,
+        0x2,
+        Ok(0xFFFFFFFFFFFFFFE4),
+    ),
+    (NumOp::I64Shl, 0x8000000000000005, 0x41, Ok(0xA)),
+    (
+        NumOp::I64Shl,
+        0x123456789ABCDEF,
+        0xFEDCBA9876543210,
+        Ok(0x456789ABCDEF0000),
+    ),
+    (
+        NumOp::I64ShrS,
+        0x8000000000000000,
+        0xFFFFFFFFFFFFFFFF,
+        Ok(0xFFFFFFFFFFFFFFFF),
+    ),
+    (NumOp::I64ShrS, 0x7, 0x0, Ok(0x7)),
+    (
+        NumOp::I64ShrS,
+        0xFFFFFFFFFFFFFFF9,
+        0x2,
+        Ok(0xFFFFFFFFFFFFFFFE),
+    ),
+    (
+        NumOp::I64ShrS,
+        0x8000000000000005,
+        0x41,
+        Ok(0xC000000000000002),
+    ),
+    (
+        NumOp::I64ShrS,
+        0x123456789ABCDEF,
+        0xFEDCBA9876543210,
+        Ok(0x123456789AB),
+    ),
+    (
+        NumOp::I64ShrU,
+        0x8000000000000000,
+        0xFFFFFFFFFFFFFFFF,
+        Ok(0x1),
+    ),
+    (NumOp::I64ShrU, 0x7, 0x0, Ok(0x7)),
+    (
+        NumOp::I64ShrU,
+        0xFFFFFFFFFFFFFFF9,
+        0x2,
+        Ok(0x3FFFFFFFFFFFFFFE),
+    ),
+    (
+        NumOp::I64ShrU,
+        0x8000000000000005,
+        0x41,
+        Ok(0x4000000000000002),
+    ),
+    (
+        NumOp::I64ShrU,
+        0x123456789ABCDEF,
+        0xFEDCBA9876543210,
+        Ok(0x123456789AB),
+    ),
+    (
+        NumOp::I64Rotl,
+        0x8000000000000000,
+        0xFFFFFFFFFFFFFFFF,
+        Ok(0x4000000000000000),
+    ),
+    (NumOp::I64Rotl, 0x7, 0x0, Ok(0x7)),
+    (
+        NumOp::I64Rotl,
+        0xFFFFFFFFFFFFFFF9,
+        0x2,
+        Ok(0xFFFFFFFFFFFFFFE7),
+    ),
+    (NumOp::I64Rotl, 0x8000000000000005, 0x41, Ok(0xB)),
+    (
+        NumOp::I64Rotl,
+        0x123456789ABCDEF,
+        0xFEDCBA9876543210,
+        Ok(0x456789ABCDEF0123),
+    ),
+    (
+        NumOp::I64Rotr,
+        0x8000000000000000,
+        0xFFFFFFFFFFFFFFFF,
+        Ok(0x1),
+    ),
+    (NumOp::I64Rotr, 0x7, 0x0, Ok(0x7)),
+    (
+        NumOp::I64Rotr,
+        0xFFFFFFFFFFFFFFF9,
+        0x2,
+        Ok(0x7FFFFFFFFFFFFFFE),
+    ),
+    (
+        NumOp::I64Rotr,
+        0x8000000000000005,
+        0x41,
+        Ok(0xC000000000000002),
+    ),
+    (
+        NumOp::I64Rotr,
+        0x123456789ABCDEF,
+        0xFEDCBA9876543210,
+        Ok(0xCDEF0123456789AB),
+    ),
+];
+
+/// Two operands of i32 and the result.
+const COMPARE_32: [(NumOp, u32, u32, u32); 60] = [
+    (NumOp::I32Eq, 0x80000000, 0xFFFFFFFF, 0),
+    (NumOp::I32Eq, 0x7, 0x0, 0),
+    (NumOp::I32Eq, 0xFFFFFFF9, 0x2, 0),
+    (NumOp::I32Eq, 0x80000005, 0x21, 0),
+    (NumOp::I32Eq, 0x12345678, 0x9ABCDEF0, 0),
+    (NumOp::I32Eq, 0x5, 0x5, 1),
+    (NumOp::I32Ne, 0x80000000, 0xFFFFFFFF, 1),
+    (NumOp::I32Ne, 0x7, 0x0, 1),
+    (NumOp::I32Ne, 0xFFFFFFF9, 0x2, 1),
+    (NumOp::I32Ne, 0x80000005, 0x21, 1),
+    (NumOp::I32Ne, 0x12345678, 0x9ABCDEF0, 1),
+    (NumOp::I32Ne, 0x5, 0x5, 0),
+    (NumOp::I32LtS, 0x80000000, 0xFFFFFFFF, 1),
+    (NumOp::I32LtS, 0x7, 0x0, 0),
+    (NumOp::I32LtS, 0xFFFFFFF9, 0x2, 1),
+    (NumOp::I32LtS, 0x80000005, 0x21, 1),
+    (NumOp::I32LtS, 0x12345678, 0x9ABCDEF0, 0),
+    (NumOp::I32LtS, 0x5, 0x5, 0),
+    (NumOp::I32LtU, 0x80000000, 0xFFFFFFFF, 1),
+    (NumOp::I32LtU, 0x7, 0x0, 0),
+    (NumOp::I32LtU, 0xFFFFFFF9, 0x2, 0),
+    (NumOp::I32LtU, 0x80000005, 0x21, 0),
+    (NumOp::I32LtU, 0x12345678, 0x9ABCDEF0, 1),
+    (NumOp::I32LtU, 0x5, 0x5, 0),
+    (NumOp::I32GtS, 0x80000000, 0xFFFFFFFF, 0),
+    (NumOp::I32GtS, 0x7, 0x0, 1),
+    (NumOp::I32GtS, 0xFFFFFFF9, 0x2, 0),
+    (NumOp::I32GtS, 0x80000005, 0x21, 0),
+    (NumOp::I32GtS, 0x12345678, 0x9ABCDEF0, 1),
+    (NumOp::I32GtS, 0x5, 0x5, 0),
+    (NumOp::I32GtU, 0x80000000, 0xFFFFFFFF, 0),
+    (NumOp::I32GtU, 0x7, 0x0, 1),
+    (NumOp::I32GtU, 0xFFFFFFF9, 0x2, 1),
+    (NumOp::I32GtU, 0x80000005, 0x21, 1),
+    (NumOp::I32GtU, 0x12345678, 0x9ABCDEF0, 0),
+    (NumOp::I32GtU, 0x5, 0x5, 0),
+    (NumOp::I32LeS, 0x80000000, 0xFFFFFFFF, 1),
+    (NumOp::I32LeS, 0x7, 0x0, 0),
+    (NumOp::I32LeS, 0xFFFFFFF9, 0x2, 1),
+    (NumOp::I32LeS, 0x80000005, 0x21, 1),
+    (NumOp::I32LeS, 0x12345678, 0x9ABCDEF0, 0),
+    (NumOp::I32LeS, 0x5, 0x5, 1),
+    (NumOp::I32LeU, 0x80000000, 0xFFFFFFFF, 1),
+    (NumOp::I32LeU, 0x7, 0x0, 0),
+    (NumOp::I32LeU, 0xFFFFFFF9, 0x2, 0),
+    (NumOp::I32LeU, 0x80000005, 0x21, 0),
+    (NumOp::I32LeU, 0x12345678, 0x9ABCDEF0, 1),
+    (NumOp::I32LeU, 0x5, 0x5, 1),
+    (NumOp::I32GeS, 0x80000000, 0xFFFFFFFF, 0),
+    (NumOp::I32GeS, 0x7, 0x0, 1),
+    (NumOp::I32GeS, 0xFFFFFFF9, 0x2, 0),
+    (NumOp::I32GeS, 0x80000005, 0x21, 0),
+    (NumOp::I32GeS, 0x12345678, 0x9ABCDEF0, 1),
+    (NumOp::I32GeS, 0x5, 0x5, 1),
+    (NumOp::I32GeU, 0x80000000, 0xFFFFFFFF, 0),
+    (NumOp::I32GeU, 0x7, 0x0, 1),
+    (NumOp::I32GeU, 0xFFFFFFF9, 0x2, 1),
+    (NumOp::I32GeU, 0x80000005, 0x21, 1),
+    (NumOp::I32GeU, 0x12345678, 0x9ABCDEF0, 0),
+    (NumOp::I32GeU, 0x5, 0x5, 1),
+];
+
+/// Two operands of i64 and the result.
+const COMPARE_64: [(NumOp, u64, u64, u32); 60] = [
+    (NumOp::I64Eq, 0x8000000000000000, 0xFFFFFFFFFFFFFFFF, 0),
+    (NumOp::I64Eq, 0x7, 0x0, 0),
+    (NumOp::I64Eq, 0xFFFFFFFFFFFFFFF9, 0x2, 0),
+    (NumOp::I64Eq, 0x8000000000000005, 0x41, 0),
+    (NumOp::I64Eq, 0x123456789ABCDEF, 0xFEDCBA9876543210, 0),
+    (NumOp::I64Eq, 0x5, 0x5, 1),
+    (NumOp::I64Ne, 0x8000000000000000, 0xFFFFFFFFFFFFFFFF, 1),
+    (NumOp::I64Ne, 0x7, 0x0, 1),
+    (NumOp::I64Ne, 0xFFFFFFFFFFFFFFF9, 0x2, 1),
+    (NumOp::I64Ne, 0x8000000000000005, 0x41, 1),
+    (NumOp::I64Ne, 0x123456789ABCDEF, 0xFEDCBA9876543210, 1),
+    (NumOp::I64Ne, 0x5, 0x5, 0),
+    (NumOp::I64LtS, 0x8000000000000000, 0xFFFFFFFFFFFFFFFF, 1),
+    (NumOp::I64LtS, 0x7, 0x0, 0),
+    (NumOp::I64LtS, 0xFFFFFFFFFFFFFFF9, 0x2, 1),
+    (NumOp::I64LtS, 0x8000000000000005, 0x41, 1),
+    (NumOp::I64LtS, 0x123456789ABCDEF, 0xFEDCBA9876543210, 0),
+    (NumOp::I64LtS, 0x5, 0x5, 0),
+    (NumOp::I64LtU, 0x8000000000000000, 0xFFFFFFFFFFFFFFFF, 1),
+    (NumOp::I64LtU, 0x7, 0x0, 0),
+    (NumOp::I64LtU, 0xFFFFFFFFFFFFFFF9, 0x2, 0),
+    (NumOp::I64LtU, 0x8000000000000005, 0x41, 0),
+    (NumOp::I64LtU, 0x123456789ABCDEF, 0xFEDCBA9876543210, 1),
+    (NumOp::I64LtU, 0x5, 0x5, 0),
+    (NumOp::I64GtS, 0x8000000000000000, 0xFFFFFFFFFFFFFFFF, 0),
+    (NumOp::I64GtS, 0x7, 0x0, 1),
+    (NumOp::I64GtS, 0xFFFFFFFFFFFFFFF9, 0x2, 0),
+    (NumOp::I64GtS, 0x8000000000000005, 0x41, 0),
+    (NumOp::I64GtS, 0x123456789ABCDEF, 0xFEDCBA9876543210, 1),
+    (NumOp::I64GtS, 0x5, 0x5, 0),
+    (NumOp::I64GtU, 0x8000000000000000, 0xFFFFFFFFFFFFFFFF, 0),
+    (NumOp::I64GtU, 0x7, 0x0, 1),
+    (NumOp::I64GtU, 0xFFFFFFFFFFFFFFF9, 0x2, 1),
+    (NumOp::I64GtU, 0x8000000000000005, 0x41, 1),
+    (NumOp::I64GtU, 0x123456789ABCDEF, 0xFEDCBA9876543210, 0),
+    (NumOp::I64GtU, 0x5, 0x5, 0),
+    (NumOp::I64LeS, 0x8000000000000000, 0xFFFFFFFFFFFFFFFF, 1),
+    (NumOp::I64LeS, 0x7, 0x0, 0),
+    (NumOp::I64LeS, 0xFFFFFFFFFFFFFFF9, 0x2, 1),
+    (NumOp::I64LeS, 0x8000000000000005, 0x41, 1),
+    (NumOp::I64LeS, 0x123456789ABCDEF, 0xFEDCBA9876543210, 0),
+    (NumOp::I64LeS, 0x5, 0x5, 1),
+    (NumOp::I64LeU, 0x8000000000000000, 0xFFFFFFFFFFFFFFFF, 1),
+    (NumOp::I64LeU, 0x7, 0x0, 0),
+    (NumOp::I64LeU, 0xFFFFFFFFFFFFFFF9, 0x2, 0),
+    (NumOp::I64LeU, 0x8000000000000005, 0x41, 0),
+    (NumOp::I64LeU, 0x123456789ABCDEF, 0xFEDCBA9876543210, 1),
+    (NumOp::I64LeU, 0x5, 0x5, 1),
+    (NumOp::I64GeS, 0x8000000000000000, 0xFFFFFFFFFFFFFFFF, 0),
+    (NumOp::I64GeS, 0x7, 0x0, 1),
+    (NumOp::I64GeS, 0xFFFFFFFFFFFFFFF9, 0x2, 0),
+    (NumOp::I64GeS, 0x8000000000000005, 0x41, 0),
+    (NumOp::I64GeS, 0x123456789ABCDEF, 0xFEDCBA9876543210, 1),
+    (NumOp::I64GeS, 0x5, 0x5, 1),
+    (NumOp::I64GeU, 0x8000000000000000, 0xFFFFFFFFFFFFFFFF, 0),
+    (NumOp::I64GeU, 0x7, 0x0, 1),
+    (NumOp::I64GeU, 0xFFFFFFFFFFFFFFF9, 0x2, 1),
+    (NumOp::I64GeU, 0x8000000000000005, 0x41, 1),
+    (NumOp::I64GeU, 0x123456789ABCDEF, 0xFEDCBA9876543210, 0),
+    (NumOp::I64GeU, 0x5, 0x5, 1),
+];
+
+/// An operand and the result.
+const UNARY: [(NumOp, Value, Value); 48] = [
+    (NumOp::I32Eqz, I32(0x0), I32(1)),
+    (NumOp::I32Eqz, I32(0x1), I32(0)),
+    (NumOp::I32Eqz, I32(0xFF0000), I32(0)),
+    (NumOp::I32Eqz, I32(0x80000000), I32(0)),
+    (NumOp::I32Eqz, I32(0xF0F00001), I32(0)),
+    (NumOp::I32Eqz, I32(0xFFFFFFFF), I32(0)),
+    (NumOp::I64Eqz, I64(0x0), I32(1)),
+    (NumOp::I64Eqz, I64(0x1), I32(0)),
+    (NumOp::I64Eqz, I64(0xFF0000), I32(0)),
+    (NumOp::I64Eqz, I64(0x100000000), I32(0)),
+    (NumOp::I64Eqz, I64(0x8000000000000000), I32(0)),
+    (NumOp::I64Eqz, I64(0xFFFFFFFFFFFFFFFF), I32(0)),
+    (NumOp::I32Clz, I32(0x0), I32(32)),
+    (NumOp::I32Clz, I32(0x1), I32(31)),
+    (NumOp::I32Clz, I32(0xFF0000), I32(8)),
+    (NumOp::I32Clz, I32(0x80000000), I32(0)),
+    (NumOp::I32Clz, I32(0xF0F00001), I32(0)),
+    (NumOp::I32Clz, I32(0xFFFFFFFF), I32(0)),
+    (NumOp::I32Ctz, I32(0x0), I32(32)),
+    (NumOp::I32Ctz, I32(0x1), I32(0)),
+    (NumOp::I32Ctz, I32(0xFF0000), I32(16)),
+    (NumOp::I32Ctz, I32(0x80000000), I32(31)),
+    (NumOp::I32Ctz, I32(0xF0F00001), I32(0)),
+    (NumOp::I32Ctz, I32(0xFFFFFFFF), I32(0)),
+    (NumOp::I32Popcnt, I32(0x0), I32(0)),
+    (NumOp::I32Popcnt, I32(0x1), I32(1)),
+    (NumOp::I32Popcnt, I32(0xFF0000), I32(8)),
+    (NumOp::I32Popcnt, I32(0x80000000), I32(1)),
+    (NumOp::I32Popcnt, I32(0xF0F00001), I32(9)),
+    (NumOp::I32Popcnt, I32(0xFFFFFFFF), I32(32)),
+    (NumOp::I64Clz, I64(0x0), I64(64)),
+    (NumOp::I64Clz, I64(0x1), I64(63)),
+    (NumOp::I64Clz, I64(0xFF0000), I64(40)),
+    (NumOp::I64Clz, I64(0x100000000), I64(31)),
+    (NumOp::I64Clz, I64(0x8000000000000000), I64(0)),
+    (NumOp::I64Clz, I64(0xFFFFFFFFFFFFFFFF), I64(0)),
+    (NumOp::I64Ctz, I64(0x0), I64(64)),
+    (NumOp::I64Ctz, I64(0x1), I64(0)),
+    (NumOp::I64Ctz, I64(0xFF0000), I64(16)),
+    (NumOp::I64Ctz, I64(0x100000000), I64(32)),
+    (NumOp::I64Ctz, I64(0x8000000000000000), I64(63)),
+    (NumOp::I64Ctz, I64(0xFFFFFFFFFFFFFFFF), I64(0)),
+    (NumOp::I64Popcnt, I64(0x0), I64(0)),
+    (NumOp::I64Popcnt, I64(0x1), I64(1)),
+    (NumOp::I64Popcnt, I64(0xFF0000), I64(8)),
+    (NumOp::I64Popcnt, I64(0x100000000), I64(1)),
+    (NumOp::I64Popcnt, I64(0x8000000000000000), I64(1)),
+    (NumOp::I64Popcnt, I64(0xFFFFFFFFFFFFFFFF), I64(64)),
+];
+
+/// An operand and the result.
+const CONVERT: [(NumOp, Value, Value); 6] = [
+    (NumOp::I32WrapI64, I64(0x100000002), I32(0x2)),
+    (NumOp::I32WrapI64, I64(0xFFFFFFFF80000000), I32(0x80000000)),
+    (
+        NumOp::I64ExtendI32S,
+        I32(0x80000000),
+        I64(0xFFFFFFFF80000000),
+    ),
+    (NumOp::I64ExtendI32S, I32(0x7FFFFFFF), I64(0x7FFFFFFF)),
+    (NumOp::I64ExtendI32U, I32(0x80000000), I64(0x80000000)),
+    (NumOp::I64ExtendI32U, I32(0x7FFFFFFF), I64(0x7FFFFFFF)),
+];
+
 #[test]
-fn division_of_i32(rt: HostRuntime) {
-    let least = I32(0x8000_0000);
-    let minus_one = I32(0xFFFF_FFFF);
-    let minus_seven = I32(0xFFFF_FFF9);
-    assert_eq!(rt;
-        binary(NumOp::I32DivS, I32(7), I32(0)),
-        Err(Trap::DivideByZero)
-    );
-    assert_eq!(rt;
-        binary(NumOp::I32RemU, I32(7), I32(0)),
-        Err(Trap::DivideByZero)
-    );
-    assert_eq!(rt;
-        binary(NumOp::I32DivS, least, minus_one),
-        Err(Trap::IntegerOverflow)
-    );
-    assert_eq!(rt; binary(NumOp::I32RemS, least, minus_one), Ok(I32(0)));
-    assert_eq!(rt; binary(NumOp::I32DivU, least, minus_one), Ok(I32(0)));
-    assert_eq!(rt;
-        binary(NumOp::I32DivS, minus_seven, I32(2)),
-        Ok(I32(0xFFFF_FFFD))
-    );
-    assert_eq!(rt; binary(NumOp::I32RemS, minus_seven, I32(2)), Ok(minus_one));
-    assert_eq!(rt;
-        binary(NumOp::I32RemS, I32(7), I32(0xFFFF_FFFE)),
-        Ok(I32(1))
-    );
+fn two_operands_give_one(rt: HostRuntime) {
+    for (op, a, b, wanted) in BINARY_32 {
+        assert_eq!(rt;
+            binary(op, I32(a), I32(b)),
+            wanted.map(I32),
+            "{op:?} {a} {b}"
+        );
+    }
+    for (op, a, b, wanted) in BINARY_64 {
+        assert_eq!(rt;
+            binary(op, I64(a), I64(b)),
+            wanted.map(I64),
+            "{op:?} {a} {b}"
+        );
+    }
 }
 
 #[test]
-fn division_of_i64(rt: HostRuntime) {
-    let least = I64(0x8000_0000_0000_0000);
-    let minus_one = I64(0xFFFF_FFFF_FFFF_FFFF);
-    let minus_seven = I64(0xFFFF_FFFF_FFFF_FFF9);
-    assert_eq!(rt;
-        binary(NumOp::I64DivU, I64(7), I64(0)),
-        Err(Trap::DivideByZero)
-    );
-    assert_eq!(rt;
-        binary(NumOp::I64RemS, I64(7), I64(0)),
-        Err(Trap::DivideByZero)
-    );
-    assert_eq!(rt;
-        binary(NumOp::I64DivS, least, minus_one),
-        Err(Trap::IntegerOverflow)
-    );
-    assert_eq!(rt; binary(NumOp::I64RemS, least, minus_one), Ok(I64(0)));
-    assert_eq!(rt;
-        binary(NumOp::I64DivS, minus_seven, I64(2)),
-        Ok(I64(0xFFFF_FFFF_FFFF_FFFD))
-    );
-    assert_eq!(rt; binary(NumOp::I64RemS, minus_seven, I64(2)), Ok(minus_one));
+fn two_operands_are_compared(rt: HostRuntime) {
+    for (op, a, b, wanted) in COMPARE_32 {
+        assert_eq!(rt; compare(op, I32(a), I32(b)), I32(wanted), "{op:?} {a} {b}");
+    }
+    for (op, a, b, wanted) in COMPARE_64 {
+        assert_eq!(rt; compare(op, I64(a), I64(b)), I32(wanted), "{op:?} {a} {b}");
+    }
 }
 
 #[test]
-fn shifts_at_and_past_the_width(rt: HostRuntime) {
-    let x = I32(0x8000_0005);
-    let y = I64(0x8000_0000_0000_0005);
-    assert_eq!(rt; binary(NumOp::I32Shl, x, I32(32)), Ok(x));
-    assert_eq!(rt; binary(NumOp::I32Shl, x, I32(33)), Ok(I32(0xA)));
-    assert_eq!(rt; binary(NumOp::I32ShrU, x, I32(33)), Ok(I32(0x4000_0002)));
-    assert_eq!(rt; binary(NumOp::I32ShrS, x, I32(33)), Ok(I32(0xC000_0002)));
-    assert_eq!(rt; binary(NumOp::I32ShrS, x, I32(31)), Ok(I32(0xFFFF_FFFF)));
-    assert_eq!(rt; binary(NumOp::I64Shl, y, I64(64)), Ok(y));
-    assert_eq!(rt;
-        binary(NumOp::I64ShrU, y, I64(65)),
-        Ok(I64(0x4000_0000_0000_0002))
-    );
-    assert_eq!(rt;
-        binary(NumOp::I64ShrS, y, I64(65)),
-        Ok(I64(0xC000_0000_0000_0002))
-    );
+fn one_operand_gives_one(rt: HostRuntime) {
+    for (op, a, wanted) in UNARY {
+        assert_eq!(rt; unary(op, a), wanted, "{op:?} {a:?}");
+    }
+    for (op, a, wanted) in CONVERT {
+        assert_eq!(rt; convert(op, a), wanted, "{op:?} {a:?}");
+    }
 }
 
-#[test]
-fn rotations_at_and_past_the_width(rt: HostRuntime) {
-    let x = I32(0x8000_0005);
-    let y = I64(0x8000_0000_0000_0005);
-    assert_eq!(rt; binary(NumOp::I32Rotl, x, I32(1)), Ok(I32(0xB)));
-    assert_eq!(rt; binary(NumOp::I32Rotl, x, I32(32)), Ok(x));
-    assert_eq!(rt; binary(NumOp::I32Rotr, x, I32(33)), Ok(I32(0xC000_0002)));
-    assert_eq!(rt; binary(NumOp::I64Rotl, y, I64(65)), Ok(I64(0xB)));
-    assert_eq!(rt; binary(NumOp::I64Rotr, y, I64(64)), Ok(y));
-    assert_eq!(rt;
-        binary(NumOp::I64Rotr, y, I64(1)),
-        Ok(I64(0xC000_0000_0000_0002))
-    );
-}
-
-#[test]
-fn counts_of_bits(rt: HostRuntime) {
-    assert_eq!(rt; unary(NumOp::I32Clz, I32(0)), I32(32));
-    assert_eq!(rt; unary(NumOp::I32Ctz, I32(0)), I32(32));
-    assert_eq!(rt; unary(NumOp::I64Clz, I64(0)), I64(64));
-    assert_eq!(rt; unary(NumOp::I64Ctz, I64(0)), I64(64));
-    assert_eq!(rt; unary(NumOp::I32Clz, I32(0x00FF_0000)), I32(8));
-    assert_eq!(rt; unary(NumOp::I64Ctz, I64(0x00FF_0000)), I64(16));
-    assert_eq!(rt; unary(NumOp::I32Popcnt, I32(0xF0F0_0001)), I32(9));
-    assert_eq!(rt; unary(NumOp::I64Eqz, I64(1 << 32)), I32(0));
-}
-
-#[test]
-fn comparisons_and_conversions(rt: HostRuntime) {
-    let minus_one = I32(0xFFFF_FFFF);
-    assert_eq!(rt; compare(NumOp::I32LtS, minus_one, I32(1)), I32(1));
-    assert_eq!(rt; compare(NumOp::I32LtU, minus_one, I32(1)), I32(0));
-    assert_eq!(rt; compare(NumOp::I64GeS, I64(u64::MAX), I64(0)), I32(0));
-    assert_eq!(rt; compare(NumOp::I64GeU, I64(u64::MAX), I64(0)), I32(1));
-    assert_eq!(rt; convert(NumOp::I32WrapI64, I64(0x1_0000_0002)), I32(2));
-    assert_eq!(rt;
-        convert(NumOp::I64ExtendI32S, I32(0x8000_0000)),
-        I64(0xFFFF_FFFF_8000_0000)
-    );
-    assert_eq!(rt;
-        convert(NumOp::I64ExtendI32U, I32(0x8000_0000)),
-        I64(0x8000_0000)
-    );
-}
+/// What a load of so many bytes makes of a number (standard, section 4.4.4.1).
+const LOADS: [(ValType, u32, bool, u64, Value); 9] = [
+    (ValType::I32, 1, true, 0x80, I32(0xFFFF_FF80)),
+    (ValType::I32, 1, true, 0x7F, I32(0x7F)),
+    (ValType::I32, 1, false, 0x80, I32(0x80)),
+    (ValType::I32, 2, true, 0x8000, I32(0xFFFF_8000)),
+    (ValType::I32, 4, false, 0x8000_0000, I32(0x8000_0000)),
+    (ValType::I64, 1, true, 0x80, I64(0xFFFF_FFFF_FFFF_FF80)),
+    (ValType::I64, 2, true, 0x8000, I64(0xFFFF_FFFF_FFFF_8000)),
+    (
+        ValType::I64,
+        4,
+        true,
+        0x8000_0000,
+        I64(0xFFFF_FFFF_8000_0000),
+    ),
+    (ValType::I64, 4, false, 0x8000_0000, I64(0x8000_0000)),
+];
 
 #[test]
 fn loads_extend_the_sign(rt: HostRuntime) {
-    assert_eq!(rt; load_value(ValType::I32, 1, true, 0x80), I32(0xFFFF_FF80));
-    assert_eq!(rt; load_value(ValType::I32, 1, true, 0x7F), I32(0x7F));
-    assert_eq!(rt; load_value(ValType::I32, 2, true, 0x8000), I32(0xFFFF_8000));
-    assert_eq!(rt;
-        load_value(ValType::I64, 1, true, 0x80),
-        I64(0xFFFF_FFFF_FFFF_FF80)
-    );
-    assert_eq!(rt;
-        load_value(ValType::I64, 2, true, 0x8000),
-        I64(0xFFFF_FFFF_FFFF_8000)
-    );
-    assert_eq!(rt;
-        load_value(ValType::I64, 4, true, 0x8000_0000),
-        I64(0xFFFF_FFFF_8000_0000)
-    );
-    assert_eq!(rt;
-        load_value(ValType::I64, 4, false, 0x8000_0000),
-        I64(0x8000_0000)
-    );
+    for (ty, width, signed, number, wanted) in LOADS {
+        assert_eq!(rt; load_value(ty, width, signed, number), wanted, "{number}");
+    }
 }
