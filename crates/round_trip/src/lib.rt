@@ -1,4 +1,7 @@
-// Writing what is read, and reading what is written.
+//! The law of the round trip: what is written is read back as the same module, its runs merged and its custom sections in
+//! their written order; and reading and writing makes the shortest spelling of what the bytes spell.
+#![tactic(auto)]
+
 ghost use Rattle.std.specs.Prelude.{◌≡◌, ◌≢◌, ◌<◌, ◌≤◌, ◌^◌, ℕ, length, IfOk, Err};
 ghost use Rattle.std.specs.Result.{IfErr};
 ghost use Rattle.wa_types.specs.Encoding.{Enc};
@@ -6,7 +9,7 @@ ghost use Rattle.wa_types.specs.Norm.{Norm};
 ghost use Rattle.wa_types.specs.Sizes.{WellFormed};
 ghost use Rattle.wa_types.specs.View.{module_of};
 ghost use Rattle.wasm_encode.specs.Modules.{FewLocals};
-ghost use Rattle.encode_bench.specs.Again.{IsRewritten, IsOfSource, IsOfWritten};
+ghost use Rattle.round_trip.specs.Again.{IsRewritten, IsOfSource, IsOfWritten};
 
 use bytes::BytesMut;
 use std::alloc::Global;
@@ -31,7 +34,7 @@ pub enum AgainFault {
 
 impl From<ReadFault> for AgainFault {
     ghost use Rattle.std.specs.Prelude.{◌≡◌};
-    ghost use Rattle.encode_bench.specs.Again.{of_read};
+    ghost use Rattle.round_trip.specs.Again.{of_read};
 
     ghost from_gives = { λ fault told. told ≡ of_read fault };
 
@@ -50,7 +53,7 @@ impl From<ReadFault> for AgainFault {
 
 impl From<EncodeFault> for AgainFault {
     ghost use Rattle.std.specs.Prelude.{◌≡◌};
-    ghost use Rattle.encode_bench.specs.Again.{of_encode};
+    ghost use Rattle.round_trip.specs.Again.{of_encode};
 
     ghost from_gives = { λ fault told. told ≡ of_encode fault };
 

@@ -25,9 +25,9 @@ use Rattle.wasm_reader.specs.declared.read_fault.ReadFault.TheVariants.{Memory a
 use Rattle.wasm_reader.proofs.Accepting.{accepted_spelled}
 use Rattle.wasm_reader.proofs.ShortFile.{written_short}
 use Rattle.wasm_reader.proofs.SpelledSizes.{none_above, spelled_locals}
-use Rattle.encode_bench.specs.declared.again.AgainFault.{AgainFault}
-use Rattle.encode_bench.specs.declared.again.AgainFault.TheVariants.{Refused}
-use Rattle.encode_bench.specs.Again.{of_read, of_encode, IsRewritten, IsOfSource, IsOfWritten}
+use Rattle.round_trip.specs.declared.AgainFault.{AgainFault}
+use Rattle.round_trip.specs.declared.AgainFault.TheVariants.{Refused}
+use Rattle.round_trip.specs.Again.{of_read, of_encode, IsRewritten, IsOfSource, IsOfWritten}
 
 -- what is written spells the module in its written form
 spells : (m : Module) (bytes : List ℕ) → WellFormed m → FewLocals m → bytes ≡ Enc m → length (Enc m) ≤ 67108864 → SpellsModule bytes (Norm m)

@@ -3,8 +3,8 @@ use Rattle.std.proofs.Common.{subst, arith}
 use Rattle.std.proofs.lemmas.Result.{err_from_is_err_and}
 use Rattle.wa_types.specs.View.{module_of}
 use Rattle.wasm_reader.specs.Answers.{IsAccepted}
-use Rattle.encode_bench.proofs.RoundTrips.{few_locals, few_bytes, rewritten, told_of_source}
-use Rattle.encode_bench.proofs.again.rewrite.Goals as goal
+use Rattle.round_trip.proofs.RoundTrips.{few_locals, few_bytes, rewritten, told_of_source}
+use Rattle.round_trip.proofs.rewrite.Goals as goal
 
 pub encode-requires-clause-locals : goal.encode-requires-clause-locals
 encode-requires-clause-locals c =

@@ -10,8 +10,8 @@ use Rattle.wasm_encode.specs.declared.EncodeFault.TheVariants.{Memory as unwritt
 use Rattle.wasm_reader.specs.Answers.{IsAccepted, IsRefused}
 use Rattle.wasm_reader.specs.declared.read_fault.ReadFault.{ReadFault}
 use Rattle.wasm_reader.specs.declared.read_fault.ReadFault.TheVariants.{Memory as unread, Malformed, Float, Deep, Limit}
-use Rattle.encode_bench.specs.declared.again.AgainFault.{AgainFault}
-use Rattle.encode_bench.specs.declared.again.AgainFault.TheVariants.{Memory, TooLong, Refused}
+use Rattle.round_trip.specs.declared.AgainFault.{AgainFault}
+use Rattle.round_trip.specs.declared.AgainFault.TheVariants.{Memory, TooLong, Refused}
 
 -- a fault of reading, as it is told
 abbrev pub of_read : ReadFault → AgainFault

@@ -4,8 +4,8 @@ use Rattle.std.proofs.lemmas.Result.{err_from_is_err_and}
 use Rattle.wa_types.specs.Encoding.{Enc}
 use Rattle.wa_types.specs.View.{module_of}
 use Rattle.wasm_reader.specs.Answers.{IsAccepted, IsRefused}
-use Rattle.encode_bench.proofs.RoundTrips.{read_back, told_whole, told_of_written}
-use Rattle.encode_bench.proofs.again.read_again.Goals as goal
+use Rattle.round_trip.proofs.RoundTrips.{read_back, told_whole, told_of_written}
+use Rattle.round_trip.proofs.read_again.Goals as goal
 
 pub returns-in_err-bytes-clause-refused : goal.returns-in_err-bytes-clause-refused
 returns-in_err-bytes-clause-refused c =
