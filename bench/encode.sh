@@ -1,5 +1,5 @@
 #!/usr/bin/env bash
-# Times reading and writing: `encode_bench` (crates/encode_bench) on modules of 8 to 64 MB just below the bounds of prepared
+# Times reading and writing: `bench_loops` (crates/bench_loops) on modules of 8 to 64 MB just below the bounds of prepared
 # modules, in three shapes: small bodies, as many as there may be; one long body; data segments. User time and greatest
 # resident memory, beside `wasm-opt` reading and writing the same file (Debian's binaryen). Fails where a doubled size takes
 # more than 2.6 times the time, or where more than half of wasm-opt's time is taken.
@@ -28,13 +28,13 @@ open(path, "wb").write(module(section(1, [b"\x60\x01\x7f\x01\x7f"]), *sections))
 PY
 }
 
-build_program encode_bench "$temp/encode" data/empty.wasm "$temp/out.wasm"
+build_program bench_loops "$temp/loops"
 for kind in small long data; do
     before=
     for megabytes in 8 16 32 64; do
         make_module "$kind" $((megabytes * 1048576)) "$temp/in.wasm"
         bytes=$(stat -c %s "$temp/in.wasm")
-        read -r time kilobytes < <(measure 0 1 "$temp/encode" "$temp/in.wasm" "$temp/out.wasm")
+        read -r time kilobytes < <(measure 0 1 "$temp/loops" encode "$temp/in.wasm" "$temp/out.wasm")
         cmp -s "$temp/in.wasm" "$temp/out.wasm" || { echo "$kind: the bytes differ"; exit 1; }
         echo "$kind: $bytes bytes in $time s, $((kilobytes * 1024 / bytes)) bytes of memory a byte"
         if has_peer wasm-opt; then

@@ -1,5 +1,5 @@
 #!/usr/bin/env bash
-# Times the interpreter (crates/interp_bench, which calls `Instance::begin` on the function `run` of a module): a loop of
+# Times the interpreter (crates/bench_loops, which calls `Instance::begin` on the function `run` of a module): a loop of
 # as many rounds as the argument says, or 10 million, each with a load and two additions, beside `wasm-interp` (Debian's
 # wabt) running the same file; and runs over nested blocks, locals and calls, each at one size and at twice that size.
 # Takes the best user time of five runs of each. Fails where the loop makes less than 20 million reductions a second or
@@ -59,9 +59,9 @@ open(path, "wb").write(module(
 PY
 }
 
-build_program interp_bench "$temp/run"
+build_program bench_loops "$temp/loops"
 make_module loads 0 "$rounds" "$temp/loads.wasm"
-read -r time _ < <(measure 0 5 "$temp/run" "$temp/loads.wasm")
+read -r time _ < <(measure 0 5 "$temp/loops" interp "$temp/loads.wasm")
 sum=$(sed -n 1p "$temp/printed")
 steps=$(sed -n 's/ steps$//p' "$temp/printed")
 echo "loop: $steps reductions in $time s, $(python3 -c "print(round($steps / $time / 1e6))") million a second"
@@ -78,8 +78,8 @@ doubled() {
     make_module "$1" "$2" "$3" "$temp/once.wasm"
     make_module "$1" "$(($2 * 2))" "$3" "$temp/twice.wasm"
     local once twice
-    read -r once _ < <(measure 0 5 "$temp/run" "$temp/once.wasm")
-    read -r twice _ < <(measure 0 5 "$temp/run" "$temp/twice.wasm")
+    read -r once _ < <(measure 0 5 "$temp/loops" interp "$temp/once.wasm")
+    read -r twice _ < <(measure 0 5 "$temp/loops" interp "$temp/twice.wasm")
     echo "$1: $2 in $once s, $(($2 * 2)) in $twice s"
     grep -q '^run() => i32:' "$temp/printed" || { echo "$1: $(head -1 "$temp/printed")"; failed=1; }
     bar "$twice <= 2.6 * $once" "$1: more than 2.6 times the time"

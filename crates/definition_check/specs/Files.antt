@@ -51,6 +51,10 @@ files =
     ∷ of_sections (0x00 ∷ 0x03 ∷ 0x02 ∷ 0xC3 ∷ 0xA9 ∷ []) None
     ∷ of_sections (0x00 ∷ 0x03 ∷ 0x01 ∷ 0xFF ∷ 0x00 ∷ []) (Some 12)
     ∷ of_sections (0x00 ∷ 0x02 ∷ 0x02 ∷ 0x61 ∷ 0x62 ∷ []) (Some 12)
+    -- a name whose first byte begins no character: it fails at its end
+    ∷ of_sections (0x00 ∷ 0x04 ∷ 0x02 ∷ 0xFF ∷ 0x61 ∷ 0x00 ∷ []) (Some 13)
+    -- a section that ends in its first of five types
+    ∷ of_sections (0x01 ∷ 0x02 ∷ 0x05 ∷ 0x60 ∷ []) (Some 12)
     -- a value type that there is none of; a type of another form
     ∷ of_sections (0x01 ∷ 0x05 ∷ 0x01 ∷ 0x60 ∷ 0x01 ∷ 0x7B ∷ 0x00 ∷ []) (Some 14)
     ∷ of_sections (0x01 ∷ 0x04 ∷ 0x01 ∷ 0x61 ∷ 0x00 ∷ 0x00 ∷ []) (Some 12)
@@ -63,6 +67,8 @@ files =
     -- a body whose code ends too early, and one whose code doesn't end
     ∷ of_sections (a_type ++ a_function ++ 0x0A ∷ 0x05 ∷ 0x01 ∷ 0x03 ∷ 0x00 ∷ 0x0B ∷ 0x0B ∷ []) (Some 24)
     ∷ of_sections (a_type ++ a_function ++ 0x0A ∷ 0x04 ∷ 0x01 ∷ 0x02 ∷ 0x00 ∷ 0x01 ∷ []) (Some 24)
+    -- a body that is longer than its section
+    ∷ of_sections (a_type ++ a_function ++ 0x0A ∷ 0x04 ∷ 0x01 ∷ 0x09 ∷ 0x00 ∷ 0x0B ∷ []) (Some 24)
     -- an opcode that there is none of; an else behind no if
     ∷ of_sections (a_type ++ a_function ++ 0x0A ∷ 0x05 ∷ 0x01 ∷ 0x03 ∷ 0x00 ∷ 0x06 ∷ 0x0B ∷ []) (Some 24)
     ∷ of_sections (a_type ++ a_function ++ 0x0A ∷ 0x05 ∷ 0x01 ∷ 0x03 ∷ 0x00 ∷ 0x05 ∷ 0x0B ∷ []) (Some 24)

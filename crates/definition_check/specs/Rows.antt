@@ -1,5 +1,5 @@
 -- Small programs that pause, and what their frames are.
-use Rattle.std.specs.Prelude.{◌≡◌, ℕ, List, [], ◌∷◌, ◌++◌, replicate, Some, None, true, false}
+use Rattle.std.specs.Prelude.{◌≡◌, ℕ, List, [], ◌∷◌, Some, None, true, false}
 use Rattle.wa_types.specs.declared.values.ValType.{ValType}
 use Rattle.wa_types.specs.declared.values.ValType.TheVariants.{I32, I64}
 use Rattle.wa_types.specs.declared.values.Value.TheVariants.{I32 as value_32, I64 as value_64}
@@ -8,8 +8,8 @@ use Rattle.wa_types.specs.declared.syntax.Run.{Run}
 use Rattle.wa_types.specs.declared.syntax.Import.{Import}
 use Rattle.wa_types.specs.declared.syntax.ImportKind.TheVariants.{Func as a_func_import}
 use Rattle.wa_types.specs.Syntax.{drop, const, num, load, store, memory_grow, Plain, basic, local_get, local_set, local_tee, br_if, br_table, call, call_indirect, a_block, a_loop, Code, done, plain, nest, branch, FuncType, Func, Module}
-use Rattle.wa_types.specs.Pausing.{save_all, save_live, Settings, every, Numbered}
-use Rattle.wa_types.specs.Frames.{Place, Saved, Suspended, Room, Fit, Image, Count}
+use Rattle.wa_types.specs.Pausing.{save_all, save_live, every, Numbered}
+use Rattle.wa_types.specs.Frames.{Place, Saved, Suspended, Room, Fit, Count}
 use Rattle.wa_types.specs.Bounds.{Weight}
 
 -- plain instructions in front of code
@@ -141,6 +141,30 @@ through_table = record (of_funcs (allocating ∷ working ∷ running ∷ [])) {
   memories = record { min = 2; max = None } ∷ [];
 }
 
+-- A block with a result beside one with none, in which a call gives it.
+abbrev pub with_blocks : Func
+with_blocks = record {
+  sort = 0;
+  locals = [];
+  body = nest a_loop None (nest a_block (Some I32) (then (i32 1 ∷ []) done) (then (basic drop ∷ []) done))
+      (nest a_block (Some I32) (then (local_get 0 ∷ call 0 ∷ []) done) done);
+}
+
+-- A loop with a result: no branch to it takes one.
+abbrev pub with_loop : Func
+with_loop = record { sort = 0; locals = []; body = nest a_loop (Some I32) (then (local_get 0 ∷ call 0 ∷ []) done) done }
+
+-- Local 1 is read behind the call only by way of the loop's back edge.
+abbrev pub going_back : Func
+going_back = record {
+  sort = 0;
+  locals = locals 1 I32;
+  body = nest a_loop None (then (local_get 1 ∷ basic drop ∷ local_get 0 ∷ call 0 ∷ local_tee 0 ∷ br_if 0 ∷ []) done) (then (local_get 0 ∷ []) done);
+}
+
+abbrev pub back_edge : Module
+back_edge = of_funcs (going_back ∷ [])
+
 -- a suspended activation whose values don't matter
 abbrev pub standing : ℕ → ℕ → Suspended
 standing func place = record { func = func; place = place; locals = []; operands = [] }
@@ -158,6 +182,8 @@ pub record Rooms : Type 0 where
   pub two_widths_takes : Room two_widths save_all (standing 1 0 ∷ []) ≡ 44
   pub reading_takes : Room reading save_all (standing 1 0 ∷ []) ≡ 16
   pub through_table_takes : Room through_table save_all (standing 2 1 ∷ standing 3 0 ∷ []) ≡ 56
+  pub through_table_live_takes : Room through_table save_live (standing 2 1 ∷ standing 3 0 ∷ []) ≡ 48
+  pub back_edge_live_takes : Room back_edge save_live (standing 1 0 ∷ []) ≡ 20
 
 abbrev pub place_of : ℕ → ValType → Place
 place_of x t = record { local = x; ty = t }
@@ -174,16 +200,6 @@ pub record Measures : Type 0 where
   pub two_labels_has : Weight two_labels choosing ≡ 12
   pub two_labels_locals_has : Count two_labels choosing ≡ 10
   pub sum_loop_has : Weight sum_loop summing ≡ 18
+  pub with_blocks_locals_has : Count (of_funcs (with_blocks ∷ [])) with_blocks ≡ 8
+  pub with_loop_locals_has : Count (of_funcs (with_loop ∷ [])) with_loop ≡ 6
   pub numbered_has : Numbered through_table (record { choice = every; ignore_indirect = false; policy = save_all }) (false ∷ false ∷ true ∷ true ∷ []) working ≡ 1 ∷ []
-
-abbrev pub all_imports : Settings
-all_imports = record { choice = every; ignore_indirect = false; policy = save_all }
-
--- the area at 1024 while the one call waits with 7 as its parameter and argument: 1044, 1088, the parameter,
--- the argument's slot and the number of the call
-abbrev pub memory_at_pause : List ℕ
-memory_at_pause = replicate 1024 0 ++ (0x14 ∷ 4 ∷ 0 ∷ 0 ∷ 0x40 ∷ 4 ∷ 0 ∷ 0 ∷ 7 ∷ 0 ∷ 0 ∷ 0 ∷ 7 ∷ 0 ∷ 0 ∷ 0 ∷ 0 ∷ 0 ∷ 0 ∷ 0 ∷ [])
-
-abbrev pub OneCallImage : Type 0
-OneCallImage =
-    Image one_call all_imports (false ∷ true ∷ []) (record { func = 1; place = 0; locals = value_32 7 ∷ []; operands = value_32 7 ∷ [] } ∷ []) 1024 64 memory_at_pause

@@ -10,7 +10,8 @@ ghost use Rattle.definition_check.specs.Files.{AllFound, FloatFound, beginnings,
 ghost use Rattle.wasm_validate.specs.Laws.{EachModuleDecided, VerdictIsTyping};
 ghost use Rattle.definition_check.specs.Faults.{AllSay, body_cases, module_cases, valid_cases};
 ghost use Rattle.definition_check.specs.Lists.{Listings, Lists};
-ghost use Rattle.definition_check.specs.Rows.{Measures, OneCallImage, Rooms, SavedLocals};
+ghost use Rattle.definition_check.specs.Images.{Images, NoImages, OneCallImage};
+ghost use Rattle.definition_check.specs.Rows.{Measures, Rooms, SavedLocals};
 
 /// What is computed of a body is its typing and its first fault.
 pub fn verdict_is_typing()
@@ -70,6 +71,16 @@ pub fn only_sleeper_pauses()
 /// What memory holds while a call waits.
 pub fn one_call_image()
     ensures { OneCallImage }
+{}
+
+/// What memory holds while values of both widths, live values alone and two activations wait.
+pub fn images()
+    ensures { Images }
+{}
+
+/// Bytes that are not what memory holds while a call waits.
+pub fn no_images()
+    ensures { NoImages }
 {}
 
 /// Whether bytes are a whole file, or else the least place at which they can't be one, is computed.

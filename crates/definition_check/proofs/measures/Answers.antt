@@ -14,5 +14,7 @@ returns c = record {
   two_labels_has = refl;
   two_labels_locals_has = refl;
   sum_loop_has = refl;
+  with_blocks_locals_has = refl;
+  with_loop_locals_has = refl;
   numbered_has = refl;
 }

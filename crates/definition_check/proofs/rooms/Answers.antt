@@ -22,4 +22,6 @@ returns c = record {
   two_widths_takes = refl;
   reading_takes = refl;
   through_table_takes = refl;
+  through_table_live_takes = refl;
+  back_edge_live_takes = refl;
 }

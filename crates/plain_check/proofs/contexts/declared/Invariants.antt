@@ -1,6 +1,0 @@
-use Rattle.std.proofs.Common.{◌≡◌, take}
-use Rattle.wa_types.specs.Modules.{declared_locals}
-use Rattle.plain_check.proofs.contexts.declared.Given as goal
-
-abbrev pub invariant-loop-run : goal.invariant-loop-run
-invariant-loop-run l = l.types.items ≡ declared_locals (take l.run-index l.runs)

@@ -1,5 +1,0 @@
-use Rattle.std.proofs.Common.{length}
-use Rattle.plain_check.proofs.frames.+put_named.Given as goal
-
-abbrev pub decreases-put_named : goal.decreases-put_named
-decreases-put_named l = length l.locals.now

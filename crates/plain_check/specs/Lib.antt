@@ -1,9 +1,0 @@
-pub mod Checks
-pub mod Contexts
-pub mod Frames
-pub mod Goals
-pub mod Lives
-pub mod Points
-pub mod Rules
-pub mod Sigs
-pub mod Trees
