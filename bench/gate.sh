@@ -6,7 +6,7 @@
 # Fails where `rt ci` does, where the sum passes 90 minutes, or where the proof of a crate passes 60 seconds that isn't among
 # those that are known to.
 . "$(dirname "$0")/common.sh"
-known="interp wa_model wa_types wasm_reader wasm_validate"
+known="asyncify_app interp wa_model wa_types wasm_reader wasm_validate"
 mkdir -p "$bench/out"
 log=$bench/out/gate.log
 
