@@ -1,5 +1,7 @@
 pub mod Ending
+pub mod Exported
 pub mod Growing
 pub mod Keeping
 pub mod RewrittenByHand
 pub mod Silence
+pub mod Sizes
