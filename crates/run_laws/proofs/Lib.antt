@@ -5,3 +5,4 @@ pub mod Keeping
 pub mod RewrittenByHand
 pub mod Silence
 pub mod Sizes
+pub mod Stopping

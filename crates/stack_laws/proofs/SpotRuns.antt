@@ -81,22 +81,22 @@ stack_behind m fn (a ∷ stack) h =
 -- ---- values that are given
 
 -- an answer that passes its test has the types of the results
-answer_typed : (results : List ValType) (value : Option Value) → answers results value ≡ true → types_of (option_to_list value) ≡ results
+pub answer_typed : (results : List ValType) (value : Option Value) → answers results value ≡ true → types_of (option_to_list value) ≡ results
 answer_typed [] None e = refl
 answer_typed [] (Some v) e = cc
 answer_typed (t ∷ []) None e = cc
 answer_typed (t ∷ []) (Some v) e = ap (λ u. u ∷ []) (sym (same_true t (type_of v) e))
 answer_typed (t ∷ u ∷ ts) value e = cc
 
-or_else_first : (a b : Option End) → or_else a b ≡ None → a ≡ None
+pub or_else_first : (a b : Option End) → or_else a b ≡ None → a ≡ None
 or_else_first None b e = refl
 or_else_first (Some x) b e = cc
 
-test_passed : (b : Bool) (e : End) → (if b then None else Some e) ≡ None → b ≡ true
+pub test_passed : (b : Bool) (e : End) → (if b then None else Some e) ≡ None → b ≡ true
 test_passed true e h = refl
 test_passed false e h = cc
 
-listed_typed : (types : List ValType) (values : List Value) → are_of types values ≡ true → types_of values ≡ types
+pub listed_typed : (types : List ValType) (values : List Value) → are_of types values ≡ true → types_of values ≡ types
 listed_typed [] [] e = refl
 listed_typed [] (v ∷ values) e = cc
 listed_typed (t ∷ types) [] e = cc
@@ -104,7 +104,7 @@ listed_typed (t ∷ types) (v ∷ values) e =
     let b = and_parts (same_type t (type_of v)) (are_of types values) e in ap (λ u. u ∷ types_of values) (sym (same_true t (type_of v) b.0)) ∙ ap (λ ts. t ∷ ts) (listed_typed types values b.1)
 
 -- the start function takes nothing
-start_takes_none : (m : Module) (x : ℕ) → Valid m → m.start ≡ Some x → (func_type_at m x).params ≡ []
+pub start_takes_none : (m : Module) (x : ℕ) → Valid m → m.start ≡ Some x → (func_type_at m x).params ≡ []
 start_takes_none m x v e = by_type (slice_get (func_types m) x) (ap (λ o. start_fits o (func_types m)) (sym e) ∙ v.start)
   where
     no_items : (ts : List ValType) → nat_eq (length ts) 0 ≡ true → ts ≡ []
@@ -235,15 +235,15 @@ module _ (b : Module) (v : Valid b) (plan : Plan) where
 
 -- ---- whole runs
 
-base_globals : (m : Module) → imported imported_global (Base m) ≡ imported imported_global m
+pub base_globals : (m : Module) → imported imported_global (Base m) ≡ imported imported_global m
 unfolding Base
 base_globals m = refl
 
-base_type : (m : Module) (x : ℕ) → func_type_at (Base m) x ≡ func_type_at m x
+pub base_type : (m : Module) (x : ℕ) → func_type_at (Base m) x ≡ func_type_at m x
 unfolding Base
 base_type m x = refl
 
-base_defined : (m : Module) (x : ℕ) → defined_at (Base m) x ≡ defined_at m x
+pub base_defined : (m : Module) (x : ℕ) → defined_at (Base m) x ≡ defined_at m x
 unfolding Base
 base_defined m x = refl
 
