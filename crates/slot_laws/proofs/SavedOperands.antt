@@ -11,9 +11,10 @@ use Rattle.wa_types.specs.Pausing.{Callee, callee, Policy, save_all, save_live}
 use Rattle.wa_types.specs.Points.{after, unless_last, points, if_call, call_points, func_points, func_call_points}
 use Rattle.wa_types.specs.Liveness.{is_live_after}
 use Rattle.wa_types.specs.Frames.{Pair, stands_at, is_type, greatest, same_pair, SlotPairs, Place, place_onto, named_places, slot_places, places, is_on_stack, Saved}
-use Rattle.wa_types.proofs.PointLemmas.{In, in_left, in_right}
+use Rattle.wa_types.proofs.PointLemmas.{In, in_left, in_right, is_visited}
+use Rattle.wa_types.proofs.TypingLemmas.{pruned_types}
 use Rattle.wa_types.proofs.SlotLemmas.{same_self, either_true, own_pair, stands_below, in_any, in_greatest, pass_pairs}
-use Rattle.slot_laws.specs.SlotBounds.{RiseFrom, OperandsAreSaved, SlotsStandOnce}
+use Rattle.slot_laws.specs.SlotBounds.{CallsAreAtPoints, RiseFrom, OperandsAreSaved, SlotsStandOnce}
 use Rattle.slot_laws.proofs.Order.{pairs_ascend, stand_once, slots_rise, named_rise, rise_once}
 
 -- ---- what stands at a call stands at a point
@@ -147,3 +148,9 @@ operands_saved m policy f place h t (ops, e, top) =
           let is : q ≡ here = slot.2 ∙ ap (λ (n : ℕ). record { local = length (locals_of m f) + n; ty = t }) same in
           rise_once 0 (Saved m policy f place) j i.0 here (saved_rise m f policy place) (there ∙ ap Some is) i.1,
     )
+
+pub calls_at_points : CallsAreAtPoints
+calls_at_points m i f place ops v is e =
+    let c : Around = around m f in
+    let seen = call_is_point c (c.result ∷ []) (pruned f.body) [] [] ops place e in
+    is_visited c (c.result ∷ []) (pruned f.body) (listed c.result) [] [] ops (pruned_types c (c.result ∷ []) f.body (listed c.result) [] (v.bodies i f is)) seen

@@ -1,9 +1,9 @@
 -- A spot just before a call is at that call's place among all calls of the body.
-use Rattle.std.proofs.Common.{arith, ◌≡◌, ℕ, zero, suc, ◌+◌, ◌-◌, ◌++◌, List, [], ◌∷◌, map, length, drop, Option, Some, None, Bool, true, false, refl, sym, ap, ◌∙◌, subst, append_assoc, append-nil}
+use Rattle.std.proofs.Common.{arith, ◌≡◌, ℕ, suc, ◌+◌, ◌-◌, ◌++◌, List, [], ◌∷◌, map, length, drop, Option, Some, None, Bool, true, false, refl, sym, ap, ◌∙◌, append_assoc, append-nil}
 use Rattle.std.specs.Prelude.{slice_get}
 use Rattle.std.specs.Option.{option_map}
 use Rattle.std.proofs.lemmas.Option.{slice_get-map}
-use Rattle.std.proofs.lemmas.List.{length-append, length-map}
+use Rattle.std.proofs.lemmas.List.{length-append}
 use Rattle.wa_types.specs.declared.values.ValType.{ValType}
 use Rattle.wa_types.specs.Syntax.{Plain, a_block, a_loop, Code, done, plain, nest, branch, Func, Module}
 use Rattle.wa_types.specs.Pruned.{is_last, pruned}
@@ -14,7 +14,7 @@ use Rattle.wa_types.specs.Points.{after, unless_last, func_call_points}
 use Rattle.wa_types.specs.Liveness.{Label as Continuation, goes_behind, goes_again, label_of, Position, position, behind_calls}
 use Rattle.wa_types.proofs.PointLemmas.{takes_after, passes}
 use Rattle.wa_types.proofs.PlaceLemmas.{last_no_call}
-use Rattle.wa_model.specs.Configuration.{Label, block_label, loop_label, call_count, calls_outside, place_of}
+use Rattle.wa_model.specs.Configuration.{Label, call_count, calls_outside, place_of}
 use Rattle.stack_laws.specs.Sites.{Site, site_of, sites, continuation}
 use Rattle.stack_laws.proofs.Spots.{callees_of, places_of, points_of, sites_length, Spot, at_start, past, in_block, in_loop, behind_nest, in_arm, in_else, behind_branch}
 

@@ -1,7 +1,6 @@
 -- Reductions of a valid module keep each activation at a spot of its body, over operands of the spot's types.
-use Rattle.std.proofs.Common.{arith, ◌≡◌, ℕ, zero, suc, ◌+◌, ◌-◌, ◌<◌, ◌≤◌, List, [], ◌∷◌, ◌++◌, map, reverse, Option, Some, None, Bool, true, false, refl, sym, ap, ◌∙◌, subst, length, take, drop, append_assoc}
+use Rattle.std.proofs.Common.{◌≡◌, ℕ, zero, suc, ◌+◌, List, [], ◌∷◌, ◌++◌, map, reverse, Option, Some, None, Bool, true, false, refl, sym, ap, ◌∙◌, subst, length, take, drop, append_assoc}
 use Rattle.std.specs.Prelude.{nat_lt, if◌then◌else◌, slice_get, slice_set, unwrap_or}
-use Rattle.std.proofs.lemmas.Bool.{ltb-true, ltb-false, and_parts}
 use Rattle.std.proofs.lemmas.List.{length-map, map-append, length-reverse, reverse-reverse}
 use Rattle.wa_types.specs.declared.values.ValType.{ValType}
 use Rattle.wa_types.specs.declared.values.ValType.TheVariants.{I32}
@@ -11,20 +10,18 @@ use Rattle.wa_types.specs.declared.values.Trap.TheVariants.{StackExhausted, Type
 use Rattle.wa_types.specs.Pruned.{is_last}
 use Rattle.wa_types.specs.Pausing.{Callee, direct, indirect, callee as callee_of}
 use Rattle.wa_types.specs.Syntax.{Plain, basic, local_get, local_set, local_tee, br, br_if, br_table, return, unreachable, call, call_indirect, a_block, a_loop, Code, done, plain, nest, branch, FuncType, Func, Module}
-use Rattle.wa_types.specs.Typing.{Around, Sig, moves, leaves, drops, selects, lacks, late, listed, type_of, all_there, all_alike, jump as jump_sig, may_jump, jumps, calls, calls_at, gets, sets, tees, basic_sig, sig, Takes, Types, Typed}
+use Rattle.wa_types.specs.Typing.{Around, leaves, lacks, listed, type_of, all_there, all_alike, jump as jump_sig, may_jump, jumps, calls, calls_at, gets, sets, tees, basic_sig, sig, Takes, Types, Typed}
 use Rattle.wa_types.specs.Validity.{Valid}
-use Rattle.wa_types.specs.Modules.{func_imports, func_sorts, func_types, func_type_at, type_at, or_empty, declared_locals, locals_of, around, defined_at}
+use Rattle.wa_types.specs.Modules.{func_imports, func_types, func_type_at, type_at, or_empty, declared_locals, locals_of, around, defined_at}
 use Rattle.wa_types.proofs.PlaceLemmas.{last_no_call}
 use Rattle.wa_model.specs.Store.{Store, value_at, Did, works, fails, lacks as lacking, takes, act}
 use Rattle.wa_model.specs.Configuration.{Label, block_label, loop_label, Activation, Configuration, running, waiting}
 use Rattle.wa_model.specs.Step.{Next, steps, asks, returns, traps, stuck, keep, result_count, leave, jump, finish, did, with_top, with_number, choose, arity_of, zero_of, entered, invoke, param_count, same_func_type, through, memory_max, step_at, step}
-use Rattle.wa_model.specs.Growth.{EntryNamed}
 use Rattle.wa_model.specs.Fitting.{types_of, results_of, StoreFits}
-use Rattle.wa_model.proofs.GrownSteps.{each_got}
-use Rattle.wa_model.proofs.FittingNames.{split_types, carried_types, kept_types, reversed_types, value_typed, set_typed, zeros_typed, func_types_true, one_reversed, type_small, func_type_small, results_are, count_is, defined_type, not_defined, func_found}
+use Rattle.wa_model.proofs.FittingNames.{split_types, carried_types, kept_types, reversed_types, value_typed, set_typed, zeros_typed, func_types_true, one_reversed, func_type_small, results_are, count_is, defined_type, func_found}
 use Rattle.wa_model.proofs.FittingActs.{DidFits, act_fits}
 use Rattle.wa_model.proofs.FittingSteps.{takes_above, chosen_alike, body_typed}
-use Rattle.stack_laws.proofs.Spots.{Spot, at_start, past, in_block, in_loop, behind_nest, in_arm, in_else, behind_branch, retyped, placed}
+use Rattle.stack_laws.proofs.Spots.{Spot, at_start, past, in_block, in_loop, in_arm, in_else, retyped, placed}
 
 -- An activation that runs, over operands of these types, stands at a spot of its body.
 pub record RunsAtSpot (m : Module) (fn : ℕ) (locals : List Value) (code : Code) (labels : List Label) (types : List ValType) : Type 0 where

@@ -1,21 +1,20 @@
 -- Where code stands in a typed body: by the steps that lead there from its start, with the operands' types.
-use Rattle.std.proofs.Common.{arith, ◌≡◌, ℕ, zero, suc, ◌+◌, ◌-◌, ◌≤◌, ◌++◌, List, [], ◌∷◌, map, length, take, drop, Option, Some, None, Bool, true, false, refl, sym, ap, ◌∙◌, subst, append_assoc, append-nil}
-use Rattle.std.specs.Prelude.{slice_get, if◌then◌else◌}
-use Rattle.std.proofs.lemmas.List.{length-append, length-map, map-append}
+use Rattle.std.proofs.Common.{◌≡◌, ℕ, ◌++◌, List, [], ◌∷◌, map, length, drop, Option, Some, None, Bool, true, false, refl, sym, ap, ◌∙◌, subst, append_assoc}
+use Rattle.std.specs.Prelude.{if◌then◌else◌}
+use Rattle.std.proofs.lemmas.List.{length-map, map-append}
 use Rattle.wa_types.specs.declared.values.ValType.{ValType}
 use Rattle.wa_types.specs.declared.values.ValType.TheVariants.{I32}
-use Rattle.wa_types.specs.Syntax.{Plain, a_block, a_loop, Shape, Code, done, plain, nest, branch, Func, Module}
+use Rattle.wa_types.specs.Syntax.{Plain, a_block, a_loop, Shape, Code, done, plain, nest, branch}
 use Rattle.wa_types.specs.Pruned.{is_last, pruned}
 use Rattle.wa_types.specs.Typing.{Around, Takes, Types, Typed, listed, label, sig}
-use Rattle.wa_types.specs.Modules.{around}
-use Rattle.wa_types.specs.Pausing.{Callee, callee, callee_onto, calls_of, calls_in}
-use Rattle.wa_types.specs.Points.{after, unless_last, if_call, call_points, func_call_points}
-use Rattle.wa_types.specs.Liveness.{Label as Continuation, goes_behind, goes_again, label_of, Position, position, if_call_here, behind_calls}
+use Rattle.wa_types.specs.Pausing.{Callee, callee, callee_onto, calls_of}
+use Rattle.wa_types.specs.Points.{after, unless_last, if_call, call_points}
+use Rattle.wa_types.specs.Liveness.{Label as Continuation, goes_behind, label_of, Position, position, if_call_here, behind_calls}
 use Rattle.wa_types.proofs.PointLemmas.{takes_after, passes}
 use Rattle.wa_types.proofs.PlaceLemmas.{last_no_call}
-use Rattle.wa_model.specs.Configuration.{Label, block_label, loop_label, call_count, calls_outside, place_of}
+use Rattle.wa_model.specs.Configuration.{Label, block_label, loop_label, call_count}
 use Rattle.wa_model.specs.Step.{arity_of}
-use Rattle.stack_laws.specs.Sites.{Site, site_of, sites, continuation}
+use Rattle.stack_laws.specs.Sites.{Site, site_of, sites}
 
 -- ---- the calls of code, seen three ways
 
