@@ -16,7 +16,7 @@ use Rattle.wa_model.specs.Step.{Next, steps, asks, returns, traps, stuck, step}
 use Rattle.wa_model.specs.Plan.{Entry, Plan, Outcome, given, refused, AnswerFits, OutcomeFits}
 use Rattle.wa_model.specs.Instantiation.{Opening, fails_as, opens, opening}
 use Rattle.wa_model.specs.Blocking.{Note, note, call_note, fault_of, pause_of, poked, done_notes, value_of_results, Task, the_start, an_entry, Left, with_outcomes, Asker, inside, outermost, store_at, stack_at, in_start, State, between, begins, runs, halts, on_to, next_entry, task_back, go_on, ends_at_call, tested, asked, by_step, enters, enter_next, start_called, blocking, no_store, all_left, started, begun, Blocking, store_of}
-use Rattle.range_laws.specs.Ranges.{CodesIn, WellFormedIn, ValuesIn, byte_in, StoreIn, NextIn, EndIn, NoteIn, EntryIn, LeftIn, TaskIn, AskerIn, StateIn, PokeInside, OpeningIn, BlockingIn, BlockingGrows, BlockingLater}
+use Rattle.range_laws.specs.Ranges.{CodesIn, WellFormedIn, ValuesIn, byte_in, StoreIn, NextIn, EndIn, NoteIn, EntryIn, LeftIn, TaskIn, AskerIn, StateIn, PokeInside, OpeningIn, BlockingIn, BlockingMemoryGrows, BlockingLater}
 use Rattle.range_laws.proofs.Acts.{none_in}
 use Rattle.range_laws.proofs.Steps.{func_in, entered_in, step_in}
 use Rattle.range_laws.proofs.Openings.{openings_in}
@@ -166,7 +166,7 @@ blocking_in m plan os n w p fs =
     let r = after_keeps (blocking (Base m) plan) (StateIn 0) (NoteIn 0) (turn_in (Base m) b plan 0) n (begun (Base m).start (all_left plan os) (opening (Base m) plan.globals)) first in
     (r.0, whole_store 0 (Blocking m plan os n).last r.1)
 
-pub blocking_grows : BlockingGrows
+pub blocking_grows : BlockingMemoryGrows
 blocking_grows m plan s t n es w h l =
     let low = length (store_of s).memory in
     leads_keeps (blocking m plan) (StateIn low) (NoteIn low) (turn_in m w plan low) s t n es (state_whole s h) l

@@ -11,13 +11,14 @@ use Rattle.wa_types.specs.Syntax.{Module}
 use Rattle.wa_types.specs.Frames.{Suspended}
 use Rattle.wa_model.specs.declared.answers.Area.{Area}
 use Rattle.wa_model.specs.declared.events.End.{End}
-use Rattle.wa_model.specs.declared.events.End.TheVariants.{Done, BadAnswer, BadPoke}
+use Rattle.wa_model.specs.declared.events.End.TheVariants.{Done, BadAnswer, BadPoke, UnwindTrap}
 use Rattle.wa_model.specs.Outside.{Poke, Answer, Event, ended}
 use Rattle.wa_model.specs.Store.{Store}
 use Rattle.wa_model.specs.Configuration.{Activation, Configuration, suspended}
 use Rattle.wa_model.specs.Plan.{Entry, Plan, PokeFits, AnswerFits, ValueFits, IsRefusal}
 use Rattle.wa_model.specs.Blocking.{Note, note, call_note, answers, overlap, poke_fits, bad_poke, is_unlisted, bad_pause, or_else, fault_of, pause_of, poked_memory, poked, resumed, done_notes, value_of_results, Asker, inside, outermost, store_at, stack_at}
-use Rattle.range_laws.specs.Ranges.{ValuesIn, MemoryIn, StoreIn, ActivationIn, ConfigurationIn, EndIn, EventIn, SuspendedIn, TicksIn, NoteIn, AskerIn, PokeInside, WaitsIn}
+use Rattle.wa_model.specs.LawfulStacks.{SuspendedIn}
+use Rattle.range_laws.specs.Ranges.{ValuesIn, MemoryIn, StoreIn, ActivationIn, ConfigurationIn, EndIn, EventIn, TicksIn, NoteIn, AskerIn, PokeInside, WaitsIn}
 use Rattle.range_laws.proofs.Acts.{none_in, more_in, first_in}
 use Rattle.range_laws.proofs.Bytes.{overwritten_in}
 use Rattle.range_laws.proofs.Steps.{joined_in, running_in}
@@ -104,6 +105,7 @@ module _ (results : List ValType) (size : ℕ) (plan : Plan) (in_start : Bool) (
 
 pub refusal_in : (e : End) → IsRefusal e → EndIn e
 refusal_in (BadAnswer import value) h = absurd h
+refusal_in (UnwindTrap trap used len) h = absurd h
 refusal_in _ h = tt
 
 -- ---- notes

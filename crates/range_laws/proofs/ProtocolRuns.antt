@@ -25,11 +25,12 @@ use Rattle.wa_model.specs.Outside.{Poke, Answer, answered, paused, returned, end
 use Rattle.wa_model.specs.Machine.{Turn, stops, goes, Ran}
 use Rattle.wa_model.specs.Store.{Store}
 use Rattle.wa_model.specs.Step.{Next, steps, asks, returns, traps, stuck, step, entered}
-use Rattle.wa_model.specs.Plan.{Entry, Plan, EntryFits, first_pages, Outcome, given, refused, AnswerFits, OutcomeFits, ValueFits}
+use Rattle.wa_model.specs.Plan.{Entry, Plan, AreaFits, EntryFits, Outcome, given, refused, AnswerFits, OutcomeFits, ValueFits}
 use Rattle.wa_model.specs.Instantiation.{Opening, fails_as, opens, opening, least_of}
 use Rattle.wa_model.specs.Blocking.{Note, note, call_note, fault_of, pause_of, poked, resumed, done_notes, value_of_results, Task, the_start, an_entry, Left, with_outcomes, Asker, inside, outermost, store_at, stack_at, in_start, next_entry, no_store, all_left}
 use Rattle.wa_model.specs.Protocol.{Exports, exports_of, Phase, is_running, unwinds, rewinds, Then, give_zero, test_unwound, pause_there, call_again, test_rewound, give_answer, Held, free, starting, busy, calling, aside, entering, over, put_word, with_words, used_of, protocol, broken, held_on, held_back, held_given, held_ends, held_pauses, held_tested, held_asked, trap_end, busy_step, is_state, zeros_of, answer_note, aside_back, aside_step, busy_enters, held_next, aside_called, held_start, held_started, held_begun, held_continued, store_held}
-use Rattle.range_laws.specs.Ranges.{byte_in, CodesIn, ValuesIn, MemoryIn, StoreIn, ActivationIn, NextIn, EndIn, SuspendedIn, TicksIn, NoteIn, EntryIn, LeftIn, AskerIn, PokeInside, PhaseIn, ThenIn, HeldIn, HeldFrom, OpeningIn, AreaInside, ProtocolIn, ProtocolGrows, ProtocolLater, FitsIn, FitsAreas, ComparedIn}
+use Rattle.wa_model.specs.LawfulStacks.{SuspendedIn}
+use Rattle.range_laws.specs.Ranges.{byte_in, CodesIn, ValuesIn, MemoryIn, StoreIn, ActivationIn, NextIn, EndIn, TicksIn, NoteIn, EntryIn, LeftIn, AskerIn, PokeInside, PhaseIn, ThenIn, HeldIn, HeldFrom, OpeningIn, ProtocolIn, ProtocolMemoryGrows, ProtocolLater, FitsIn, FitsAreas, ComparedIn}
 use Rattle.range_laws.proofs.Acts.{none_in, more_in}
 use Rattle.range_laws.proofs.Bytes.{bytes_of_in, overwritten_in}
 use Rattle.range_laws.proofs.Steps.{func_in, entered_in, step_in, zeros_in}
@@ -153,7 +154,7 @@ module _ (p : Module) (w : CodesIn p) (x : Exports) (plan : Plan) (base : ℕ) (
 
     trap_in : (area : Area) (ph : Phase) (trap : Trap) (s : Store) → EndIn (trap_end area ph trap s)
     trap_in area (is_running task) trap s = tt
-    trap_in area (unwinds e i a) trap s = tt
+    trap_in area (unwinds e i a) trap s = used_in s area
     trap_in area (rewinds e i a at_pause) trap s = tt
 
     trapped_in : (k : ℕ) (ph : Phase) (trap : Trap) (s : Store) → StoreIn low s → MoveIn low (goes k (note (ended (trap_end plan.area ph trap s)) s ∷ []) (over s))
@@ -285,7 +286,7 @@ held_whole low (aside ph c th l) h = (phase_raise low (length c.store.memory) ph
 held_whole low (entering ph e s l) h = (phase_raise low (length s.memory) ph h.2.memory.least h.0, h.1, store_whole low s h.2, h.3)
 held_whole low (over s) h = store_whole low s h
 
-pub protocol_grows : ProtocolGrows
+pub protocol_grows : ProtocolMemoryGrows
 protocol_grows p plan s t n es w wide h l =
     let base = plan.area.at + plan.area.len in
     let low = length (store_held s).memory in
@@ -299,7 +300,7 @@ held_on_from : (low : ℕ) (s : Store) (l : Left) (es : List Entry) → StoreIn 
 held_on_from low s l [] ok h = ok
 held_on_from low s l (e ∷ es) ok h = (ok, h)
 
-module _ (p : Module) (w : CodesIn p) (plan : Plan) (n : ℕ) (area : AreaInside p plan.area) where
+module _ (p : Module) (w : CodesIn p) (plan : Plan) (n : ℕ) (area : AreaFits p plan.area) where
   ran_in : (start : Option ℕ) (l : Left) (o : Opening) → OpeningIn (least_of (all_memories p) * page_size) o → LeftIn l
       → All (NoteIn 0) (held_continued p plan n (held_begun start l o)).events × StoreIn 0 (store_held (held_continued p plan n (held_begun start l o)).last)
   ran_in start l (fails_as e) h k = by_count n
@@ -337,7 +338,7 @@ Later p plan n more r =
     × All (NoteIn (length (store_held (held_continued p plan n r).last).memory)) later
     × StoreIn (length (store_held (held_continued p plan n r).last).memory) (store_held (held_continued p plan (n + more) r).last)
 
-module _ (p : Module) (w : CodesIn p) (plan : Plan) (n more : ℕ) (area : AreaInside p plan.area) where
+module _ (p : Module) (w : CodesIn p) (plan : Plan) (n more : ℕ) (area : AreaFits p plan.area) where
   over_later : (r : Ran Held Note) → r.last ≡ over no_store → Later p plan n more r
   over_later r e =
       let next = protocol p (exports_of p) plan in
@@ -387,18 +388,14 @@ entries_in m (e ∷ es) h = All-cons EntryIn e es (All-head (EntryFits m) e es h
 pub fits_in : FitsIn
 fits_in m plan h = record { globals = h.globals.ranges; entries = entries_in m plan.entries h.entries }
 
-first_least : (ls : List Limits) → first_pages ls ≡ least_of ls
-first_least [] = refl
-first_least (l ∷ ls) = refl
-
 pub fits_areas : FitsAreas
 unfolding Base with_runtime
 fits_areas m p plan imports memories h =
     let same : all_memories (Base m) ≡ all_memories p =
     ap (λ (is : List Import). filter_map (λ (i : Import). imported_memory i.kind) is ++ (m.memories ++ added_memories (all_memories m))) (sym imports)
     ∙ ap (λ (ls : List Limits). imported imported_memory p ++ ls) (sym memories) in
-    let size : first_pages (all_memories (Base m)) ≡ least_of (all_memories p) = first_least (all_memories (Base m)) ∙ ap least_of same in
-    record { least = h.area.least; inside = subst (λ (k : ℕ). plan.area.at + plan.area.len ≤ k * page_size) size h.area.inside }
+    let size : least_of (all_memories (Base m)) ≡ least_of (all_memories p) = ap least_of same in
+    record { aligned = h.area.aligned; least = h.area.least; inside = subst (λ (k : ℕ). plan.area.at + plan.area.len ≤ k * page_size) size h.area.inside }
 
 -- the runtime's globals begin with a zero
 runtime_in : All (λ (g : GlobalDef). CodeFits g.init) runtime_globals

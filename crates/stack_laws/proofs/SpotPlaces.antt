@@ -14,7 +14,7 @@ use Rattle.wa_types.specs.Points.{after, unless_last, func_call_points}
 use Rattle.wa_types.specs.Liveness.{Label as Continuation, goes_behind, goes_again, label_of, Position, position, behind_calls}
 use Rattle.wa_types.proofs.PointLemmas.{takes_after, passes}
 use Rattle.wa_types.proofs.PlaceLemmas.{last_no_call}
-use Rattle.wa_model.specs.Configuration.{Label, call_count, calls_outside, place_of}
+use Rattle.wa_model.specs.Configuration.{Label, call_count, calls_behind, calls_outside, place_of}
 use Rattle.stack_laws.specs.Sites.{Site, site_of, sites, continuation}
 use Rattle.stack_laws.proofs.Spots.{callees_of, places_of, points_of, sites_length, Spot, at_start, past, in_block, in_loop, behind_nest, in_arm, in_else, behind_branch}
 
@@ -37,6 +37,13 @@ second_of all before xs ys zs e = first_of all before xs ys zs e ∙ sym (append
 
 no_sites : (xs : List Site) → xs ≡ xs ++ []
 no_sites xs = sym (append-nil xs)
+
+-- what a label adds to the calls behind
+block_count : (rest skipped : Code) (labels : List Label) → length (calls_of (pruned skipped) ++ (calls_of (pruned rest) ++ calls_behind labels)) ≡ call_count skipped + call_count rest + calls_outside labels
+block_count rest skipped labels =
+    let first = length-append (calls_of (pruned skipped)) (calls_of (pruned rest) ++ calls_behind labels) in
+    let second = length-append (calls_of (pruned rest)) (calls_behind labels) in
+    omega (arith, first, second)
 
 done_count : call_count done ≡ 0
 unfolding calls_of pruned
@@ -69,7 +76,7 @@ found c body _ _ code own below (in_block {results} {labels} {r} {inner} {rest} 
       before = k.before;
       outside = behind ++ k.outside;
       all = first_of (sites c (c.result ∷ []) [] body [] []) k.before inside behind k.outside k.all ∙ ap (λ u. k.before ++ (sites c (r ∷ results) (goes_behind (pruned rest) ∷ continuations labels) code u [] ++ (behind ++ k.outside))) (sym ea);
-      count = length-append behind k.outside ∙ counts (length behind) (length k.outside) (call_count rest) (calls_outside labels) (call_count skipped) n k.count none;
+      count = length-append behind k.outside ∙ counts (length behind) (length k.outside) (call_count rest) (calls_outside labels) (call_count skipped) n k.count none ∙ sym (block_count rest skipped labels);
     }
   where
     counts : (a b x y z : ℕ) → a ≡ x → b ≡ y → z ≡ 0 → a + b ≡ z + x + y
@@ -84,7 +91,7 @@ found c body _ _ code own below (in_loop {results} {labels} {inner} {rest} r own
       before = k.before;
       outside = behind ++ k.outside;
       all = first_of (sites c (c.result ∷ []) [] body [] []) k.before inside behind k.outside k.all ∙ ap (λ u. k.before ++ (sites c (None ∷ results) again code u [] ++ (behind ++ k.outside))) (sym ea);
-      count = length-append behind k.outside ∙ counts (length behind) (length k.outside) (call_count rest) (calls_outside labels) n k.count;
+      count = length-append behind k.outside ∙ counts (length behind) (length k.outside) (call_count rest) (calls_outside labels) n k.count ∙ sym (length-append (calls_of (pruned rest)) (calls_behind labels));
     }
   where
     counts : (a b x y : ℕ) → a ≡ x → b ≡ y → a + b ≡ x + y
@@ -114,7 +121,7 @@ found c body _ _ code own below (in_arm {results} {labels} {r} {a} {b} {rest} ow
       before = k.before;
       outside = (second ++ third) ++ k.outside;
       all = first_of (sites c (c.result ∷ []) [] body [] []) k.before first (second ++ third) k.outside k.all ∙ ap (λ u. k.before ++ (sites c (r ∷ results) inner code u [] ++ ((second ++ third) ++ k.outside))) under;
-      count = counts (length ((second ++ third) ++ k.outside)) (length (second ++ third)) (length second) (length third) (length k.outside) (call_count b) (call_count rest) (calls_outside labels) (length-append (second ++ third) k.outside) (length-append second third) n o k.count;
+      count = counts (length ((second ++ third) ++ k.outside)) (length (second ++ third)) (length second) (length third) (length k.outside) (call_count b) (call_count rest) (calls_outside labels) (length-append (second ++ third) k.outside) (length-append second third) n o k.count ∙ sym (block_count rest b labels);
     }
   where
     counts : (t u x y z p q w : ℕ) → t ≡ u + z → u ≡ x + y → x ≡ p → y ≡ q → z ≡ w → t ≡ p + q + w
@@ -137,7 +144,7 @@ found c body _ _ code own below (in_else {results} {labels} {r} {b} {rest} {skip
           second_of (sites c (c.result ∷ []) [] body [] []) k.before first (second ++ third) k.outside k.all
           ∙ ap (λ q. (k.before ++ first) ++ q) (append_assoc second third k.outside)
           ∙ ap (λ u. (k.before ++ first) ++ (sites c (r ∷ results) inner code u [] ++ (third ++ k.outside))) under;
-      count = length-append third k.outside ∙ counts (length third) (length k.outside) (call_count rest) (calls_outside labels) (call_count skipped) o k.count none;
+      count = length-append third k.outside ∙ counts (length third) (length k.outside) (call_count rest) (calls_outside labels) (call_count skipped) o k.count none ∙ sym (block_count rest skipped labels);
     }
   where
     counts : (a b x y z : ℕ) → a ≡ x → b ≡ y → z ≡ 0 → a + b ≡ z + x + y

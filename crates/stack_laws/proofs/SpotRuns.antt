@@ -29,14 +29,14 @@ use Rattle.wa_model.specs.Plan.{Entry, EntryFits, Plan, Outcome, given, refused,
 use Rattle.wa_model.specs.Instantiation.{Opening, fails_as, opens, opening}
 use Rattle.wa_model.specs.Blocking.{Note, note, call_note, answers, or_else, fault_of, pause_of, poked, done_notes, Task, the_start, an_entry, Left, with_outcomes, Asker, inside, outermost, store_at, stack_at, in_start, State, between, begins, runs, halts, on_to, next_entry, task_back, go_on, tested, asked, by_step, enters, enter_next, start_called, blocking, all_left, started, begun, continued, Blocking}
 use Rattle.wa_model.specs.Fitting.{types_of, results_of, global_types, StoreFits}
-use Rattle.wa_model.specs.LawfulStacks.{LawfulActivation, LawfulStack}
+use Rattle.wa_model.specs.LawfulStacks.{SuspendedIn, LawfulActivation}
 use Rattle.wa_model.proofs.Invariants.{TurnKeeps, RanKeeps, after_keeps}
 use Rattle.wa_model.proofs.FittingNames.{same_true, results_are}
 use Rattle.wa_model.proofs.FittingSteps.{body_typed}
 use Rattle.wa_model.proofs.FittingOpenings.{openings_fit}
 use Rattle.wa_model.proofs.BaseValid.{base_valid, base_wider}
 use Rattle.wa_model.proofs.WiderTyping.{Wider, takes_wider}
-use Rattle.range_laws.specs.Ranges.{SuspendedIn, NoteIn}
+use Rattle.range_laws.specs.Ranges.{NoteIn}
 use Rattle.range_laws.proofs.BlockingRuns.{well_formed_in, blocking_in}
 use Rattle.range_laws.proofs.ProtocolRuns.{fits_in}
 use Rattle.stack_laws.specs.Lawful.{StacksAreLawful, StandsBehind, CodeStandsBehind}
@@ -312,8 +312,7 @@ lawful m v a p r =
       place = p.place;
       locals = p.locals ∙ base_locals m p.func;
       operands = ap (λ xs. slice_get xs a.place) (func_points_same m v a.func p.func is) ∙ p.operands;
-      local_ranges = r.locals;
-      operand_ranges = r.operands;
+      values = r;
     }
 
 pub stacks_lawful : StacksAreLawful
@@ -321,7 +320,7 @@ stacks_lawful m plan os n sizes v fits outcomes =
     let b : Module = Base m in
     let points = (whole_run m plan os n v fits).0 in
     let ranges = (blocking_in m plan os n (well_formed_in m sizes) (fits_in m plan fits) outcomes).0 in
-    both (NoteAtPoints b (base_valid m v) plan) (NoteIn 0) (λ (x : Note). LawfulStack m x.stack)
+    both (NoteAtPoints b (base_valid m v) plan) (NoteIn 0) (λ (x : Note). All (LawfulActivation m) x.stack)
     (λ x p r. both (ActAtPoint b) SuspendedIn (LawfulActivation m) (λ a q s. lawful m v a q s) x.stack p r.stack) (Blocking m plan os n).events points ranges
 
 base_behind : (m : Module) (a : Activation) → StandsBehind (Base m) a → StandsBehind m a

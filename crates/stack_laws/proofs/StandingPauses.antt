@@ -16,25 +16,18 @@ use Rattle.wa_model.specs.declared.events.End.{End}
 use Rattle.wa_model.specs.Outside.{Answer, Event, called, answered, paused, returned, ended, shown}
 use Rattle.wa_model.specs.Machine.{Turn, stops, Ran}
 use Rattle.wa_model.specs.Store.{Store}
-use Rattle.wa_model.specs.Configuration.{Label, block_label, loop_label, Activation, call_count, calls_outside, place_of, suspended}
+use Rattle.wa_model.specs.Configuration.{Activation, call_count, calls_behind, calls_outside, place_of, suspended}
 use Rattle.wa_model.specs.Step.{Next, steps, asks, returns, traps, stuck, entered, step}
 use Rattle.wa_model.specs.Plan.{Entry, Plan, Outcome, given, refused}
 use Rattle.wa_model.specs.Instantiation.{Opening, fails_as, opens, opening}
 use Rattle.wa_model.specs.Blocking.{Note, note, call_note, bad_poke, bad_pause, is_unlisted, or_else, fault_of, pause_of, poked, done_notes, Task, the_start, an_entry, Left, with_outcomes, Asker, inside, outermost, store_at, stack_at, in_start, State, between, begins, runs, halts, on_to, next_entry, task_back, go_on, tested, asked, by_step, enters, enter_next, start_called, blocking, all_left, started, begun, continued, Blocking}
 use Rattle.wa_model.specs.Behaves.{StandsNumbered, PauseNumbered}
-use Rattle.stack_laws.specs.Standing.{LeadsTo, Chained, IsRoot, CallChained, StacksChained, PauseTold, PausesTold, ListedNumbered, CallsAtNumbers, PausesAtNumbers, outside, calls_from, CallersAt, ConfigurationAt, WaitingAt, NextAt, EntriesAt, StateAt}
+use Rattle.wa_model.specs.LawfulStacks.{LeadsTo, Chained}
+use Rattle.stack_laws.specs.Standing.{IsRoot, CallChained, StacksChained, PauseTold, PausesTold, ListedNumbered, CallsAtNumbers, PausesAtNumbers, calls_from, CallersAt, ConfigurationAt, WaitingAt, NextAt, EntriesAt, StateAt}
 use Rattle.stack_laws.proofs.StandingSteps.{body_stands, waited_stands, step_stands}
 use Rattle.wa_model.proofs.Invariants.{TurnKeeps, after_keeps}
 
 -- ---- places
-
-outside_count : (labels : List Label) → length (outside labels) ≡ calls_outside labels
-outside_count [] = refl
-outside_count (block_label h arity rest skipped ∷ labels) =
-    length-append (calls_of (pruned skipped)) (calls_of (pruned rest) ++ outside labels)
-    ∙ ap (λ (n : ℕ). call_count skipped + n) (length-append (calls_of (pruned rest)) (outside labels) ∙ ap (λ (n : ℕ). call_count rest + n) (outside_count labels))
-    ∙ omega arith
-outside_count (loop_label h body rest ∷ labels) = length-append (calls_of (pruned rest)) (outside labels) ∙ ap (λ (n : ℕ). call_count rest + n) (outside_count labels)
 
 got_behind : {X : Type 0} (xs : List X) (x : X) (ys : List X) → slice_get (xs ++ x ∷ ys) (length xs) ≡ Some x
 got_behind [] x ys = refl
@@ -45,7 +38,7 @@ place_is : (m : Module) (a : Activation) (f : Func) (before : List Callee) (c : 
 place_is m a f before c is e =
     let rest = calls_from a.code a.labels in
     let count : length rest ≡ call_count a.code + calls_outside a.labels =
-    length-append (calls_of (pruned a.code)) (outside a.labels) ∙ ap (λ (n : ℕ). call_count a.code + n) (outside_count a.labels) in
+    length-append (calls_of (pruned a.code)) (calls_behind a.labels) in
     let all : length (calls_in f) ≡ length before + suc (length rest) = ap length e ∙ length-append before (c ∷ rest) in
     let place : place_of (Some f) a.code a.labels ≡ length before = omega arith in
     ap (λ (o : Option Func). slice_get (calls_in f) (place_of o a.code a.labels)) is

@@ -12,14 +12,15 @@ use Rattle.wa_types.specs.Pausing.{Callee, direct, indirect, calls_of, calls_in}
 use Rattle.wa_types.specs.Syntax.{Basic, nop, drop as a_drop, select, const, num, global_get, global_set, load, store, memory_size, memory_grow, Plain, basic, local_get, local_set, local_tee, br, br_if, br_table, return, unreachable, call, call_indirect, a_block, a_loop, Code, done, plain, nest, branch, Func, Module}
 use Rattle.wa_types.specs.Modules.{func_imports, type_at, func_type_at, defined_at}
 use Rattle.wa_model.specs.Store.{Store, Did, works, fails, lacks, takes, act, computed, width_of, loaded, load_at, stored, store_at, grew}
-use Rattle.wa_model.specs.Configuration.{Label, block_label, loop_label, Activation, Configuration, running, waiting}
+use Rattle.wa_model.specs.Configuration.{Label, block_label, loop_label, Activation, Configuration, running, waiting, calls_behind}
 use Rattle.wa_model.specs.Step.{Next, steps, asks, traps, stuck, result_count, leave, jump, finish, did, choose, entered, invoke, param_count, same_func_type, through, memory_max, step_plain, step_at, step, arity_of}
 use Rattle.wa_types.specs.Accesses.{AccessRow, load_row, store_row}
 use Rattle.wa_types.specs.Encoding.{same_type}
 use Rattle.wa_types.specs.Memory.{Memory, number_at, with_number as number_put, grown}
 use Rattle.wa_types.specs.Typing.{type_of}
 use Rattle.wa_ops.specs.Operate.{operate, number_of}
-use Rattle.stack_laws.specs.Standing.{LeadsTo, outside, calls_from, Remains, LabelsRemain, StandsAt, WaitsAt, CallersAt, ConfigurationAt, NextAt}
+use Rattle.wa_model.specs.LawfulStacks.{LeadsTo}
+use Rattle.stack_laws.specs.Standing.{calls_from, Remains, LabelsRemain, StandsAt, WaitsAt, CallersAt, ConfigurationAt, NextAt}
 
 -- a part more stands before
 past : (all before xs ys : List Callee) → all ≡ before ++ (xs ++ ys) → all ≡ (before ++ xs) ++ ys
@@ -165,8 +166,8 @@ module _ (m : Module) (table : List (Option ℕ)) (root : ℕ) where
     plain_at s ls (V.I32 n ∷ ops) labels rest (call_indirect sort) e h lb = through_at s ls ops n rest labels sort (slice_get s.table n) h.0 e refl h.1 lb
 
     -- the body of a construct, and what stands behind it
-    into_body : (all before : List Callee) (body rest : Code) (labels : List Label) → all ≡ before ++ ((calls_of (pruned body) ++ calls_of (pruned rest)) ++ outside labels) → all ≡ before ++ (calls_of (pruned body) ++ (calls_of (pruned rest) ++ outside labels))
-    into_body all before body rest labels e = e ∙ ap (λ (xs : List Callee). before ++ xs) (append_assoc (calls_of (pruned body)) (calls_of (pruned rest)) (outside labels))
+    into_body : (all before : List Callee) (body rest : Code) (labels : List Label) → all ≡ before ++ ((calls_of (pruned body) ++ calls_of (pruned rest)) ++ calls_behind labels) → all ≡ before ++ (calls_of (pruned body) ++ (calls_of (pruned rest) ++ calls_behind labels))
+    into_body all before body rest labels e = e ∙ ap (λ (xs : List Callee). before ++ xs) (append_assoc (calls_of (pruned body)) (calls_of (pruned rest)) (calls_behind labels))
 
     code_at : (s : Store) (ls ops : List Value) (labels : List Label) (code : Code) → s.table ≡ table → Remains (calls_in f) code labels → LabelsRemain (calls_in f) labels → NextAt m table root (step_at m s fn under ls ops labels code)
     unfolding pruned calls_of
@@ -183,7 +184,7 @@ module _ (m : Module) (table : List (Option ℕ)) (root : ℕ) where
     code_at s ls (V.I32 n ∷ ops) labels (branch r a b rest) z h lb = by_number n
       where
         both : calls_in f ≡ h.0 ++ (calls_of (pruned a) ++ (calls_of (pruned b) ++ calls_from rest labels))
-        both = h.1 ∙ ap (λ (xs : List Callee). h.0 ++ xs) (append_assoc (calls_of (pruned a) ++ calls_of (pruned b)) (calls_of (pruned rest)) (outside labels) ∙ append_assoc (calls_of (pruned a)) (calls_of (pruned b)) (calls_from rest labels))
+        both = h.1 ∙ ap (λ (xs : List Callee). h.0 ++ xs) (append_assoc (calls_of (pruned a) ++ calls_of (pruned b)) (calls_of (pruned rest)) (calls_behind labels) ∙ append_assoc (calls_of (pruned a)) (calls_of (pruned b)) (calls_from rest labels))
 
         second : calls_in f ≡ (h.0 ++ calls_of (pruned a)) ++ (calls_of (pruned b) ++ calls_from rest labels)
         second = past (calls_in f) h.0 (calls_of (pruned a)) (calls_of (pruned b) ++ calls_from rest labels) both

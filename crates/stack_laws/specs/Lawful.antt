@@ -12,15 +12,15 @@ use Rattle.wa_model.specs.Configuration.{Activation, Configuration, place_of}
 use Rattle.wa_model.specs.Step.{asks, step}
 use Rattle.wa_model.specs.Plan.{Plan, Outcome, OutcomeFits, Fits}
 use Rattle.wa_model.specs.Blocking.{Note, Task, Left, runs, Blocking}
-use Rattle.wa_model.specs.LawfulStacks.{LawfulStack}
+use Rattle.wa_model.specs.LawfulStacks.{LawfulActivation}
 use Rattle.stack_laws.specs.Sites.{continuation}
 
--- The stack at each call of a run is lawful: each activation stands at a call, over operands of the types that the typing of
+-- Each activation of the stack at each call of a run is lawful: it stands at a call, over operands of the types that the typing of
 -- its body finds just before that call, and all its values are in range.
 abbrev pub StacksAreLawful : Type 0
 StacksAreLawful =
     (m : Module) (plan : Plan) (os : List Outcome) (n : ℕ) → WellFormed m → Valid m → Fits m plan → All OutcomeFits os
-    → All (λ (x : Note). LawfulStack m x.stack) (Blocking m plan os n).events
+    → All (λ (x : Note). All (LawfulActivation m) x.stack) (Blocking m plan os n).events
 
 -- The code and the labels of an activation that waits are those behind the call of its place in the pruned body, the labels'
 -- heights aside.
