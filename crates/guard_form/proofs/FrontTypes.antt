@@ -92,7 +92,7 @@ module _ (c : Around) where
     sets_index ls ins = subst (λ o. Takes (sets o) (I32 ∷ ins) ins) (sym index) (ins, refl, refl)
 
     tests : (ls : Labels) (a b next : Code) (outs : List ValType) → Types c (None ∷ ls) a [] [] → Types c (None ∷ ls) b [] [] → Types c ls next outs []
-        → Types c ls (by_state i a b next) outs []
+        → Types c ls (by_state i.state a b next) outs []
     unfolding Types
     tests ls a b next outs ha hb hn = (I32 ∷ [], gets_state ls [], ([], refl, ha, hb, hn))
 
@@ -225,5 +225,5 @@ front_law c i d k ls first us state index e h = front_typed c i state index ls d
 pub body_law : BodyTyped
 unfolding Types
 body_law c i restoring saving result first us state index hr hs hg h =
-    tests c i state index (c.result ∷ []) restoring done (nest a_block None (front i 0 0 first us) (by_state i saving done (result_got result))) (listed c.result) hr refl
+    tests c i state index (c.result ∷ []) restoring done (nest a_block None (front i 0 0 first us) (by_state i.state saving done (result_got result))) (listed c.result) hr refl
     (front_typed c i state index (None ∷ c.result ∷ []) 0 0 us first refl h, tests c i state index (c.result ∷ []) saving done (result_got result) (listed c.result) hs refl hg)

@@ -5,3 +5,4 @@ pub mod Grouped
 pub mod PieceTypes
 pub mod Sizes
 pub mod UnitLemmas
+pub mod Walks

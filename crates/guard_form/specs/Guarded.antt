@@ -34,9 +34,9 @@ pub record GuardIndices : Type 0 where
   pub state : ℕ
   pub index : ℕ
 
--- a test of the state: the first arm where it isn't 0
-abbrev pub by_state : GuardIndices → (then_arm else_arm next : Code) → Code
-by_state i a b next = plain (basic (global_get i.state)) (branch None a b next)
+-- a test of the state's global: the first arm where it isn't 0
+abbrev pub by_state : (state : ℕ) → (then_arm else_arm next : Code) → Code
+by_state st a b next = plain (basic (global_get st)) (branch None a b next)
 
 -- the index against a constant
 abbrev pub index_with : GuardIndices → (op : Plain) → (k : ℕ) → (next : Code) → Code
@@ -45,13 +45,13 @@ index_with i op k next = plain (local_get i.index) (plain (basic (const (V.I32 k
 -- a piece, run in state 0 alone
 abbrev pub guarded : GuardIndices → Code → (next : Code) → Code
 guarded i done next = next
-guarded i (plain p rest) next = by_state i done (raised 0 1 (plain p rest)) next
-guarded i (nest s r body rest) next = by_state i done (raised 0 1 (nest s r body rest)) next
-guarded i (branch r a b rest) next = by_state i done (raised 0 1 (branch r a b rest)) next
+guarded i (plain p rest) next = by_state i.state done (raised 0 1 (plain p rest)) next
+guarded i (nest s r body rest) next = by_state i.state done (raised 0 1 (nest s r body rest)) next
+guarded i (branch r a b rest) next = by_state i.state done (raised 0 1 (branch r a b rest)) next
 
 -- Before call k: in state 0 the piece in front of it, else out of the call's block where the index isn't k.
 abbrev pub sought : GuardIndices → (k : ℕ) → Code → (next : Code) → Code
-sought i k first next = by_state i (index_with i (basic (num I32Ne)) k (plain (br_if 1) done)) (raised 0 2 first) next
+sought i k first next = by_state i.state (index_with i (basic (num I32Ne)) k (plain (br_if 1) done)) (raised 0 2 first) next
 
 -- Behind call k, which so many constructs stand around: the index is noted, and where the state isn't 0 the function's block
 -- is left.
@@ -80,7 +80,11 @@ front i d k first (if_unit c fa a fb b behind rest) =
     guarded i first (plain (basic (global_get i.state)) (branch (Some I32) (choice i k a b) (got c done)
     (branch None (arm a fa (front i (suc d) k fa a)) (arm b fb (front i (suc d) (k + numbers_in a) fb b)) (front i d (k + numbers_in a + numbers_in b) behind rest))))
 
--- The body of the written function: the code that restores a frame, where the state isn't 0; the guarded code in a block, to
--- the end of which each return, fall and unwinding exit goes; the code that saves a frame, where the state isn't 0; the result.
+-- The body of a written function around its guarded code: the code that restores a frame, where the state isn't 0; the guarded
+-- code in a block, to the end of which each return, fall and unwinding exit goes; the code that saves a frame, where the state
+-- isn't 0; the result.
+abbrev pub function_body : (state : ℕ) → (restoring saving result guarded_code : Code) → Code
+function_body st restoring saving result code = by_state st restoring done (nest a_block None code (by_state st saving done result))
+
 abbrev pub written_body : GuardIndices → (restoring saving result : Code) → (first : Code) → Units → Code
-written_body i restoring saving result first us = by_state i restoring done (nest a_block None (front i 0 0 first us) (by_state i saving done result))
+written_body i restoring saving result first us = function_body i.state restoring saving result (front i 0 0 first us)

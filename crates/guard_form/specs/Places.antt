@@ -23,7 +23,7 @@ flat_labels f (in_a_loop h k0 first body k behind rest ∷ xs) = loop_label h (f
 
 -- those of the written code
 abbrev pub written_labels : (state : ℕ) → GuardedFunc → List Enclosing → List Label
-written_labels st f [] = block_label 0 0 (by_state (indices_of st f) f.saving done (result_got f.result)) done ∷ []
+written_labels st f [] = block_label 0 0 (by_state st f.saving done (result_got f.result)) done ∷ []
 written_labels st f (in_a_block h k skipped skipped' behind rest ∷ xs) = block_label h 0 (front (indices_of st f) (length xs) k behind rest) skipped' ∷ written_labels st f xs
 written_labels st f (in_a_loop h k0 first body k behind rest ∷ xs) =
     loop_label h (front (indices_of st f) (suc (length xs)) k0 first body) (front (indices_of st f) (length xs) k behind rest) ∷ written_labels st f xs

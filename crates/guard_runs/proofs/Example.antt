@@ -161,7 +161,7 @@ abbrev second_block : Label
 second_block = block_label 0 0 (front i 1 2 done (call_unit [] (direct 0) None done no_unit)) done
 
 abbrev outer : List Label
-outer = block_label 0 0 (front i 0 3 done no_unit) done ∷ block_label 0 0 (by_state i done done done) done ∷ []
+outer = block_label 0 0 (front i 0 3 done no_unit) done ∷ block_label 0 0 (by_state i.state done done done) done ∷ []
 
 worst : until written 60 0 (behind_second (noted i 1 1 done) (second_block ∷ outer)) ≡ asked_at 9 (with_index 1)
 unfolding code_of followed_by

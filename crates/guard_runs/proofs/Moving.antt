@@ -140,7 +140,7 @@ module _ (w : Sides) where
 
     -- behind the function's block
     pub out_of_body : (f : GuardedFunc) (x : Ctx w (with_guards f)) (ops : List Value)
-        → Near w 9 (cq w x ops (result_got f.result) []) (cp w x ops (by_state (indices_of w.state f) f.saving done (result_got f.result)) [])
+        → Near w 9 (cq w x ops (result_got f.result) []) (cp w x ops (by_state w.state f.saving done (result_got f.result)) [])
     unfolding followed_by
     out_of_body f x ops =
         later w 3 5 9 _ _ _ (on p 2 1 _ _ _ (to_else w ok x ops f f.saving done (result_got f.result) []) (walks p 1 _ _ refl)) (by_result f.result) (omega arith)

@@ -53,10 +53,10 @@ module _ (p : Module) (st : ℕ) (f : GuardedFunc) (s : Store) (fn : ℕ) (under
   reads : (ops : List Value) (next : Code) (labels : List Label) → Comes p (c ops (plain (basic (global_get st)) next) labels) 1 (c (V.I32 (suc n) ∷ ops) next labels)
   reads ops next labels = subst (λ v. Comes p (c ops (plain (basic (global_get st)) next) labels) 1 (c (v ∷ ops) next labels)) state (walks p 1 _ _ refl)
 
-  to_then : (a b next : Code) (labels : List Label) → Comes p (c [] (by_state i a b next) labels) 2 (c [] a (block_label 0 0 next b ∷ labels))
+  to_then : (a b next : Code) (labels : List Label) → Comes p (c [] (by_state i.state a b next) labels) 2 (c [] a (block_label 0 0 next b ∷ labels))
   to_then a b next labels = on p 1 1 _ _ _ (reads [] (branch None a b next) labels) (walks p 1 (c (V.I32 (suc n) ∷ []) (branch None a b next) labels) _ refl)
 
-  steps_over : (a next : Code) (labels : List Label) → Comes p (c [] (by_state i done a next) labels) 3 (c [] next labels)
+  steps_over : (a next : Code) (labels : List Label) → Comes p (c [] (by_state i.state done a next) labels) 3 (c [] next labels)
   steps_over a next labels = on p 2 1 _ _ _ (to_then done a next labels) (walks p 1 _ _ refl)
 
   pub over_piece : (first next : Code) (labels : List Label) → Within p (c [] (guarded i first next) labels) (over first) (c [] next labels)

@@ -154,8 +154,8 @@ seeks_law p st n k f s fn under ls slots x to behind rest xs state index ok pl b
 -- ---- out of the function
 
 module _ (p : Module) (st : ℕ) (f : GuardedFunc) (s : Store) (fn : ℕ) (under : List Activation) (ls ops : List Value) where
-  leaves_all : (xs : List Enclosing) → jump 0 p s fn under ls ops (written_labels st f xs) (length xs) ≡ steps 0 (running s fn under ls [] (by_state (indices_of st f) f.saving done (result_got f.result)) [])
-  leaves_all [] = ap (λ os. steps 0 (running s fn under ls os (by_state (indices_of st f) f.saving done (result_got f.result)) [])) (drop_all (length ops - 0) ops (omega arith))
+  leaves_all : (xs : List Enclosing) → jump 0 p s fn under ls ops (written_labels st f xs) (length xs) ≡ steps 0 (running s fn under ls [] (by_state st f.saving done (result_got f.result)) [])
+  leaves_all [] = ap (λ os. steps 0 (running s fn under ls os (by_state st f.saving done (result_got f.result)) [])) (drop_all (length ops - 0) ops (omega arith))
   leaves_all (in_a_block h k sk sk' behind rest ∷ xs) = leaves_all xs
   leaves_all (in_a_loop h k0 first body k behind rest ∷ xs) = leaves_all xs
 

@@ -112,7 +112,7 @@ module _ (w : Sides) where
 
     -- a test of the state
     pub to_else : {r : Role} (x : Ctx w r) (ops : List Value) (f : GuardedFunc) (a b next : Code) (labels : List Label)
-        → Comes w.written (cp x ops (by_state (indices_of w.state f) a b next) labels) 2 (cp x ops b (block_label (length ops) 0 next done ∷ labels))
+        → Comes w.written (cp x ops (by_state w.state a b next) labels) 2 (cp x ops b (block_label (length ops) 0 next done ∷ labels))
     to_else x ops f a b next labels = on w.written 1 1 _ _ _ (reads x ops (branch None a b next) labels) (walks w.written 1 (cp x (V.I32 0 ∷ ops) (branch None a b next) labels) _ refl)
 
     module _ (f : GuardedFunc) (pc : PiecesCall w.free f.body) (x : Ctx w (with_guards f)) where
@@ -142,7 +142,7 @@ module _ (w : Sides) where
 
       -- a piece that isn't empty begins
       begins_guard : (ops : List Value) (k : ℕ) (us : Units) (xs : List Enclosing) (first : Code) → BodyPlace w.state f k us xs → Calls w.free first → GoesOn 0 first
-          → Near w 4 (cq x ops (followed_by first (flat_units us)) (flat_labels f xs)) (cp x ops (by_state i done (raised 0 1 first) (front i (length xs) k done us)) (written_labels w.state f xs))
+          → Near w 4 (cq x ops (followed_by first (flat_units us)) (flat_labels f xs)) (cp x ops (by_state i.state done (raised 0 1 first) (front i (length xs) k done us)) (written_labels w.state f xs))
       begins_guard ops k us xs first pl ca go =
           later 2 0 4 _ _ _ (to_else x ops f done (raised 0 1 first) (front i (length xs) k done us) (written_labels w.state f xs))
           (no_lag x ops _ _ _ _ (in_piece (guard_end (length ops) pl) outside first ca go)) (omega arith)

@@ -116,7 +116,7 @@ pub data SamePoint (w : Sides) : Role → (ops : List Value) → (code : Code) �
       (branch None (arm a fa (front (indices_of w.state f) (suc (length xs)) k fa a)) (arm b fb (front (indices_of w.state f) (suc (length xs)) (k + numbers_in a) fb b)) (front (indices_of w.state f) (length xs) (k + numbers_in a + numbers_in b) behind rest)) (written_labels w.state f xs)
   at_end : {ops : List Value} {f : GuardedFunc} {k : ℕ} {xs : List Enclosing} → BodyPlace w.state f k no_unit xs
       → SamePoint w (with_guards f) ops done (flat_labels f xs) done (written_labels w.state f xs)
-  at_body : {f : GuardedFunc} → SamePoint w (with_guards f) [] (flat_code (with_guards f)) [] (nest a_block None (front (indices_of w.state f) 0 0 f.first f.body) (by_state (indices_of w.state f) f.saving done (result_got f.result))) []
+  at_body : {f : GuardedFunc} → SamePoint w (with_guards f) [] (flat_code (with_guards f)) [] (nest a_block None (front (indices_of w.state f) 0 0 f.first f.body) (by_state w.state f.saving done (result_got f.result))) []
   at_return : {ops : List Value} {r : Role} → SamePoint w r ops done [] done []
 
 -- ---- whole configurations

@@ -52,4 +52,4 @@ Unwinds =
     (p : Module) (st n k h : ℕ) (f : GuardedFunc) (s : Store) (fn : ℕ) (under : List Activation) (ls ops : List Value) (to : Option ℕ) (behind : Code) (rest : Units) (xs : List Enclosing)
     → value_at s.globals st ≡ V.I32 (suc n)
     → Silently p (running s fn under ls ops (noted_code st f (length xs) k to behind) (call_label st f h (length xs) k rest ∷ written_labels st f xs)) 4
-    (running s fn under (slice_set ls f.size (V.I32 k)) [] (by_state (indices_of st f) f.saving done (result_got f.result)) [])
+    (running s fn under (slice_set ls f.size (V.I32 k)) [] (by_state st f.saving done (result_got f.result)) [])
