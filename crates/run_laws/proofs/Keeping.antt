@@ -67,9 +67,12 @@ module _ (g : ℕ) (area : Area) where
   DidKeeps s (works s' results) = SameEnd g area s s'
   DidKeeps s _ = Unit {0}
 
-  abbrev NextKeeps : Store → Next → Type 0
+  abbrev pub NextKeeps : Store → Next → Type 0
   NextKeeps s (steps k d) = SameEnd g area s d.store
-  NextKeeps s _ = Unit {0}
+  NextKeeps s (asks k i args d) = SameEnd g area s d.store
+  NextKeeps s (returns k vs t) = SameEnd g area s t
+  NextKeeps s (traps k trap t) = SameEnd g area s t
+  NextKeeps s stuck = Unit {0}
 
   computed_keeps : (s : Store) (o : Option (Result Value Trap)) → DidKeeps s (computed s o)
   computed_keeps s None = tt
@@ -146,12 +149,12 @@ module _ (g : ℕ) (area : Area) where
   cut_keeps memory_grow ops h = h
 
   leaves_keep : (k : ℕ) (s : Store) (ops : List Value) (arity : ℕ) (under : List Activation) → NextKeeps s (leave k s ops arity under)
-  leaves_keep k s ops arity [] = tt
+  leaves_keep k s ops arity [] = same_refl g area s
   leaves_keep k s ops arity (a ∷ under) = same_refl g area s
 
   did_keeps : (fn : ℕ) (under : List Activation) (ls : List Value) (labels : List Label) (rest : Code) (ops : List Value) (s : Store) (d : Did) → DidKeeps s d → NextKeeps s (did fn under ls labels rest s ops d)
   did_keeps fn under ls labels rest ops s (works s' results) h = h
-  did_keeps fn under ls labels rest ops s (fails trap) h = tt
+  did_keeps fn under ls labels rest ops s (fails trap) h = same_refl g area s
   did_keeps fn under ls labels rest ops s lacks h = tt
 
   top_keeps : (s : Store) (ops : List Value) (on : Value → List Value → Next) → ((v : Value) (below : List Value) → NextKeeps s (on v below)) → NextKeeps s (with_top ops on)
@@ -188,26 +191,26 @@ module _ (g : ℕ) (area : Area) where
 
         by_room : (b : Bool) → NextKeeps s (if b then steps params to else traps params StackExhausted s)
         by_room true = same_refl g area s
-        by_room false = tt
+        by_room false = same_refl g area s
     invokes_keep ls own ops rest labels params x None = by_import (nat_lt x (func_imports p))
       where
         waits : Configuration
         waits = record { store = s; here = waiting fn ls (drop params ops) (own ++ take params ops) rest labels; under = under }
 
         by_import : (b : Bool) → NextKeeps s (if b then asks params x (reverse (take params ops)) waits else stuck)
-        by_import true = tt
+        by_import true = same_refl g area s
         by_import false = tt
 
     through_keeps : (ls own ops : List Value) (rest : Code) (labels : List Label) (sort : ℕ) (o : Option (Option ℕ)) → NextKeeps s (through p s fn under ls own ops rest labels sort o)
-    through_keeps ls own ops rest labels sort None = tt
-    through_keeps ls own ops rest labels sort (Some None) = tt
+    through_keeps ls own ops rest labels sort None = same_refl g area s
+    through_keeps ls own ops rest labels sort (Some None) = same_refl g area s
     through_keeps ls own ops rest labels sort (Some (Some x)) = by_type (same_func_type (func_type_at p x) (type_at p sort))
       where
         by_type : (b : Bool) → NextKeeps s (if b then invoke p s fn under ls own ops rest labels (param_count (type_at p sort)) x (defined_at p x) else traps (param_count (type_at p sort)) TypeMismatch s)
         by_type true = invokes_keep ls own ops rest labels (param_count (type_at p sort)) x (defined_at p x)
-        by_type false = tt
+        by_type false = same_refl g area s
 
-    step_keeps : (ls ops : List Value) (labels : List Label) (code : Code) → keeps_code g area ops code ≡ true → NextKeeps s (step_at p s fn under ls ops labels code)
+    pub step_keeps : (ls ops : List Value) (labels : List Label) (code : Code) → keeps_code g area ops code ≡ true → NextKeeps s (step_at p s fn under ls ops labels code)
     step_keeps ls ops labels done h = finishes_keep ls ops labels
     step_keeps ls ops labels (plain (basic b) rest) h =
         did_keeps fn under ls labels rest (drop (takes b) ops) s (act (memory_max p) b s (take (takes b) ops)) (act_keeps (memory_max p) b s (take (takes b) ops) (cut_keeps b ops h))
@@ -220,7 +223,7 @@ module _ (g : ℕ) (area : Area) where
     step_keeps ls ops labels (plain (br_table targets last) rest) h =
         number_keeps s ops _ (λ v below. jumps_keep (length targets + 1) ls below labels (unwrap_or (slice_get targets v) last))
     step_keeps ls ops labels (plain return rest) h = leaves_keep 0 s ops (result_count p fn) under
-    step_keeps ls ops labels (plain unreachable rest) h = tt
+    step_keeps ls ops labels (plain unreachable rest) h = same_refl g area s
     step_keeps ls ops labels (plain (call x) rest) h = invokes_keep ls [] ops rest labels (param_count (func_type_at p x)) x (defined_at p x)
     step_keeps ls ops labels (plain (call_indirect sort) rest) h =
         number_keeps s ops _ (λ v below. through_keeps ls (V.I32 v ∷ []) below rest labels sort (slice_get s.table v))

@@ -1,0 +1,11 @@
+pub mod Example
+pub mod FieldBytes
+pub mod FrameCode
+pub mod FrameSizes
+pub mod FrameTypes
+pub mod HeldFrames
+pub mod OneFunction
+pub mod RestoredFrames
+pub mod RewoundStacks
+pub mod SavedFrames
+pub mod UnwoundStacks

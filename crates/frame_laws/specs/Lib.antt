@@ -1,0 +1,9 @@
+pub mod FrameMemory
+pub mod Function
+pub mod Layout
+pub mod Saving
+pub mod Sizes
+pub mod Stack
+pub mod Stretches
+pub mod Suspended
+pub mod Typed

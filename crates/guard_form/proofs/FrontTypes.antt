@@ -1,0 +1,229 @@
+-- Types of guarded code.
+use Rattle.std.proofs.Common.{◌≡◌, ℕ, zero, suc, ◌+◌, List, [], ◌∷◌, ◌++◌, length, map, Option, Some, None, refl, sym, ap, ◌∙◌, subst, arith, length-append}
+use Rattle.std.specs.Prelude.{slice_get, nat_lt, ◌&&◌}
+use Rattle.wa_types.specs.declared.values.ValType.{ValType}
+use Rattle.wa_types.specs.declared.values.ValType.TheVariants.{I32}
+use Rattle.wa_types.specs.declared.operators.NumOp.TheVariants.{I32Ne}
+use Rattle.wa_types.specs.Syntax.{Plain, num, global_get, basic, local_get, local_set, local_tee, br, br_if, br_table, return, unreachable, call, call_indirect, a_block, a_loop, Code, done, plain, nest, branch}
+use Rattle.wa_types.specs.Pausing.{Callee, direct, indirect}
+use Rattle.wa_types.specs.Typing.{Around, gets, sets, gets_global, jump, may_jump, jumps, all_there, all_alike, agrees_with, sig, Takes, label, listed, Types}
+use Rattle.wa_model.specs.declared.flat.Operand.{Operand}
+use Rattle.wa_model.specs.declared.flat.Operand.TheVariants.{Local, Const}
+use Rattle.wa_model.specs.Flat.{got, set_to, slots_got, result_got}
+use Rattle.guard_form.specs.Guarded.{raise, raised_plain, raised, GuardIndices, by_state, index_with, guarded, noted, choice, arm, front}
+use Rattle.guard_form.specs.Pieces.{Units, no_unit, call_unit, nest_unit, if_unit, numbers_in, call_to}
+use Rattle.guard_form.specs.Typed.{UnitsTyped, an_i32, FrontTyped, BodyTyped}
+use Rattle.guard_form.proofs.CodeLemmas.{raise_out, raise_in, raise_on}
+
+abbrev Labels : Type 0
+Labels = List (Option ValType)
+
+-- ---- more labels behind the inner ones
+
+there : (inner more ls : Labels) (l : ℕ) → slice_get (inner ++ more ++ ls) (raise (length inner) (length more) l) ≡ slice_get (inner ++ ls) l
+there [] more ls l = ap (slice_get (more ++ ls)) (raise_out (length more) l) ∙ past more l
+  where
+    past : (more : Labels) (l : ℕ) → slice_get (more ++ ls) (l + length more) ≡ slice_get ls l
+    past [] l = let z : l + 0 ≡ l = omega arith in ap (slice_get ls) z
+    past (x ∷ more) l = let z : l + suc (length more) ≡ suc (l + length more) = omega arith in ap (slice_get (x ∷ more ++ ls)) z ∙ past more l
+there (x ∷ inner) more ls zero = ap (slice_get (x ∷ inner ++ more ++ ls)) (raise_in (length inner) (length more))
+there (x ∷ inner) more ls (suc l) = ap (slice_get (x ∷ inner ++ more ++ ls)) (raise_on (length inner) (length more) l) ∙ there inner more ls l
+
+lt_there : (d n m l : ℕ) → nat_lt (raise d n l) (d + n + m) ≡ nat_lt l (d + m)
+lt_there d n m l = grind arith
+
+module _ (c : Around) where
+  all_there_too : (inner more ls : Labels) (labels : List ℕ) → all_there (inner ++ more ++ ls) (map (raise (length inner) (length more)) labels) ≡ all_there (inner ++ ls) labels
+  all_there_too inner more ls [] = refl
+  all_there_too inner more ls (l ∷ labels) =
+      let n1 : length (inner ++ more ++ ls) ≡ length inner + length more + length ls = omega (arith, length-append (inner ++ more) ls, length-append inner more) in
+      let n2 : length (inner ++ ls) ≡ length inner + length ls = length-append inner ls in
+      let e : nat_lt (raise (length inner) (length more) l) (length (inner ++ more ++ ls)) ≡ nat_lt l (length (inner ++ ls)) =
+      ap (nat_lt (raise (length inner) (length more) l)) n1 ∙ lt_there (length inner) (length more) (length ls) l ∙ sym (ap (nat_lt l) n2) in
+      ap (λ b. b && all_there (inner ++ more ++ ls) (map (raise (length inner) (length more)) labels)) e ∙ ap (λ b. nat_lt l (length (inner ++ ls)) && b) (all_there_too inner more ls labels)
+
+  all_alike_too : (inner more ls : Labels) (r : Option ValType) (labels : List ℕ)
+      → all_alike (inner ++ more ++ ls) r (map (raise (length inner) (length more)) labels) ≡ all_alike (inner ++ ls) r labels
+  all_alike_too inner more ls r [] = refl
+  all_alike_too inner more ls r (l ∷ labels) =
+      ap (λ o. agrees_with r o && all_alike (inner ++ more ++ ls) r (map (raise (length inner) (length more)) labels)) (there inner more ls l) ∙ ap (λ b. agrees_with r (slice_get (inner ++ ls) l) && b) (all_alike_too inner more ls r labels)
+
+  sig_too : (inner more ls : Labels) (p : Plain) → sig c (inner ++ more ++ ls) (raised_plain (length inner) (length more) p) ≡ sig c (inner ++ ls) p
+  sig_too inner more ls (basic b) = refl
+  sig_too inner more ls (local_get x) = refl
+  sig_too inner more ls (local_set x) = refl
+  sig_too inner more ls (local_tee x) = refl
+  sig_too inner more ls (br l) = ap jump (there inner more ls l)
+  sig_too inner more ls (br_if l) = ap may_jump (there inner more ls l)
+  sig_too inner more ls (br_table labels l) = ap (jumps (inner ++ more ++ ls) (map (raise (length inner) (length more)) labels)) (there inner more ls l) ∙ by (slice_get (inner ++ ls) l)
+    where
+      by : (o : Option (Option ValType)) → jumps (inner ++ more ++ ls) (map (raise (length inner) (length more)) labels) o ≡ jumps (inner ++ ls) labels o
+      by None = refl
+      by (Some r) = let e = all_there_too inner more ls labels in let e2 = all_alike_too inner more ls r labels in cc
+  sig_too inner more ls return = refl
+  sig_too inner more ls unreachable = refl
+  sig_too inner more ls (call x) = refl
+  sig_too inner more ls (call_indirect x) = refl
+
+  types_raised : (inner more ls : Labels) (code : Code) (outs ins : List ValType) → Types c (inner ++ ls) code outs ins
+      → Types c (inner ++ more ++ ls) (raised (length inner) (length more) code) outs ins
+  unfolding Types
+  types_raised inner more ls done outs ins h = h
+  types_raised inner more ls (plain p rest) outs ins h = (h.0, subst (λ g. Takes g ins h.0) (sym (sig_too inner more ls p)) h.1, types_raised inner more ls rest outs h.0 h.2)
+  types_raised inner more ls (nest s r body rest) outs ins h = (types_raised (label s r ∷ inner) more ls body (listed r) [] h.0, types_raised inner more ls rest outs (listed r ++ ins) h.1)
+  types_raised inner more ls (branch r a b rest) outs ins h =
+      (h.0, h.1, types_raised (r ∷ inner) more ls a (listed r) [] h.2, types_raised (r ∷ inner) more ls b (listed r) [] h.3, types_raised inner more ls rest outs (listed r ++ h.0) h.4)
+
+  -- a piece below one label more, and below two
+  below_one : (ls : Labels) (code : Code) → Types c ls code [] [] → Types c (None ∷ ls) (raised 0 1 code) [] []
+  below_one ls code h = types_raised [] (None ∷ []) ls code [] [] h
+
+  below_two : (ls : Labels) (code : Code) → Types c ls code [] [] → Types c (None ∷ None ∷ ls) (raised 0 2 code) [] []
+  below_two ls code h = types_raised [] (None ∷ None ∷ []) ls code [] [] h
+
+  module _ (i : GuardIndices) (state : slice_get c.globals i.state ≡ Some an_i32) (index : slice_get c.locals i.index ≡ Some I32) where
+    gets_state : (ls : Labels) (ins : List ValType) → Takes (sig c ls (basic (global_get i.state))) ins (I32 ∷ ins)
+    gets_state ls ins = subst (λ o. Takes (gets_global o) ins (I32 ∷ ins)) (sym state) (ins, refl, refl)
+
+    gets_index : (ls : Labels) (ins : List ValType) → Takes (sig c ls (local_get i.index)) ins (I32 ∷ ins)
+    gets_index ls ins = subst (λ o. Takes (gets o) ins (I32 ∷ ins)) (sym index) (ins, refl, refl)
+
+    sets_index : (ls : Labels) (ins : List ValType) → Takes (sig c ls (local_set i.index)) (I32 ∷ ins) ins
+    sets_index ls ins = subst (λ o. Takes (sets o) (I32 ∷ ins) ins) (sym index) (ins, refl, refl)
+
+    tests : (ls : Labels) (a b next : Code) (outs : List ValType) → Types c (None ∷ ls) a [] [] → Types c (None ∷ ls) b [] [] → Types c ls next outs []
+        → Types c ls (by_state i.state a b next) outs []
+    unfolding Types
+    tests ls a b next outs ha hb hn = (I32 ∷ [], gets_state ls [], ([], refl, ha, hb, hn))
+
+    guards : (ls : Labels) (first next : Code) → Types c ls first [] [] → Types c ls next [] [] → Types c ls (guarded i first next) [] []
+    unfolding Types
+    guards ls done next h g = g
+    guards ls (plain p r) next h g = tests ls done (raised 0 1 (plain p r)) next [] refl (below_one ls (plain p r) h) g
+    guards ls (nest s t b r) next h g = tests ls done (raised 0 1 (nest s t b r)) next [] refl (below_one ls (nest s t b r) h) g
+    guards ls (branch t a b r) next h g = tests ls done (raised 0 1 (branch t a b r)) next [] refl (below_one ls (branch t a b r) h) g
+
+    -- the index against a constant, and out of a call's block
+    leaves_block : (ls : Labels) (k : ℕ) → Types c (None ∷ None ∷ ls) (index_with i (basic (num I32Ne)) k (plain (br_if 1) done)) [] []
+    unfolding Types
+    leaves_block ls k = (I32 ∷ [], gets_index (None ∷ None ∷ ls) [], (I32 ∷ I32 ∷ [], (I32 ∷ [], refl, refl), (I32 ∷ [], ([], refl, refl), ([], ([], refl, refl), refl))))
+
+    chooses : (ls : Labels) (k : ℕ) (a b : Units) → Types c ls (choice i k a b) (I32 ∷ []) []
+    unfolding Types
+    chooses ls k a no_unit = one_arm a
+      where
+        one_arm : (a : Units) → Types c ls (choice i k a no_unit) (I32 ∷ []) []
+        one_arm no_unit = (I32 ∷ [], ([], refl, refl), refl)
+        one_arm (call_unit _ _ _ _ _) = (I32 ∷ [], ([], refl, refl), refl)
+        one_arm (nest_unit _ _ _ _ _) = (I32 ∷ [], ([], refl, refl), refl)
+        one_arm (if_unit _ _ _ _ _ _ _) = (I32 ∷ [], ([], refl, refl), refl)
+    chooses ls k no_unit (call_unit _ _ _ _ _) = (I32 ∷ [], ([], refl, refl), refl)
+    chooses ls k no_unit (nest_unit _ _ _ _ _) = (I32 ∷ [], ([], refl, refl), refl)
+    chooses ls k no_unit (if_unit _ _ _ _ _ _ _) = (I32 ∷ [], ([], refl, refl), refl)
+    chooses ls k (call_unit _ _ _ _ _) (call_unit _ _ _ _ _) = (I32 ∷ [], gets_index ls [], (I32 ∷ I32 ∷ [], (I32 ∷ [], refl, refl), (I32 ∷ [], ([], refl, refl), refl)))
+    chooses ls k (call_unit _ _ _ _ _) (nest_unit _ _ _ _ _) = (I32 ∷ [], gets_index ls [], (I32 ∷ I32 ∷ [], (I32 ∷ [], refl, refl), (I32 ∷ [], ([], refl, refl), refl)))
+    chooses ls k (call_unit _ _ _ _ _) (if_unit _ _ _ _ _ _ _) = (I32 ∷ [], gets_index ls [], (I32 ∷ I32 ∷ [], (I32 ∷ [], refl, refl), (I32 ∷ [], ([], refl, refl), refl)))
+    chooses ls k (nest_unit _ _ _ _ _) (call_unit _ _ _ _ _) = (I32 ∷ [], gets_index ls [], (I32 ∷ I32 ∷ [], (I32 ∷ [], refl, refl), (I32 ∷ [], ([], refl, refl), refl)))
+    chooses ls k (nest_unit _ _ _ _ _) (nest_unit _ _ _ _ _) = (I32 ∷ [], gets_index ls [], (I32 ∷ I32 ∷ [], (I32 ∷ [], refl, refl), (I32 ∷ [], ([], refl, refl), refl)))
+    chooses ls k (nest_unit _ _ _ _ _) (if_unit _ _ _ _ _ _ _) = (I32 ∷ [], gets_index ls [], (I32 ∷ I32 ∷ [], (I32 ∷ [], refl, refl), (I32 ∷ [], ([], refl, refl), refl)))
+    chooses ls k (if_unit _ _ _ _ _ _ _) (call_unit _ _ _ _ _) = (I32 ∷ [], gets_index ls [], (I32 ∷ I32 ∷ [], (I32 ∷ [], refl, refl), (I32 ∷ [], ([], refl, refl), refl)))
+    chooses ls k (if_unit _ _ _ _ _ _ _) (nest_unit _ _ _ _ _) = (I32 ∷ [], gets_index ls [], (I32 ∷ I32 ∷ [], (I32 ∷ [], refl, refl), (I32 ∷ [], ([], refl, refl), refl)))
+    chooses ls k (if_unit _ _ _ _ _ _ _) (if_unit _ _ _ _ _ _ _) = (I32 ∷ [], gets_index ls [], (I32 ∷ I32 ∷ [], (I32 ∷ [], refl, refl), (I32 ∷ [], ([], refl, refl), refl)))
+
+    -- an operand under other labels
+    got_too : (ls ls2 : Labels) (o : Operand) → Types c ls (got o done) (I32 ∷ []) [] → Types c ls2 (got o done) (I32 ∷ []) []
+    unfolding Types
+    got_too ls ls2 (Local x) h = h
+    got_too ls ls2 (Const v) h = h
+
+    -- arguments under other labels, before other code
+    slots_too : (ls ls2 : Labels) (xs : List ℕ) (a b : Code) (outs ins : List ValType) → ((mids : List ValType) → Types c ls a outs mids → Types c ls2 b outs mids)
+        → Types c ls (slots_got xs a) outs ins → Types c ls2 (slots_got xs b) outs ins
+    unfolding Types
+    slots_too ls ls2 [] a b outs ins go h = go ins h
+    slots_too ls ls2 (x ∷ xs) a b outs ins go h = (h.0, h.1, slots_too ls ls2 xs a b outs h.0 go h.2)
+
+    call_sig : (ls ls2 : Labels) (x : Callee) → sig c ls (call_to x) ≡ sig c ls2 (call_to x)
+    call_sig ls ls2 (direct y) = refl
+    call_sig ls ls2 (indirect t) = refl
+
+    -- behind a call: with the call's result below, the state may leave the function's block
+    results_too : (ls : Labels) (to : Option ℕ) (behind : Code) (mids : List ValType) → Types c ls (set_to to done) [] mids → Types c (None ∷ ls) behind [] []
+        → Types c (None ∷ ls) (set_to to behind) [] mids
+    unfolding Types
+    results_too ls None behind mids h g = subst (λ ms. Types c (None ∷ ls) behind [] ms) (sym h) g
+    results_too ls (Some x) behind mids h g = (h.0, h.1, subst (λ ms. Types c (None ∷ ls) behind [] ms) (sym h.2) g)
+
+    may_leave : (ls : Labels) (d : ℕ) (ins : List ValType) → slice_get ls d ≡ Some None → Takes (sig c (None ∷ ls) (br_if (suc d))) (I32 ∷ ins) ins
+    may_leave ls d ins e = subst (λ o. Takes (may_jump o) (I32 ∷ ins) ins) (sym e) (ins, refl, refl)
+
+    calls_too : (ls : Labels) (d k : ℕ) (x : Callee) (to : Option ℕ) (behind : Code) (mids : List ValType) → slice_get ls d ≡ Some None → Types c ls behind [] []
+        → Types c ls (plain (call_to x) (set_to to done)) [] mids
+        → Types c (None ∷ ls) (plain (call_to x) (noted i d k (set_to to (raised 0 1 behind)))) [] mids
+    unfolding Types
+    calls_too ls d k x to behind mids e hb h =
+        let ms = h.0 in (
+          ms,
+          subst (λ g. Takes g mids ms) (call_sig ls (None ∷ ls) x) h.1,
+          (
+            I32 ∷ ms,
+            (ms, refl, refl),
+            (
+              ms,
+              sets_index (None ∷ ls) ms,
+              (
+                I32 ∷ ms,
+                gets_state (None ∷ ls) ms,
+                (ms, may_leave ls d ms e, results_too ls to (raised 0 1 behind) ms h.2 (below_one ls behind hb)),
+              ),
+            ),
+          ),
+        )
+
+    first_typed : (ls : Labels) (first : Code) (us : Units) → UnitsTyped c ls first us → Types c ls first [] []
+    first_typed ls first no_unit h = h
+    first_typed ls first (call_unit slots x to behind rest) h = h.0
+    first_typed ls first (nest_unit s inner body behind rest) h = h.0
+    first_typed ls first (if_unit o fa a fb b behind rest) h = h.0
+
+    -- with the piece in front passed
+    done_typed : (ls : Labels) (first : Code) (us : Units) → UnitsTyped c ls first us → UnitsTyped c ls done us
+    unfolding Types
+    done_typed ls first no_unit h = refl
+    done_typed ls first (call_unit slots x to behind rest) h = (refl, h.1, h.2)
+    done_typed ls first (nest_unit s inner body behind rest) h = (refl, h.1, h.2)
+    done_typed ls first (if_unit o fa a fb b behind rest) h = (refl, h.1, h.2, h.3, h.4)
+
+    arm_typed : (ls : Labels) (us : Units) (first code : Code) → Types c ls first [] [] → Types c ls code [] [] → Types c ls (arm us first code) [] []
+    arm_typed ls no_unit first code h g = h
+    arm_typed ls (call_unit _ _ _ _ _) first code h g = g
+    arm_typed ls (nest_unit _ _ _ _ _) first code h g = g
+    arm_typed ls (if_unit _ _ _ _ _ _ _) first code h g = g
+
+    front_typed : (ls : Labels) (d k : ℕ) (us : Units) (first : Code) → slice_get ls d ≡ Some None → UnitsTyped c ls first us → Types c ls (front i d k first us) [] []
+    unfolding Types
+    front_typed ls d k no_unit first e h = guards ls first done h refl
+    front_typed ls d k (call_unit slots x to behind rest) first e h =
+        let hb = first_typed ls behind rest h.2 in (
+          tests (None ∷ ls) (index_with i (basic (num I32Ne)) k (plain (br_if 1) done)) (raised 0 2 first) _ [] (leaves_block ls k) (below_two ls first h.0)
+              (slots_too ls (None ∷ ls) slots (plain (call_to x) (set_to to done)) (plain (call_to x) (noted i d k (set_to to (raised 0 1 behind)))) [] [] (λ mids t. calls_too ls d k x to behind mids e hb t) h.1),
+          front_typed ls d (suc k) rest done e (done_typed ls behind rest h.2),
+        )
+    front_typed ls d k (nest_unit a_block inner body behind rest) first e h =
+        guards ls first (nest a_block None (front i (suc d) k inner body) (front i d (k + numbers_in body) behind rest)) h.0 (front_typed (None ∷ ls) (suc d) k body inner e h.1, front_typed ls d (k + numbers_in body) rest behind e h.2)
+    front_typed ls d k (nest_unit a_loop inner body behind rest) first e h =
+        guards ls first (nest a_loop None (front i (suc d) k inner body) (front i d (k + numbers_in body) behind rest)) h.0 (front_typed (None ∷ ls) (suc d) k body inner e h.1, front_typed ls d (k + numbers_in body) rest behind e h.2)
+    front_typed ls d k (if_unit o fa a fb b behind rest) first e h =
+        let ta = arm_typed (None ∷ ls) a fa (front i (suc d) k fa a) (first_typed (None ∷ ls) fa a h.2) (front_typed (None ∷ ls) (suc d) k a fa e h.2) in
+        let tb = arm_typed (None ∷ ls) b fb (front i (suc d) (k + numbers_in a) fb b) (first_typed (None ∷ ls) fb b h.3) (front_typed (None ∷ ls) (suc d) (k + numbers_in a) b fb e h.3) in
+        guards ls first (plain (basic (global_get i.state)) (branch (Some I32) (choice i k a b) (got o done) (branch None (arm a fa (front i (suc d) k fa a)) (arm b fb (front i (suc d) (k + numbers_in a) fb b)) (front i d (k + numbers_in a + numbers_in b) behind rest)))) h.0
+        (I32 ∷ [], gets_state ls [], ([], refl, chooses (Some I32 ∷ ls) k a b, got_too ls (Some I32 ∷ ls) o h.1, ([], refl, ta, tb, front_typed ls d (k + numbers_in a + numbers_in b) rest behind e h.4)))
+
+pub front_law : FrontTyped
+front_law c i d k ls first us state index e h = front_typed c i state index ls d k us first e h
+
+pub body_law : BodyTyped
+unfolding Types
+body_law c i restoring saving result first us state index hr hs hg h =
+    tests c i state index (c.result ∷ []) restoring done (nest a_block None (front i 0 0 first us) (by_state i.state saving done (result_got result))) (listed c.result) hr refl
+    (front_typed c i state index (None ∷ c.result ∷ []) 0 0 us first refl h, tests c i state index (c.result ∷ []) saving done (result_got result) (listed c.result) hs refl hg)

@@ -1,0 +1,444 @@
+-- Bounds on guarded code.
+use Rattle.std.proofs.Common.{◌≡◌, ℕ, suc, ◌+◌, ◌*◌, ◌≤◌, List, [], ◌∷◌, length, Option, Some, None, Bool, true, false, max, refl, ap, arith}
+use Rattle.std.specs.Prelude.{nat_eq, if◌then◌else◌, ◌||◌}
+use Rattle.std.proofs.lemmas.List.{length-map}
+use Rattle.wa_types.specs.declared.values.ValType.TheVariants.{I32}
+use Rattle.wa_types.specs.Sizes.{label_count}
+use Rattle.wa_types.specs.Counts.{depth_of}
+use Rattle.wa_types.specs.Syntax.{Plain, global_get, basic, local_get, local_set, local_tee, br, br_if, br_table, return, unreachable, call, call_indirect, Code, done, plain, nest, branch}
+use Rattle.wa_types.specs.Pausing.{Callee, direct, indirect}
+use Rattle.wa_model.specs.declared.flat.Operand.{Operand}
+use Rattle.wa_model.specs.declared.flat.Operand.TheVariants.{Local, Const}
+use Rattle.wa_model.specs.Rewrites.{instructions_and_labels}
+use Rattle.wa_model.specs.Flat.{Stmts, no_more, computes, copies, calls, leaps, leaps_if, leaps_by, nests, decides, halts, followed_by, got, set_to, slots_got, last_of}
+use Rattle.guard_form.specs.Bounds.{over, unit_count, SizeBound, DepthBound, PassingBound, calls_and_constructs, UnitsFew, plain_reads, reads, ReadsBound}
+use Rattle.guard_form.specs.Guarded.{raise, raised_plain, raised, GuardIndices, guarded, noted, choice, arm, front}
+use Rattle.guard_form.specs.Pieces.{Units, no_unit, call_unit, nest_unit, if_unit, numbers_in, call_to, flat_units, call_total, numbered, holds_call, first_piece, unit_call, units}
+
+abbrev size : Code → ℕ
+size c = instructions_and_labels c
+
+size_then : (c d : Code) → size (followed_by c d) ≡ size c + size d
+unfolding followed_by instructions_and_labels
+size_then done d = omega arith
+size_then (plain p c) d = let ih = size_then c d in omega arith
+size_then (nest s t b c) d = let ih = size_then c d in omega arith
+size_then (branch t a b c) d = let ih = size_then c d in omega arith
+
+labels_raised : (d n : ℕ) (p : Plain) → label_count (raised_plain d n p) ≡ label_count p
+labels_raised d n (basic b) = refl
+labels_raised d n (local_get x) = refl
+labels_raised d n (local_set x) = refl
+labels_raised d n (local_tee x) = refl
+labels_raised d n (br l) = refl
+labels_raised d n (br_if l) = refl
+labels_raised d n (br_table ls l) = ap suc (length-map ls (raise d n))
+labels_raised d n return = refl
+labels_raised d n unreachable = refl
+labels_raised d n (call x) = refl
+labels_raised d n (call_indirect t) = refl
+
+size_raised : (d n : ℕ) (c : Code) → size (raised d n c) ≡ size c
+unfolding instructions_and_labels
+size_raised d n done = refl
+size_raised d n (plain p c) = let ih = size_raised d n c in let e = labels_raised d n p in omega arith
+size_raised d n (nest s t b c) = let ih = size_raised d n c in let ib = size_raised (suc d) n b in omega arith
+size_raised d n (branch t a b c) = let ih = size_raised d n c in let ia = size_raised (suc d) n a in let ib = size_raised (suc d) n b in omega arith
+
+size_guarded : (i : GuardIndices) (c next : Code) → size (guarded i c next) ≤ size c + size next + 2
+unfolding instructions_and_labels
+size_guarded i done next = omega arith
+size_guarded i (plain p c) next = let e = size_raised 0 1 (plain p c) in omega arith
+size_guarded i (nest s t b c) next = let e = size_raised 0 1 (nest s t b c) in omega arith
+size_guarded i (branch t a b c) next = let e = size_raised 0 1 (branch t a b c) in omega arith
+
+size_slots : (xs : List ℕ) (c : Code) → size (slots_got xs c) ≡ length xs + size c
+unfolding instructions_and_labels
+size_slots [] c = omega arith
+size_slots (x ∷ xs) c = let ih = size_slots xs c in omega arith
+
+abbrev set_size : Option ℕ → ℕ
+set_size None = 0
+set_size (Some x) = 1
+
+size_set : (to : Option ℕ) (c : Code) → size (set_to to c) ≡ set_size to + size c
+unfolding instructions_and_labels
+size_set None c = omega arith
+size_set (Some x) c = omega arith
+
+size_got : (a : Operand) (c : Code) → size (got a c) ≡ 1 + size c
+unfolding instructions_and_labels
+size_got (Local x) c = refl
+size_got (Const v) c = refl
+
+no_labels : (x : Callee) → label_count (call_to x) ≡ 0
+no_labels (direct x) = refl
+no_labels (indirect t) = refl
+
+size_choice : (i : GuardIndices) (k : ℕ) (a b : Units) → size (choice i k a b) ≤ 3
+unfolding instructions_and_labels
+size_choice i k a no_unit = one_arm a
+  where
+    one_arm : (a : Units) → instructions_and_labels (choice i k a no_unit) ≤ 3
+    one_arm no_unit = omega arith
+    one_arm (call_unit _ _ _ _ _) = omega arith
+    one_arm (nest_unit _ _ _ _ _) = omega arith
+    one_arm (if_unit _ _ _ _ _ _ _) = omega arith
+size_choice i k no_unit (call_unit _ _ _ _ _) = omega arith
+size_choice i k no_unit (nest_unit _ _ _ _ _) = omega arith
+size_choice i k no_unit (if_unit _ _ _ _ _ _ _) = omega arith
+size_choice i k (call_unit _ _ _ _ _) (call_unit _ _ _ _ _) = omega arith
+size_choice i k (call_unit _ _ _ _ _) (nest_unit _ _ _ _ _) = omega arith
+size_choice i k (call_unit _ _ _ _ _) (if_unit _ _ _ _ _ _ _) = omega arith
+size_choice i k (nest_unit _ _ _ _ _) (call_unit _ _ _ _ _) = omega arith
+size_choice i k (nest_unit _ _ _ _ _) (nest_unit _ _ _ _ _) = omega arith
+size_choice i k (nest_unit _ _ _ _ _) (if_unit _ _ _ _ _ _ _) = omega arith
+size_choice i k (if_unit _ _ _ _ _ _ _) (call_unit _ _ _ _ _) = omega arith
+size_choice i k (if_unit _ _ _ _ _ _ _) (nest_unit _ _ _ _ _) = omega arith
+size_choice i k (if_unit _ _ _ _ _ _ _) (if_unit _ _ _ _ _ _ _) = omega arith
+
+size_arm : (us : Units) (first code : Code) (n : ℕ) → size first ≤ n → size code ≤ n → size (arm us first code) ≤ n
+size_arm no_unit first code n h g = h
+size_arm (call_unit _ _ _ _ _) first code n h g = g
+size_arm (nest_unit _ _ _ _ _) first code n h g = g
+size_arm (if_unit _ _ _ _ _ _ _) first code n h g = g
+
+size_front : (i : GuardIndices) (d k : ℕ) (first : Code) (us : Units) → size (front i d k first us) ≤ size (followed_by first (flat_units us)) + 11 * unit_count us + 2
+unfolding instructions_and_labels
+size_front i d k first no_unit = let e = size_then first done in let g = size_guarded i first done in omega arith
+size_front i d k first (call_unit slots x to behind rest) =
+    let ih = size_front i d (suc k) done rest in
+    let e0 = size_then done (flat_units rest) in
+    let e = size_then first (flat_units (call_unit slots x to behind rest)) in
+    let e2 = size_slots slots (plain (call_to x) (set_to to (followed_by behind (flat_units rest)))) in
+    let e3 = size_set to (followed_by behind (flat_units rest)) in
+    let e4 = size_then behind (flat_units rest) in
+    let e5 = no_labels x in
+    let e6 = size_raised 0 2 first in
+    let e7 = size_raised 0 1 behind in
+    let e8 = size_set to (raised 0 1 behind) in
+    let e9 = size_slots slots (plain (call_to x) (noted i d k (set_to to (raised 0 1 behind)))) in
+    omega arith
+size_front i d k first (nest_unit s inner body behind rest) =
+    let ib = size_front i (suc d) k inner body in
+    let ih = size_front i d (k + numbers_in body) behind rest in
+    let e = size_then first (flat_units (nest_unit s inner body behind rest)) in
+    let g = size_guarded i first (nest s None (front i (suc d) k inner body) (front i d (k + numbers_in body) behind rest)) in
+    omega arith
+size_front i d k first (if_unit c fa a fb b behind rest) =
+    let na = front i (suc d) k fa a in
+    let nb = front i (suc d) (k + numbers_in a) fb b in
+    let nx = front i d (k + numbers_in a + numbers_in b) behind rest in
+    let fa_ = followed_by fa (flat_units a) in
+    let fb_ = followed_by fb (flat_units b) in
+    let fr_ = followed_by behind (flat_units rest) in
+    let ia = size_front i (suc d) k fa a in
+    let ib = size_front i (suc d) (k + numbers_in a) fb b in
+    let ih = size_front i d (k + numbers_in a + numbers_in b) behind rest in
+    let ea = size_then fa (flat_units a) in
+    let eb = size_then fb (flat_units b) in
+    let aa : size (arm a fa na) ≤ size fa_ + 11 * unit_count a + 2 = size_arm a fa na (size fa_ + 11 * unit_count a + 2) (omega arith) ia in
+    let ab : size (arm b fb nb) ≤ size fb_ + 11 * unit_count b + 2 = size_arm b fb nb (size fb_ + 11 * unit_count b + 2) (omega arith) ib in
+    let e = size_then first (flat_units (if_unit c fa a fb b behind rest)) in
+    let e2 = size_got c (branch None fa_ fb_ fr_) in
+    let e3 = size_got c done in
+    let ch = size_choice i k a b in
+    let g = size_guarded i first (plain (basic (global_get i.state)) (branch (Some I32) (choice i k a b) (got c done) (branch None (arm a fa na) (arm b fb nb) nx))) in
+    omega arith
+
+pub size_law : SizeBound
+size_law i d k first us = size_front i d k first us
+
+-- ---- nesting
+
+abbrev deep : Code → ℕ
+deep c = depth_of c
+
+deep_then : (c d : Code) → deep (followed_by c d) ≡ max (deep c) (deep d)
+unfolding followed_by depth_of
+deep_then done d = omega arith
+deep_then (plain p c) d = deep_then c d
+deep_then (nest s t b c) d = let ih = deep_then c d in omega arith
+deep_then (branch t a b c) d = let ih = deep_then c d in omega arith
+
+deep_raised : (d n : ℕ) (c : Code) → deep (raised d n c) ≡ deep c
+unfolding depth_of
+deep_raised d n done = refl
+deep_raised d n (plain p c) = deep_raised d n c
+deep_raised d n (nest s t b c) = let ih = deep_raised d n c in let ib = deep_raised (suc d) n b in omega arith
+deep_raised d n (branch t a b c) = let ih = deep_raised d n c in let ia = deep_raised (suc d) n a in let ib = deep_raised (suc d) n b in omega arith
+
+deep_guarded : (i : GuardIndices) (c next : Code) (n : ℕ) → deep c + 1 ≤ n → deep next ≤ n → deep (guarded i c next) ≤ n
+unfolding depth_of
+deep_guarded i done next n h g = g
+deep_guarded i (plain p c) next n h g = let e = deep_raised 0 1 (plain p c) in omega arith
+deep_guarded i (nest s t b c) next n h g = let e = deep_raised 0 1 (nest s t b c) in omega arith
+deep_guarded i (branch t a b c) next n h g = let e = deep_raised 0 1 (branch t a b c) in omega arith
+
+deep_slots : (xs : List ℕ) (c : Code) → deep (slots_got xs c) ≡ deep c
+unfolding depth_of
+deep_slots [] c = refl
+deep_slots (x ∷ xs) c = deep_slots xs c
+
+deep_set : (to : Option ℕ) (c : Code) → deep (set_to to c) ≡ deep c
+unfolding depth_of
+deep_set None c = refl
+deep_set (Some x) c = refl
+
+deep_got : (a : Operand) (c : Code) → deep (got a c) ≡ deep c
+unfolding depth_of
+deep_got (Local x) c = refl
+deep_got (Const v) c = refl
+
+deep_choice : (i : GuardIndices) (k : ℕ) (a b : Units) → deep (choice i k a b) ≡ 0
+unfolding depth_of
+deep_choice i k a no_unit = one_arm a
+  where
+    one_arm : (a : Units) → depth_of (choice i k a no_unit) ≡ 0
+    one_arm no_unit = refl
+    one_arm (call_unit _ _ _ _ _) = refl
+    one_arm (nest_unit _ _ _ _ _) = refl
+    one_arm (if_unit _ _ _ _ _ _ _) = refl
+deep_choice i k no_unit (call_unit _ _ _ _ _) = refl
+deep_choice i k no_unit (nest_unit _ _ _ _ _) = refl
+deep_choice i k no_unit (if_unit _ _ _ _ _ _ _) = refl
+deep_choice i k (call_unit _ _ _ _ _) (call_unit _ _ _ _ _) = refl
+deep_choice i k (call_unit _ _ _ _ _) (nest_unit _ _ _ _ _) = refl
+deep_choice i k (call_unit _ _ _ _ _) (if_unit _ _ _ _ _ _ _) = refl
+deep_choice i k (nest_unit _ _ _ _ _) (call_unit _ _ _ _ _) = refl
+deep_choice i k (nest_unit _ _ _ _ _) (nest_unit _ _ _ _ _) = refl
+deep_choice i k (nest_unit _ _ _ _ _) (if_unit _ _ _ _ _ _ _) = refl
+deep_choice i k (if_unit _ _ _ _ _ _ _) (call_unit _ _ _ _ _) = refl
+deep_choice i k (if_unit _ _ _ _ _ _ _) (nest_unit _ _ _ _ _) = refl
+deep_choice i k (if_unit _ _ _ _ _ _ _) (if_unit _ _ _ _ _ _ _) = refl
+
+deep_arm : (us : Units) (first code : Code) (n : ℕ) → deep first ≤ n → deep code ≤ n → deep (arm us first code) ≤ n
+deep_arm no_unit first code n h g = h
+deep_arm (call_unit _ _ _ _ _) first code n h g = g
+deep_arm (nest_unit _ _ _ _ _) first code n h g = g
+deep_arm (if_unit _ _ _ _ _ _ _) first code n h g = g
+
+deep_front : (i : GuardIndices) (d k : ℕ) (first : Code) (us : Units) → deep (front i d k first us) ≤ deep (followed_by first (flat_units us)) + 2
+unfolding depth_of
+deep_front i d k first no_unit = let e = deep_then first done in deep_guarded i first done (deep (followed_by first done) + 2) (omega arith) (omega arith)
+deep_front i d k first (call_unit slots x to behind rest) =
+    let ih = deep_front i d (suc k) done rest in
+    let e0 = deep_then done (flat_units rest) in
+    let e = deep_then first (flat_units (call_unit slots x to behind rest)) in
+    let e2 = deep_slots slots (plain (call_to x) (set_to to (followed_by behind (flat_units rest)))) in
+    let e3 = deep_set to (followed_by behind (flat_units rest)) in
+    let e4 = deep_then behind (flat_units rest) in
+    let e6 = deep_raised 0 2 first in
+    let e7 = deep_raised 0 1 behind in
+    let e8 = deep_set to (raised 0 1 behind) in
+    let e9 = deep_slots slots (plain (call_to x) (noted i d k (set_to to (raised 0 1 behind)))) in
+    omega arith
+deep_front i d k first (nest_unit s inner body behind rest) =
+    let ib = deep_front i (suc d) k inner body in
+    let ih = deep_front i d (k + numbers_in body) behind rest in
+    let e = deep_then first (flat_units (nest_unit s inner body behind rest)) in
+    deep_guarded i first (nest s None (front i (suc d) k inner body) (front i d (k + numbers_in body) behind rest)) (deep (followed_by first (flat_units (nest_unit s inner body behind rest))) + 2) (omega arith) (omega arith)
+deep_front i d k first (if_unit c fa a fb b behind rest) =
+    let na = front i (suc d) k fa a in
+    let nb = front i (suc d) (k + numbers_in a) fb b in
+    let nx = front i d (k + numbers_in a + numbers_in b) behind rest in
+    let fa_ = followed_by fa (flat_units a) in
+    let fb_ = followed_by fb (flat_units b) in
+    let fr_ = followed_by behind (flat_units rest) in
+    let ia = deep_front i (suc d) k fa a in
+    let ib = deep_front i (suc d) (k + numbers_in a) fb b in
+    let ih = deep_front i d (k + numbers_in a + numbers_in b) behind rest in
+    let ea = deep_then fa (flat_units a) in
+    let eb = deep_then fb (flat_units b) in
+    let aa : deep (arm a fa na) ≤ deep fa_ + 2 = deep_arm a fa na (deep fa_ + 2) (omega arith) ia in
+    let ab : deep (arm b fb nb) ≤ deep fb_ + 2 = deep_arm b fb nb (deep fb_ + 2) (omega arith) ib in
+    let e = deep_then first (flat_units (if_unit c fa a fb b behind rest)) in
+    let e2 = deep_got c (branch None fa_ fb_ fr_) in
+    let e3 = deep_got c done in
+    let ch = deep_choice i k a b in
+    deep_guarded i first (plain (basic (global_get i.state)) (branch (Some I32) (choice i k a b) (got c done) (branch None (arm a fa na) (arm b fb nb) nx))) (deep (followed_by first (flat_units (if_unit c fa a fb b behind rest))) + 2) (omega arith) (omega arith)
+
+pub depth_law : DepthBound
+depth_law i d k first us = deep_front i d k first us
+
+-- ---- passing
+
+over_few : (c : Code) → over c ≤ 3
+over_few done = omega arith
+over_few (plain p c) = omega arith
+over_few (nest s t b c) = omega arith
+over_few (branch t a b c) = omega arith
+
+pub passing_law : PassingBound
+passing_law first no_unit = let o = over_few first in omega arith
+passing_law first (call_unit slots x to behind rest) = let ih = passing_law done rest in omega arith
+passing_law first (nest_unit s inner body behind rest) = let o = over_few first in let ib = passing_law inner body in let ih = passing_law behind rest in omega arith
+passing_law first (if_unit c fa a fb b behind rest) = let o = over_few first in let ia = passing_law fa a in let ib = passing_law fb b in let ih = passing_law behind rest in omega arith
+
+abbrev few : List ℕ → ℕ → Stmts → Type 0
+few ps n s = unit_count (units ps n s) ≤ calls_and_constructs s
+
+units_few : (ps : List ℕ) (n : ℕ) (s : Stmts) → few ps n s
+units_few ps n no_more = omega arith
+units_few ps n (computes op args to rest) = units_few ps n rest
+units_few ps n (copies to from rest) = units_few ps n rest
+units_few ps n (calls op stack args to rest) = by (numbered ps n op) (units_few ps (suc n) rest)
+  where
+    by : (o : Option Callee) → few ps (suc n) rest
+        → unit_count (unit_call o (last_of args stack) to (first_piece ps (suc n) rest) (units ps (suc n) rest)) ≤ 1 + calls_and_constructs rest
+    by None ih = omega arith
+    by (Some x) ih = omega arith
+units_few ps n (leaps l rest) = units_few ps n rest
+units_few ps n (leaps_if c l rest) = units_few ps n rest
+units_few ps n (leaps_by index labels last rest) = units_few ps n rest
+units_few ps n (nests s body rest) = by (holds_call ps n body) (units_few ps n body) (units_few ps (n + call_total body) rest)
+  where
+    by : (b : Bool) → few ps n body → few ps (n + call_total body) rest
+        → unit_count (if b then nest_unit s (first_piece ps n body) (units ps n body) (first_piece ps (n + call_total body) rest) (units ps (n + call_total body) rest) else units ps (n + call_total body) rest) ≤ 1 + calls_and_constructs body + calls_and_constructs rest
+    by true ib ih = omega arith
+    by false ib ih = omega arith
+units_few ps n (decides c a b rest) = by (holds_call ps n a || holds_call ps (n + call_total a) b) (units_few ps n a) (units_few ps (n + call_total a) b) (units_few ps (n + call_total a + call_total b) rest)
+  where
+    by : (h : Bool) → few ps n a → few ps (n + call_total a) b → few ps (n + call_total a + call_total b) rest
+        → unit_count (if h then if_unit c (first_piece ps n a) (units ps n a) (first_piece ps (n + call_total a) b) (units ps (n + call_total a) b) (first_piece ps (n + call_total a + call_total b) rest) (units ps (n + call_total a + call_total b) rest) else units ps (n + call_total a + call_total b) rest)
+        ≤ 1 + calls_and_constructs a + calls_and_constructs b + calls_and_constructs rest
+    by true ia ib ih = omega arith
+    by false ia ib ih = omega arith
+units_few ps n (halts rest) = units_few ps n rest
+
+pub few_law : UnitsFew
+few_law ps n s = units_few ps n s
+
+-- ---- reads of the state
+
+module _ (st : ℕ) where
+  one_read : (p : Plain) → plain_reads st p ≤ 1
+  one_read (basic (global_get x)) = by (nat_eq x st)
+    where
+      by : (b : Bool) → (if b then 1 else 0) ≤ 1
+      by true = omega arith
+      by false = omega arith
+  one_read _ = omega arith
+
+  reads_then : (c d : Code) → reads st (followed_by c d) ≡ reads st c + reads st d
+  unfolding followed_by
+  reads_then done d = omega arith
+  reads_then (plain p c) d = let ih = reads_then c d in omega arith
+  reads_then (nest s t b c) d = let ih = reads_then c d in omega arith
+  reads_then (branch t a b c) d = let ih = reads_then c d in omega arith
+
+  raised_reads : (d n : ℕ) (p : Plain) → plain_reads st (raised_plain d n p) ≡ plain_reads st p
+  raised_reads d n (basic b) = refl
+  raised_reads d n (local_get x) = refl
+  raised_reads d n (local_set x) = refl
+  raised_reads d n (local_tee x) = refl
+  raised_reads d n (br l) = refl
+  raised_reads d n (br_if l) = refl
+  raised_reads d n (br_table ls l) = refl
+  raised_reads d n return = refl
+  raised_reads d n unreachable = refl
+  raised_reads d n (call x) = refl
+  raised_reads d n (call_indirect t) = refl
+
+  reads_raised : (d n : ℕ) (c : Code) → reads st (raised d n c) ≡ reads st c
+  reads_raised d n done = refl
+  reads_raised d n (plain p c) = let ih = reads_raised d n c in let e = raised_reads d n p in omega arith
+  reads_raised d n (nest s t b c) = let ih = reads_raised d n c in let ib = reads_raised (suc d) n b in omega arith
+  reads_raised d n (branch t a b c) = let ih = reads_raised d n c in let ia = reads_raised (suc d) n a in let ib = reads_raised (suc d) n b in omega arith
+
+  reads_slots : (xs : List ℕ) (c : Code) → reads st (slots_got xs c) ≡ reads st c
+  reads_slots [] c = refl
+  reads_slots (x ∷ xs) c = let ih = reads_slots xs c in omega arith
+
+  reads_set : (to : Option ℕ) (c : Code) → reads st (set_to to c) ≡ reads st c
+  reads_set None c = refl
+  reads_set (Some x) c = omega arith
+
+  reads_got : (a : Operand) (c : Code) → reads st (got a c) ≡ reads st c
+  reads_got (Local x) c = omega arith
+  reads_got (Const v) c = omega arith
+
+  reads_call : (x : Callee) → plain_reads st (call_to x) ≡ 0
+  reads_call (direct x) = refl
+  reads_call (indirect t) = refl
+
+  reads_arm : (us : Units) (first code : Code) (n : ℕ) → reads st first ≤ n → reads st code ≤ n → reads st (arm us first code) ≤ n
+  reads_arm no_unit first code n h g = h
+  reads_arm (call_unit _ _ _ _ _) first code n h g = g
+  reads_arm (nest_unit _ _ _ _ _) first code n h g = g
+  reads_arm (if_unit _ _ _ _ _ _ _) first code n h g = g
+
+module _ (i : GuardIndices) where
+  reads_guarded : (c next : Code) → reads i.state (guarded i c next) ≤ reads i.state c + reads i.state next + 1
+  reads_guarded done next = omega arith
+  reads_guarded (plain p c) next = let e = reads_raised i.state 0 1 (plain p c) in let o = one_read i.state (basic (global_get i.state)) in omega arith
+  reads_guarded (nest s t b c) next = let e = reads_raised i.state 0 1 (nest s t b c) in let o = one_read i.state (basic (global_get i.state)) in omega arith
+  reads_guarded (branch t a b c) next = let e = reads_raised i.state 0 1 (branch t a b c) in let o = one_read i.state (basic (global_get i.state)) in omega arith
+
+  reads_choice : (k : ℕ) (a b : Units) → reads i.state (choice i k a b) ≡ 0
+  reads_choice k a no_unit = one_arm a
+    where
+      one_arm : (a : Units) → reads i.state (choice i k a no_unit) ≡ 0
+      one_arm no_unit = refl
+      one_arm (call_unit _ _ _ _ _) = refl
+      one_arm (nest_unit _ _ _ _ _) = refl
+      one_arm (if_unit _ _ _ _ _ _ _) = refl
+  reads_choice k no_unit (call_unit _ _ _ _ _) = refl
+  reads_choice k no_unit (nest_unit _ _ _ _ _) = refl
+  reads_choice k no_unit (if_unit _ _ _ _ _ _ _) = refl
+  reads_choice k (call_unit _ _ _ _ _) (call_unit _ _ _ _ _) = refl
+  reads_choice k (call_unit _ _ _ _ _) (nest_unit _ _ _ _ _) = refl
+  reads_choice k (call_unit _ _ _ _ _) (if_unit _ _ _ _ _ _ _) = refl
+  reads_choice k (nest_unit _ _ _ _ _) (call_unit _ _ _ _ _) = refl
+  reads_choice k (nest_unit _ _ _ _ _) (nest_unit _ _ _ _ _) = refl
+  reads_choice k (nest_unit _ _ _ _ _) (if_unit _ _ _ _ _ _ _) = refl
+  reads_choice k (if_unit _ _ _ _ _ _ _) (call_unit _ _ _ _ _) = refl
+  reads_choice k (if_unit _ _ _ _ _ _ _) (nest_unit _ _ _ _ _) = refl
+  reads_choice k (if_unit _ _ _ _ _ _ _) (if_unit _ _ _ _ _ _ _) = refl
+
+  reads_front : (d k : ℕ) (first : Code) (us : Units) → reads i.state (front i d k first us) ≤ reads i.state (followed_by first (flat_units us)) + 4 * unit_count us + 1
+  reads_front d k first no_unit = let e = reads_then i.state first done in let g = reads_guarded first done in omega arith
+  reads_front d k first (call_unit slots x to behind rest) =
+      let ih = reads_front d (suc k) done rest in
+      let e0 = reads_then i.state done (flat_units rest) in
+      let e = reads_then i.state first (flat_units (call_unit slots x to behind rest)) in
+      let e2 = reads_slots i.state slots (plain (call_to x) (set_to to (followed_by behind (flat_units rest)))) in
+      let e3 = reads_set i.state to (followed_by behind (flat_units rest)) in
+      let e4 = reads_then i.state behind (flat_units rest) in
+      let e5 = reads_call i.state x in
+      let e6 = reads_raised i.state 0 2 first in
+      let e7 = reads_raised i.state 0 1 behind in
+      let e8 = reads_set i.state to (raised 0 1 behind) in
+      let e9 = reads_slots i.state slots (plain (call_to x) (noted i d k (set_to to (raised 0 1 behind)))) in
+      let o = one_read i.state (basic (global_get i.state)) in
+      omega arith
+  reads_front d k first (nest_unit s inner body behind rest) =
+      let ib = reads_front (suc d) k inner body in
+      let ih = reads_front d (k + numbers_in body) behind rest in
+      let e = reads_then i.state first (flat_units (nest_unit s inner body behind rest)) in
+      let g = reads_guarded first (nest s None (front i (suc d) k inner body) (front i d (k + numbers_in body) behind rest)) in
+      omega arith
+  reads_front d k first (if_unit c fa a fb b behind rest) =
+      let na = front i (suc d) k fa a in
+      let nb = front i (suc d) (k + numbers_in a) fb b in
+      let nx = front i d (k + numbers_in a + numbers_in b) behind rest in
+      let fa_ = followed_by fa (flat_units a) in
+      let fb_ = followed_by fb (flat_units b) in
+      let fr_ = followed_by behind (flat_units rest) in
+      let ia = reads_front (suc d) k fa a in
+      let ib = reads_front (suc d) (k + numbers_in a) fb b in
+      let ih = reads_front d (k + numbers_in a + numbers_in b) behind rest in
+      let ea = reads_then i.state fa (flat_units a) in
+      let eb = reads_then i.state fb (flat_units b) in
+      let aa : reads i.state (arm a fa na) ≤ reads i.state fa_ + 4 * unit_count a + 1 = reads_arm i.state a fa na (reads i.state fa_ + 4 * unit_count a + 1) (omega arith) ia in
+      let ab : reads i.state (arm b fb nb) ≤ reads i.state fb_ + 4 * unit_count b + 1 = reads_arm i.state b fb nb (reads i.state fb_ + 4 * unit_count b + 1) (omega arith) ib in
+      let e = reads_then i.state first (flat_units (if_unit c fa a fb b behind rest)) in
+      let e2 = reads_got i.state c (branch None fa_ fb_ fr_) in
+      let e3 = reads_got i.state c done in
+      let ch = reads_choice k a b in
+      let o = one_read i.state (basic (global_get i.state)) in
+      let g = reads_guarded first (plain (basic (global_get i.state)) (branch (Some I32) (choice i k a b) (got c done) (branch None (arm a fa na) (arm b fb nb) nx))) in
+      omega arith
+
+pub reads_law : ReadsBound
+reads_law i d k first us = reads_front i d k first us

@@ -1,0 +1,17 @@
+use Rattle.guard_form.proofs.Sizes.{depth_law, few_law, passing_law, reads_law, size_law}
+use Rattle.guard_form.proofs.laws.guards_are_few.Goals as goal
+
+pub returns-clause-size : goal.returns-clause-size
+returns-clause-size c = size_law
+
+pub returns-clause-depth : goal.returns-clause-depth
+returns-clause-depth c = depth_law
+
+pub returns-clause-few : goal.returns-clause-few
+returns-clause-few c = few_law
+
+pub returns-clause-reads : goal.returns-clause-reads
+returns-clause-reads c = reads_law
+
+pub returns-clause-passing : goal.returns-clause-passing
+returns-clause-passing c = passing_law

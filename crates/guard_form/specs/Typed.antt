@@ -1,0 +1,57 @@
+-- Guarded code has its type.
+use Rattle.std.specs.Prelude.{◌≡◌, ℕ, List, [], ◌∷◌, Option, Some, None, true, slice_get}
+use Rattle.wa_types.specs.declared.values.ValType.{ValType}
+use Rattle.wa_types.specs.declared.values.ValType.TheVariants.{I32}
+use Rattle.wa_types.specs.Syntax.{local_set, br, br_if, br_table, Code, done, plain}
+use Rattle.wa_types.specs.Typing.{GlobalType, Around, listed, Types, Typed}
+use Rattle.wa_model.specs.Flat.{Stmts, no_more, computes, copies, calls, leaps, leaps_if, leaps_by, nests, decides, halts, followed_by, got, all_got, set_to, slots_got, last_of, result_got}
+use Rattle.guard_form.specs.Pieces.{Units, no_unit, call_unit, nest_unit, if_unit, call_to, first_piece, units}
+use Rattle.guard_form.specs.Guarded.{GuardIndices, front, written_body}
+
+-- each piece takes no operands to none, and so does each call with its arguments and its result
+abbrev pub UnitsTyped : Around → List (Option ValType) → (first : Code) → Units → Type 0
+UnitsTyped c ls first no_unit = Types c ls first [] []
+UnitsTyped c ls first (call_unit slots x to behind rest) = Types c ls first [] [] × Types c ls (slots_got slots (plain (call_to x) (set_to to done))) [] []
+    × UnitsTyped c ls behind rest
+UnitsTyped c ls first (nest_unit s inner body behind rest) = Types c ls first [] [] × UnitsTyped c (None ∷ ls) inner body × UnitsTyped c ls behind rest
+UnitsTyped c ls first (if_unit o fa a fb b behind rest) = Types c ls first [] [] × Types c ls (got o done) (I32 ∷ []) [] × UnitsTyped c (None ∷ ls) fa a
+    × UnitsTyped c (None ∷ ls) fb b × UnitsTyped c ls behind rest
+
+-- each statement takes no operands to none
+abbrev pub StmtsTyped : Around → List (Option ValType) → Stmts → Type 0
+StmtsTyped c ls no_more = Unit {0}
+StmtsTyped c ls (computes op args to rest) = Types c ls (all_got args (followed_by op (set_to to done))) [] [] × StmtsTyped c ls rest
+StmtsTyped c ls (copies to from rest) = Types c ls (got from (plain (local_set to) done)) [] [] × StmtsTyped c ls rest
+StmtsTyped c ls (calls op stack args to rest) = Types c ls (slots_got (last_of args stack) (followed_by op (set_to to done))) [] [] × StmtsTyped c ls rest
+StmtsTyped c ls (leaps l rest) = Types c ls (plain (br l) done) [] [] × StmtsTyped c ls rest
+StmtsTyped c ls (leaps_if o l rest) = Types c ls (got o (plain (br_if l) done)) [] [] × StmtsTyped c ls rest
+StmtsTyped c ls (leaps_by o labels last rest) = Types c ls (got o (plain (br_table labels last) done)) [] [] × StmtsTyped c ls rest
+StmtsTyped c ls (nests s body rest) = StmtsTyped c (None ∷ ls) body × StmtsTyped c ls rest
+StmtsTyped c ls (decides o a b rest) = Types c ls (got o done) (I32 ∷ []) [] × StmtsTyped c (None ∷ ls) a × StmtsTyped c (None ∷ ls) b × StmtsTyped c ls rest
+StmtsTyped c ls (halts rest) = StmtsTyped c ls rest
+
+-- the type of the state's global
+abbrev pub an_i32 : GlobalType
+an_i32 = record { ty = I32; mutable = true }
+
+-- ---- laws
+
+-- Where each statement takes no operands to none, so does each piece and each call.
+abbrev pub PiecesTyped : Type 0
+PiecesTyped = (c : Around) (ls : List (Option ValType)) (places : List ℕ) (n : ℕ) (s : Stmts) → StmtsTyped c ls s → UnitsTyped c ls (first_piece places n s) (units places n s)
+
+-- Then guarded code takes none to none, where the global of the state and the local of the index are i32s, and so many
+-- constructs stand around it inside the function's block.
+abbrev pub FrontTyped : Type 0
+FrontTyped =
+    (c : Around) (i : GuardIndices) (d k : ℕ) (ls : List (Option ValType)) (first : Code) (us : Units)
+    → slice_get c.globals i.state ≡ Some an_i32 → slice_get c.locals i.index ≡ Some I32 → slice_get ls d ≡ Some None
+    → UnitsTyped c ls first us → Types c ls (front i d k first us) [] []
+
+-- And the written body has the function's type, where the codes that restore, save and get the result have theirs.
+abbrev pub BodyTyped : Type 0
+BodyTyped =
+    (c : Around) (i : GuardIndices) (restoring saving : Code) (result : Option ℕ) (first : Code) (us : Units)
+    → slice_get c.globals i.state ≡ Some an_i32 → slice_get c.locals i.index ≡ Some I32
+    → Types c (None ∷ c.result ∷ []) restoring [] [] → Types c (None ∷ c.result ∷ []) saving [] [] → Types c (c.result ∷ []) (result_got result) (listed c.result) []
+    → UnitsTyped c (None ∷ c.result ∷ []) first us → Typed c (written_body i restoring saving (result_got result) first us)

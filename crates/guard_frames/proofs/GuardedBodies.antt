@@ -1,0 +1,61 @@
+-- A guarded body keeps the promise that frames ask for.
+use Rattle.std.proofs.Common.{◌≡◌, ℕ, List, [], ◌∷◌, length, None, Bool, true, false, refl, sym, ap, ◌∙◌, subst, arith}
+use Rattle.std.specs.Prelude.{slice_set}
+use Rattle.wa_types.specs.declared.values.Value.{Value}
+use Rattle.wa_types.specs.declared.values.Value.TheVariants as V
+use Rattle.wa_types.specs.Syntax.{Code, done, nest, Module, a_block}
+use Rattle.wa_model.specs.declared.answers.Area.{Area}
+use Rattle.wa_model.specs.Machine.{goes, Leads, stays, moves}
+use Rattle.wa_model.specs.Store.{Store, value_at}
+use Rattle.wa_model.specs.Configuration.{block_label, Activation, Configuration, running}
+use Rattle.wa_model.specs.Step.{Next, step}
+use Rattle.wa_model.specs.Blocking.{Note}
+use Rattle.wa_model.specs.Alone.{alone, alone_next}
+use Rattle.wa_model.specs.Flat.{result_got}
+use Rattle.frame_laws.specs.Function.{epilogue}
+use Rattle.frame_laws.specs.Layout.{save_code}
+use Rattle.frame_laws.specs.Stretches.{GoesKeeping}
+use Rattle.guard_form.specs.Functions.{indices_of}
+use Rattle.guard_form.specs.Guarded.{by_state, front}
+use Rattle.guard_form.specs.Places.{written_labels, call_code, noted_code, call_label}
+use Rattle.guard_frames.specs.Joined.{written_of, SameCode, BodyKeeps}
+use Rattle.wa_model.specs.Keeping.{keeps}
+use Rattle.wa_model.specs.Keeping.{silent}
+use Rattle.run_laws.proofs.Silence.{silent_is_kept}
+use Rattle.guard_runs.proofs.Seeking.{seeks_law, unwinds_law}
+
+module _ (g : ℕ) (area : Area) (p : Module) where
+  move_keeps : (c : Configuration) (a b : Bool) (o : Next) (k : ℕ) (es : List Note) (d : Configuration) → (a ≡ true → b ≡ true) → alone_next a o ≡ goes k es d
+      → alone_next b o ≡ goes k es d
+  move_keeps c true b o k es d h e = ap (λ z. alone_next z o) (h refl) ∙ e
+  move_keeps c false b o k es d h e = cc
+
+  all_keep : (c d : Configuration) (n : ℕ) (es : List Note) → Leads (alone silent p) c n es d → Leads (alone (keeps g area) p) c n es d
+  all_keep c d _ _ stays = stays
+  all_keep c d n _ (moves {t = t} {k = k} {n = n1} {es = es1} {fs = fs} e rest em eg) =
+      moves (move_keeps c (silent c) (keeps g area c) (step p c) k es1 t (λ q. silent_is_kept g area c q) e) (all_keep t d n1 fs rest) em eg
+
+pub same_code : SameCode
+same_code st f l u =
+    ap (λ c. function_code_with c (save_code l done)) (sym u.restoring) ∙ ap (λ c. function_code_with f.restoring c) (sym u.saving)
+  where
+    function_code_with : Code → Code → Code
+    function_code_with r s = by_state st r done (nest a_block None (front (indices_of st f) 0 0 f.first f.body) (by_state st s done (result_got f.result)))
+
+pub body_keeps : BodyKeeps
+body_keeps g area p st k h f l slots x to behind rest xs u arms place bottom =
+    record {
+      leaves = λ n s fn under ls ops e.
+          let q = unwinds_law p st n k h f s fn under ls ops to behind rest xs e in
+          let d1 = all_keep g area p _ _ 4 [] q in
+          record { cost = 4; within = omega arith; goes = subst (λ i. GoesKeeping g area p (from s fn under ls ops) 4 (running s fn under (slice_set ls i (V.I32 k)) [] (epilogue st (written_of st f l)) [])) (sym u.index) (subst (λ c. GoesKeeping g area p (from s fn under ls ops) 4 (running s fn under (slice_set ls f.size (V.I32 k)) [] (by_state st c done (result_got f.result)) [])) u.saving d1) };
+      seeks = λ n s fn under ls e i.
+          let q = seeks_law p st n k f s fn under ls slots x to behind rest xs e (ap (value_at ls) (sym u.index) ∙ i) arms place bottom in
+          record { cost = q.cost; within = q.within; goes = subst (λ c. GoesKeeping g area p (running s fn under ls [] (front (indices_of st f) 0 0 f.first f.body) (block_label 0 0 (by_state st c done (result_got f.result)) done ∷ [])) q.cost (there s fn under ls)) u.saving (all_keep g area p _ _ q.cost [] q.goes) };
+    }
+  where
+    from : Store → ℕ → List Activation → List Value → List Value → Configuration
+    from s fn under ls ops = running s fn under ls ops (noted_code st f (length xs) k to behind) (call_label st f h (length xs) k rest ∷ written_labels st f xs)
+
+    there : Store → ℕ → List Activation → List Value → Configuration
+    there s fn under ls = running s fn under ls [] (call_code st f (length xs) k slots x to behind) (call_label st f 0 (length xs) k rest ∷ written_labels st f xs)

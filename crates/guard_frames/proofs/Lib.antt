@@ -1,0 +1,3 @@
+pub mod GuardedBodies
+pub mod ReturnedStacks
+pub mod WaitingLevels

@@ -1,0 +1,15 @@
+pub mod AfterPause
+pub mod EachMove
+pub mod EachStretch
+pub mod Example
+pub mod Moving
+pub mod PairedModules
+pub mod Passing
+pub mod ProperCode
+pub mod Seeking
+pub mod Settling
+pub mod SilentGoes
+pub mod SilentStretches
+pub mod StoppedStacks
+pub mod Stores
+pub mod Stretches

@@ -1,0 +1,9 @@
+pub mod AfterPause
+pub mod Alike
+pub mod Beside
+pub mod Modules
+pub mod Proper
+pub mod Rewinding
+pub mod Running
+pub mod Silent
+pub mod Stopped
