@@ -1,12 +1,14 @@
 -- What an accepted source is: few locals, and few bytes with the runtime's parts behind it.
-use Rattle.std.proofs.Common.{◌≡◌, ℕ, suc, ◌+◌, ◌≤◌, ◌<◌, ◌^◌, List, [], ◌∷◌, map, refl, ap, sym, ◌∙◌, subst, length, arith, None}
-use Rattle.std.specs.List.{All}
+use Rattle.std.proofs.Common.{◌≡◌, ℕ, suc, Bool, true, false, Some, ◌+◌, ◌≤◌, ◌<◌, ◌^◌, List, [], ◌∷◌, map, refl, sym, ◌∙◌, subst, length, arith, None}
+use Rattle.std.specs.List.{list_any}
+use Rattle.std.specs.Prelude.{slice_get}
 use Rattle.std.proofs.lemmas.List.Elements.{All-nil, All-cons, All-weaker, All-append}
-use Rattle.wa_types.specs.declared.syntax.Run.{Run}
 use Rattle.wa_types.specs.declared.syntax.Module.{Module as ModuleValue}
 use Rattle.wa_types.specs.ModuleBounds.{source_bounds}
-use Rattle.wa_types.specs.Marks.{first_above, local_counts}
+use Rattle.wa_types.specs.Marks.{first_above}
 use Rattle.wa_types.specs.Syntax.{Code, Func, Module}
+use Rattle.wa_types.specs.Pausing.{Settings, MayPause, TellsMayPause}
+use Rattle.wa_model.specs.Quiet.{NeverPauses}
 use Rattle.wa_types.specs.Encoding.{Enc}
 use Rattle.wa_types.specs.Runtime.{with_runtime, runtime_func, runtime_funcs, global_space, start_code, stop_code, state_code}
 use Rattle.wa_types.specs.Sizes.{StrictSizeRule}
@@ -23,42 +25,51 @@ use Rattle.wasm_reader.proofs.ShortFile.{written_short}
 use Rattle.wasm_reader.proofs.SpelledSizes.{none_above, spelled_locals}
 use Rattle.asyncify_runtime.specs.Reserved.{reserved_at}
 use Rattle.asyncify_app.specs.declared.source.SourceFault.{SourceFault}
-use Rattle.asyncify_app.specs.declared.source.SourceFault.TheVariants.{Memory as no_memory, Refused}
-use Rattle.asyncify_app.specs.Small.{IsSmall}
-use Rattle.asyncify_app.specs.Sources.{IsSource}
+use Rattle.asyncify_app.specs.Sources.{IsSource, IsRefusedFor, not_built}
 use Rattle.asyncify_app.specs.Refusals.{IsFaultOf, IsOfRead}
 use Rattle.asyncify_app.proofs.Grown.{with_runtime_length}
 
--- the parts of an accepted source
-pub made_source : (bytes : List ℕ) (m v w n : ModuleValue) → n ≡ v → v ≡ m → w ≡ v → IsAccepted source_bounds bytes (module_of m) → reserved_at (module_of m) ≡ None → Valid (module_of m) → IsSmall (module_of w) → IsSource bytes (module_of n)
-made_source bytes m v w n e f g a r d s =
-    let same : m ≡ n = sym (e ∙ f) in
-    subst (λ (z : ModuleValue). IsSource bytes (module_of z)) same
-    (record { accepted = record { unreserved = record { read = a; free = r }; valid = d }; small = subst (λ (z : ModuleValue). IsSmall (module_of z)) (g ∙ f) s })
+some_told : (which : List Bool) → list_any (λ b. b) which ≡ true → (x : ℕ) × (slice_get which x ≡ Some true)
+some_told [] h = cc
+some_told (true ∷ which) h = (0, refl)
+some_told (false ∷ which) h = let r = some_told which h in (suc r.0, r.1)
 
-pub strict : (bytes : List ℕ) (m : Module) → IsSource bytes m → StrictSizeRule m
-strict bytes m s = accepted_strictly source_bounds bytes m refl s.accepted.unreserved.read
+-- the parts of an accepted source
+pub made_source : (s : Settings) (bytes : List ℕ) (m v n : ModuleValue) → n ≡ v → v ≡ m → IsAccepted source_bounds bytes (module_of m) → reserved_at (module_of m) ≡ None → Valid (module_of m) → NeverPauses (module_of v) s → IsSource s bytes (module_of n)
+made_source s bytes m v n e f a r d q =
+    let same : m ≡ n = sym (e ∙ f) in
+    subst (λ (z : ModuleValue). IsSource s bytes (module_of z)) same
+    (record { accepted = record { unreserved = record { read = a; free = r }; valid = d }; quiet = subst (λ (z : ModuleValue). NeverPauses (module_of z) s) f q })
+
+-- a valid source of which something may pause
+pub made_pausing : (s : Settings) (bytes : List ℕ) (m v : ModuleValue) (which : List Bool) → v ≡ m → IsAccepted source_bounds bytes (module_of m) → reserved_at (module_of m) ≡ None → Valid (module_of m) → TellsMayPause (module_of v) s which → list_any (λ b. b) which ≡ true → IsRefusedFor s bytes not_built
+made_pausing s bytes m v which f a r d tells h =
+    let t = some_told which h in
+    (module_of m, record { unreserved = record { read = a; free = r }; valid = d }, t.0, subst (λ (z : ModuleValue). MayPause (module_of z) s t.0) f ((tells.each t.0).0 t.1))
+
+pub strict : (s : Settings) (bytes : List ℕ) (m : Module) → IsSource s bytes m → StrictSizeRule m
+strict s bytes m h = accepted_strictly source_bounds bytes m refl h.accepted.unreserved.read
 
 -- a source grows little
-pub grown_short : (bytes : List ℕ) (m : Module) → IsSource bytes m → length (Enc (with_runtime m)) ≤ 8390608
-grown_short bytes m s =
-    let a = s.accepted.unreserved.read in
+pub grown_short : (s : Settings) (bytes : List ℕ) (m : Module) → IsSource s bytes m → length (Enc (with_runtime m)) ≤ 8390608
+grown_short s bytes m h =
+    let a = h.accepted.unreserved.read in
     omega (arith, with_runtime_length m, written_short bytes m (accepted_spelled source_bounds bytes m a), a.within.before.before.before.before.before.file.few)
 
 -- its functions declare few locals
-pub few_locals : (bytes : List ℕ) (m : Module) → IsSource bytes m → FewLocals m
-few_locals bytes m s =
-    let a = s.accepted.unreserved.read in
+pub few_locals : (s : Settings) (bytes : List ℕ) (m : Module) → IsSource s bytes m → FewLocals m
+few_locals s bytes m src =
+    let a = src.accepted.unreserved.read in
     let e : first_above 50000 (map (func_locals m.types) m.funcs) ≡ None = subst (λ ns. first_above 50000 ns ≡ None) (spelled_locals a.sections m a.is_module) a.within.locals in
     All-weaker (λ (f : Func). func_locals m.types f ≤ 50000) (λ (f : Func). local_count f.locals < 2 ^ 32) (λ f h. omega (arith, h)) m.funcs (none_above (func_locals m.types) 50000 m.funcs e)
 
 -- what reading refuses
-pub read_refused : (bytes : List ℕ) (fault : ReadFault) (r : SourceFault) → IsRefused source_bounds bytes fault → IsOfRead fault r → IsFaultOf bytes r
-read_refused bytes Memory r h e = subst (IsFaultOf bytes) (sym e) tt
-read_refused bytes (Malformed at) r h e = subst (IsFaultOf bytes) (sym e) h
-read_refused bytes (Float at) r h e = subst (IsFaultOf bytes) (sym e) h
-read_refused bytes (Deep at) r h e = subst (IsFaultOf bytes) (sym e) h
-read_refused bytes (Limit what n) r h e = subst (IsFaultOf bytes) (sym e) h
+pub read_refused : (s : Settings) (bytes : List ℕ) (fault : ReadFault) (r : SourceFault) → IsRefused source_bounds bytes fault → IsOfRead fault r → IsFaultOf s bytes r
+read_refused s bytes Memory r h e = subst (IsFaultOf s bytes) (sym e) tt
+read_refused s bytes (Malformed at) r h e = subst (IsFaultOf s bytes) (sym e) h
+read_refused s bytes (Float at) r h e = subst (IsFaultOf s bytes) (sym e) h
+read_refused s bytes (Deep at) r h e = subst (IsFaultOf s bytes) (sym e) h
+read_refused s bytes (Limit what n) r h e = subst (IsFaultOf s bytes) (sym e) h
 
 bare : (sort : ℕ) (body : Code) → local_count (runtime_func sort body).locals < 2 ^ 32
 bare sort body = omega arith

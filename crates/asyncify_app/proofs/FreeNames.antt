@@ -8,12 +8,12 @@ use Rattle.std.proofs.lemmas.List.Elements.{All-nil, All-cons}
 use Rattle.std.proofs.lemmas.Slice.Eq.{bytes_eq-Decides}
 use Rattle.wa_types.specs.declared.syntax.Export.{Export}
 use Rattle.wa_types.specs.Syntax.{Module}
-use Rattle.wa_types.specs.Validity.{Valid}
-use Rattle.wa_types.specs.Pausing.{Settings, TellsMayPause}
+use Rattle.wa_types.specs.Pausing.{Settings}
 use Rattle.wa_types.specs.Runtime.{runtime_names, with_runtime}
 use Rattle.wa_model.specs.Rewrites.{Rewrites}
 use Rattle.wa_model.specs.Quiet.{FreeOfNames}
-use Rattle.wa_model.proofs.QuietRewritten.{quiet_rewritten, none_told}
+use Rattle.wa_model.proofs.QuietRewritten.{quiet_rewritten}
+use Rattle.asyncify_app.specs.Sources.{IsSource}
 use Rattle.asyncify_runtime.specs.Reserved.{is_runtime_name, reserved_import, reserved_export, first_reserved, reserved_at}
 
 not_named : (name : List ℕ) (names : List (List ℕ)) → list_any (λ own. bytes_eq name own) names ≡ false → Contains names name → ⊥
@@ -57,7 +57,6 @@ second_none None None e = refl
 pub unreserved_is_free : (m : Module) → reserved_at m ≡ None → FreeOfNames m
 unreserved_is_free m e = each_free m.exports (none_found (λ (x : Export). is_runtime_name x.name) m.exports (second_none (reserved_import m.imports) (reserved_export m.exports) e))
 
--- A valid module that isn't reserved, and of which no function is told as one that may pause, is rewritten by the runtime's
--- parts.
-pub unpaused_modules_are_rewritten : (m : Module) (s : Settings) (which : List Bool) → Valid m → reserved_at m ≡ None → TellsMayPause m s which → list_any (λ told. told) which ≡ false → Rewrites m s (with_runtime m)
-unpaused_modules_are_rewritten m s which valid e tells none = quiet_rewritten m s valid (unreserved_is_free m e) (none_told m s which tells none)
+-- A source of which nothing may pause, with the runtime's parts, is that module, rewritten.
+pub sources_are_rewritten : (s : Settings) (bytes : List ℕ) (m : Module) → IsSource s bytes m → Rewrites m s (with_runtime m)
+sources_are_rewritten s bytes m h = quiet_rewritten m s h.accepted.valid (unreserved_is_free m h.accepted.unreserved.free) h.quiet

@@ -2,7 +2,7 @@ pub mod Accepted
 pub mod FreeNames
 pub mod Grown
 pub mod Printed
-pub mod SmallModules
-pub mod SmallRewritten
+pub mod SaidWords
+pub mod Spaces
 pub mod Transforming
 pub mod Written

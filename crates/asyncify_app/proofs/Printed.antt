@@ -1,12 +1,15 @@
 -- What was printed, piece after piece.
-use Rattle.std.proofs.Common.{ℕ, ◌++◌, List, Option, Some, None, Result, Ok, Err, refl, sym, ap, ◌∙◌, ◌≡◌, subst, take, length, inl, inr}
+use Rattle.std.proofs.Common.{ℕ, ◌++◌, List, Option, Some, None, Result, Ok, Err, refl, sym, ap, ◌∙◌, ◌≡◌, ◌⊎◌, subst, take, length, inl, inr, arith}
 use Rattle.std.specs.Prelude.{OnOk, OnErr}
 use Rattle.std.proofs.lemmas.List.{append-nil}
-use Rattle.vault_port.specs.Told.{Becomes}
+use Rattle.vault_port.specs.Told.{Becomes, WhereTold}
 use Rattle.vault_port.specs.Taken.{Appends, AppendsLess}
 use Rattle.asyncify_app.specs.Lines.{memory_line, read_fault_line}
-use Rattle.asyncify_app.specs.Transforms.{EndsInMemory, Prints, PrintsMemory, RunsOutOfMemory}
-use Rattle.vault_port.specs.Files.{Files}
+use Rattle.asyncify_app.specs.Transforms.{EndsInMemory, HasCause, Prints, PrintsMemory, RunsOutOfMemory}
+use Rattle.asyncify_app.specs.Sources.{Cause, malformed, float, deep, limit, reserved, invalid, not_built, IsRefusedFor, IsRefusal, status_of}
+use Rattle.wa_model.specs.Command.{Command, transform, OnTransform}
+use Rattle.vault_port.specs.Files.{Files, bytes_of}
+use Rattle.wa_types.specs.Pausing.{Settings}
 
 -- one way or the other
 pub either_way : {T E C : Type 0} → (r : Result T E) → (A B : Type 0) → OnOk r A → OnErr r B → (A → C) → (B → C) → C
@@ -44,11 +47,11 @@ memory_behind line None (Some y) new g h = absurd g
 memory_behind line (Some x) None new g h = absurd g
 
 -- the line on memory alone, where any line might have been begun
-pub memory_any : (files : Option Files) (input output : List ℕ) (old new : Option (List ℕ)) → Becomes old new EndsInMemory → Becomes old new (RunsOutOfMemory files input output)
-memory_any files input output None None h = tt
-memory_any files input output (Some x) (Some y) h = (read_fault_line input, inr (inl refl), memory_alone (read_fault_line input) (Some x) (Some y) h)
-memory_any files input output None (Some y) h = h
-memory_any files input output (Some x) None h = h
+pub memory_any : (s : Settings) (files : Option Files) (input output : List ℕ) (old new : Option (List ℕ)) → Becomes old new EndsInMemory → Becomes old new (RunsOutOfMemory s files input output)
+memory_any s files input output None None h = tt
+memory_any s files input output (Some x) (Some y) h = (read_fault_line input, inr (inl refl), memory_alone (read_fault_line input) (Some x) (Some y) h)
+memory_any s files input output None (Some y) h = h
+memory_any s files input output (Some x) None h = h
 
 -- another name of a line that was printed
 pub told_line : (line text : List ℕ) (faults faults' : ℕ) (old new : Option (List ℕ)) → line ≡ text → Becomes old new (Prints text faults faults') → Becomes old new (Prints line faults faults')
@@ -56,3 +59,24 @@ told_line line text faults faults' old new e h = subst (λ l. Becomes old new (P
 
 pub told_memory : (line text : List ℕ) (old new : Option (List ℕ)) → line ≡ text → Becomes old new (PrintsMemory text) → Becomes old new (PrintsMemory line)
 told_memory line text old new e h = subst (λ l. Becomes old new (PrintsMemory l)) (sym e) h
+
+-- the line on memory alone, whatever the words spell
+pub memory_unread : (c : Option Command) (files : Option Files) (status : ℕ) (old new : Option (List ℕ)) → Becomes old new EndsInMemory → OnTransform c (λ s input output. status ≡ 9 → Becomes old new (RunsOutOfMemory s files input output))
+memory_unread None files status old new h = tt
+memory_unread (Some (transform s input output)) files status old new h = λ n. memory_any s files input output old new h
+
+never_nine : (cause : Cause) → 9 ≡ status_of cause → ⊥
+never_nine (malformed at) e = absurd (omega (arith, e))
+never_nine (float at) e = absurd (omega (arith, e))
+never_nine (deep at) e = absurd (omega (arith, e))
+never_nine (limit what found) e = absurd (omega (arith, e))
+never_nine (reserved name) e = absurd (omega (arith, e))
+never_nine (invalid func rule at) e = absurd (omega (arith, e))
+never_nine not_built e = absurd (omega (arith, e))
+
+-- a refusal's status is that of its cause
+pub refused_has_cause : (s : Settings) (files : Option Files) (input : List ℕ) (status : ℕ) (cause : Cause) → (status ≡ status_of cause) ⊎ (status ≡ 9) → IsRefusal status → WhereTold files (λ all. IsRefusedFor s (bytes_of all input) cause) → HasCause s files input status
+refused_has_cause s files input status cause e h told = elim e [
+  | inl a ↦ (cause, a, told)
+  | inr n ↦ absurd (never_nine h.0 (sym n ∙ h.1))
+]

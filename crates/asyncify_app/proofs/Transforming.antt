@@ -1,20 +1,20 @@
 -- The file that was read, and the one that is written.
 use Rattle.std.proofs.Common.{◌≡◌, inl, inr, ℕ, ◌≤◌, List, Option, Some, None, refl, sym, ap, ◌∙◌, subst, take, length, arith}
 use Rattle.std.proofs.lemmas.List.{take_all, length-take}
-use Rattle.std.proofs.Common.{◌<◌}
 use Rattle.vault_port.specs.Files.{Files, bytes_of, ChangesOnly, HoldsFrontAtMost}
 use Rattle.vault_port.specs.Told.{WhereTold, Becomes}
 use Rattle.wa_types.specs.Syntax.{Module}
 use Rattle.wa_types.specs.Encoding.{Enc}
+use Rattle.wa_types.specs.Pausing.{Settings}
 use Rattle.wa_types.specs.Runtime.{with_runtime}
 use Rattle.wa_types.specs.declared.bounds.LimitKind.TheVariants.{File, Functions, Parameters, Body, Locals, Output, Script, Programs}
 use Rattle.wa_types.specs.ModuleBounds.{source_bounds}
 use Rattle.wasm_reader.specs.declared.read_fault.ReadFault.{ReadFault}
 use Rattle.wasm_reader.specs.declared.read_fault.ReadFault.TheVariants.{Memory, Malformed, Float, Deep, Limit}
 use Rattle.wasm_reader.specs.Answers.{IsAccepted, IsRefused}
-use Rattle.asyncify_app.specs.Sources.{IsFree, IsValidSource, IsSource, Cause, malformed, float, deep, limit, reserved, invalid, not_small, IsRefusedFor}
-use Rattle.asyncify_app.specs.Transforms.{plain_settings, HoldsSource, IsRewritten, IsTransformed, IsCutShort, IsCount}
-use Rattle.asyncify_app.proofs.SmallRewritten.{sources_are_rewritten}
+use Rattle.asyncify_app.specs.Sources.{IsFree, IsValidSource, IsSource, Cause, malformed, float, deep, limit, reserved, invalid, not_built, IsRefusedFor}
+use Rattle.asyncify_app.specs.Transforms.{HoldsSource, IsRewritten, IsTransformed, IsCutShort, IsCount}
+use Rattle.asyncify_app.proofs.FreeNames.{sources_are_rewritten}
 
 -- a front one byte past the limit that is within it is whole
 whole_front : (bytes : List ℕ) → length (take 8388609 bytes) ≤ 8388608 → take 8388609 bytes ≡ bytes
@@ -30,8 +30,8 @@ free_whole bytes m f = record { read = accepted_whole bytes m f.read; free = f.f
 valid_whole : (bytes : List ℕ) (m : Module) → IsValidSource (take 8388609 bytes) m → IsValidSource bytes m
 valid_whole bytes m v = record { unreserved = free_whole bytes m v.unreserved; valid = v.valid }
 
-source_whole : (bytes : List ℕ) (m : Module) → IsSource (take 8388609 bytes) m → IsSource bytes m
-source_whole bytes m s = record { accepted = valid_whole bytes m s.accepted; small = s.small }
+source_whole : (s : Settings) (bytes : List ℕ) (m : Module) → IsSource s (take 8388609 bytes) m → IsSource s bytes m
+source_whole s bytes m h = record { accepted = valid_whole bytes m h.accepted; quiet = h.quiet }
 
 -- and so is what is refused
 within_whole : (bytes : List ℕ) (P : List ℕ → Type 0) → length (take 8388609 bytes) ≤ 8388608 → P (take 8388609 bytes) → P bytes
@@ -51,18 +51,18 @@ refused_whole bytes (Limit Output n) h = absurd h
 refused_whole bytes (Limit Script n) h = absurd h
 refused_whole bytes (Limit Programs n) h = absurd h
 
-cause_whole : (bytes : List ℕ) (cause : Cause) → IsRefusedFor (take 8388609 bytes) cause → IsRefusedFor bytes cause
-cause_whole bytes (malformed at) h = refused_whole bytes (Malformed at) h
-cause_whole bytes (float at) h = refused_whole bytes (Float at) h
-cause_whole bytes (deep at) h = refused_whole bytes (Deep at) h
-cause_whole bytes (limit what found) h = refused_whole bytes (Limit what found) h
-cause_whole bytes (reserved name) h = (h.0, h.1, accepted_whole bytes h.0 h.2, h.3, h.4)
-cause_whole bytes (invalid func rule at) h = (h.0, free_whole bytes h.0 h.1, h.2)
-cause_whole bytes not_small h = (h.0, valid_whole bytes h.0 h.1, h.2)
+cause_whole : (s : Settings) (bytes : List ℕ) (cause : Cause) → IsRefusedFor s (take 8388609 bytes) cause → IsRefusedFor s bytes cause
+cause_whole s bytes (malformed at) h = refused_whole bytes (Malformed at) h
+cause_whole s bytes (float at) h = refused_whole bytes (Float at) h
+cause_whole s bytes (deep at) h = refused_whole bytes (Deep at) h
+cause_whole s bytes (limit what found) h = refused_whole bytes (Limit what found) h
+cause_whole s bytes (reserved name) h = (h.0, h.1, accepted_whole bytes h.0 h.2, h.3, h.4)
+cause_whole s bytes (invalid func rule at) h = (h.0, free_whole bytes h.0 h.1, h.2)
+cause_whole s bytes not_built h = (h.0, valid_whole bytes h.0 h.1, h.2, h.3)
 
 -- the front that was read is of the file
-source_of : (bytes whole : List ℕ) (m : Module) → bytes ≡ take 8388609 whole → IsSource bytes m → IsSource whole m
-source_of bytes whole m e s = source_whole whole m (subst (λ z. IsSource z m) e s)
+source_of : (s : Settings) (bytes whole : List ℕ) (m : Module) → bytes ≡ take 8388609 whole → IsSource s bytes m → IsSource s whole m
+source_of s bytes whole m e h = source_whole s whole m (subst (λ z. IsSource s z m) e h)
 
 -- what one change of the files means of another, where they are told
 pub becomes_by : (P Q : Files → Files → Type 0) (old new : Option Files) → ((a b : Files) → old ≡ Some a → P a b → Q a b) → Becomes old new P → Becomes old new Q
@@ -74,60 +74,60 @@ becomes_by P Q (Some a) None f h = h
 told : (P : Files → Type 0) (old : Option Files) (a : Files) → old ≡ Some a → WhereTold old P → P a
 told P old a e h = subst (λ (o : Option Files). WhereTold o P) e h
 
-transformed_at : (input output bytes text : List ℕ) (functions : ℕ) (a b : Files) → bytes ≡ take 8388609 (bytes_of a input) → IsRewritten bytes functions text → ChangesOnly output text a b → IsTransformed input output a b
-transformed_at input output bytes text functions a b e w c = record {
+transformed_at : (s : Settings) (input output bytes text : List ℕ) (functions : ℕ) (a b : Files) → bytes ≡ take 8388609 (bytes_of a input) → IsRewritten s bytes functions text → ChangesOnly output text a b → IsTransformed s input output a b
+transformed_at s input output bytes text functions a b e w c = record {
   «module» = w.0;
-  source = source_of bytes (bytes_of a input) w.0 e w.1;
-  written = subst (λ (s : List ℕ). ChangesOnly output s a b) w.3 c;
-  rewritten = sources_are_rewritten bytes w.0 plain_settings w.1;
+  source = source_of s bytes (bytes_of a input) w.0 e w.1;
+  written = subst (λ (bs : List ℕ). ChangesOnly output bs a b) w.3 c;
+  rewritten = sources_are_rewritten s bytes w.0 w.1;
 }
 
 -- after the save
-pub transformed : (input output bytes text : List ℕ) (functions : ℕ) (old mid new : Option Files) → mid ≡ old → WhereTold old (λ all. bytes ≡ take 8388609 (bytes_of all input)) → IsRewritten bytes functions text → Becomes mid new (ChangesOnly output text) → Becomes old new (IsTransformed input output)
-transformed input output bytes text functions old mid new same read w saved =
-    becomes_by (ChangesOnly output text) (IsTransformed input output) old new (λ a b e c. transformed_at input output bytes text functions a b (told (λ all. bytes ≡ take 8388609 (bytes_of all input)) old a e read) w c) (subst (λ (o : Option Files). Becomes o new (ChangesOnly output text)) same saved)
+pub transformed : (s : Settings) (input output bytes text : List ℕ) (functions : ℕ) (old mid new : Option Files) → mid ≡ old → WhereTold old (λ all. bytes ≡ take 8388609 (bytes_of all input)) → IsRewritten s bytes functions text → Becomes mid new (ChangesOnly output text) → Becomes old new (IsTransformed s input output)
+transformed s input output bytes text functions old mid new same read w saved =
+    becomes_by (ChangesOnly output text) (IsTransformed s input output) old new (λ a b e c. transformed_at s input output bytes text functions a b (told (λ all. bytes ≡ take 8388609 (bytes_of all input)) old a e read) w c) (subst (λ (o : Option Files). Becomes o new (ChangesOnly output text)) same saved)
 
-left_at : (input output bytes text : List ℕ) (functions : ℕ) (a b : Files) → bytes ≡ take 8388609 (bytes_of a input) → IsRewritten bytes functions text → HoldsFrontAtMost output text a b → IsCutShort input output a b
-left_at input output bytes text functions a b e w h = record {
+left_at : (s : Settings) (input output bytes text : List ℕ) (functions : ℕ) (a b : Files) → bytes ≡ take 8388609 (bytes_of a input) → IsRewritten s bytes functions text → HoldsFrontAtMost output text a b → IsCutShort s input output a b
+left_at s input output bytes text functions a b e w h = record {
   left = elim h.changed [
-    | inl front ↦ inr (w.0, source_of bytes (bytes_of a input) w.0 e w.1, front.0, subst (λ (s : List ℕ). b output ≡ Some (take front.0 s)) w.3 front.1)
+    | inl front ↦ inr (w.0, source_of s bytes (bytes_of a input) w.0 e w.1, front.0, subst (λ (bs : List ℕ). b output ≡ Some (take front.0 bs)) w.3 front.1)
     | inr same ↦ inl same
   ];
   others = h.others;
 }
 
 -- after a save that failed
-pub cut_short : (input output bytes text : List ℕ) (functions : ℕ) (old mid new : Option Files) → mid ≡ old → WhereTold old (λ all. bytes ≡ take 8388609 (bytes_of all input)) → IsRewritten bytes functions text → Becomes mid new (HoldsFrontAtMost output text) → Becomes old new (IsCutShort input output)
-cut_short input output bytes text functions old mid new same read w saved =
-    becomes_by (HoldsFrontAtMost output text) (IsCutShort input output) old new (λ a b e c. left_at input output bytes text functions a b (told (λ all. bytes ≡ take 8388609 (bytes_of all input)) old a e read) w c) (subst (λ (o : Option Files). Becomes o new (HoldsFrontAtMost output text)) same saved)
+pub cut_short : (s : Settings) (input output bytes text : List ℕ) (functions : ℕ) (old mid new : Option Files) → mid ≡ old → WhereTold old (λ all. bytes ≡ take 8388609 (bytes_of all input)) → IsRewritten s bytes functions text → Becomes mid new (HoldsFrontAtMost output text) → Becomes old new (IsCutShort s input output)
+cut_short s input output bytes text functions old mid new same read w saved =
+    becomes_by (HoldsFrontAtMost output text) (IsCutShort s input output) old new (λ a b e c. left_at s input output bytes text functions a b (told (λ all. bytes ≡ take 8388609 (bytes_of all input)) old a e read) w c) (subst (λ (o : Option Files). Becomes o new (HoldsFrontAtMost output text)) same saved)
 
 -- of files that did not change
-pub uncut : (input output : List ℕ) (old new : Option Files) → new ≡ old → Becomes old new (IsCutShort input output)
-uncut input output None new e = subst (λ (o : Option Files). Becomes None o (IsCutShort input output)) (sym e) tt
-uncut input output (Some a) new e = subst (λ (o : Option Files). Becomes (Some a) o (IsCutShort input output)) (sym e) (record { left = inl refl; others = λ other d. refl })
+pub uncut : (s : Settings) (input output : List ℕ) (old new : Option Files) → new ≡ old → Becomes old new (IsCutShort s input output)
+uncut s input output None new e = subst (λ (o : Option Files). Becomes None o (IsCutShort s input output)) (sym e) tt
+uncut s input output (Some a) new e = subst (λ (o : Option Files). Becomes (Some a) o (IsCutShort s input output)) (sym e) (record { left = inl refl; others = λ other d. refl })
 
 -- what is counted
-pub counted : (input bytes text : List ℕ) (functions len : ℕ) (old : Option Files) → len ≡ length text → WhereTold old (λ all. bytes ≡ take 8388609 (bytes_of all input)) → IsRewritten bytes functions text → WhereTold old (λ all. IsCount (bytes_of all input) functions len)
-counted input bytes text functions len None l read w = tt
-counted input bytes text functions len (Some a) l read w = (w.0, source_of bytes (bytes_of a input) w.0 read w.1, w.2, l ∙ ap length w.3)
+pub counted : (s : Settings) (input bytes text : List ℕ) (functions len : ℕ) (old : Option Files) → len ≡ length text → WhereTold old (λ all. bytes ≡ take 8388609 (bytes_of all input)) → IsRewritten s bytes functions text → WhereTold old (λ all. IsCount s (bytes_of all input) functions len)
+counted s input bytes text functions len None l read w = tt
+counted s input bytes text functions len (Some a) l read w = (w.0, source_of s bytes (bytes_of a input) w.0 read w.1, w.2, l ∙ ap length w.3)
 
 -- what the front is refused for, the file is
-pub refused_for : (input bytes : List ℕ) (old : Option Files) (cause : Cause) → WhereTold old (λ all. bytes ≡ take 8388609 (bytes_of all input)) → IsRefusedFor bytes cause → WhereTold old (λ all. IsRefusedFor (bytes_of all input) cause)
-refused_for input bytes None cause read h = tt
-refused_for input bytes (Some a) cause read h = cause_whole (bytes_of a input) cause (subst (λ s. IsRefusedFor s cause) read h)
+pub refused_for : (s : Settings) (input bytes : List ℕ) (old : Option Files) (cause : Cause) → WhereTold old (λ all. bytes ≡ take 8388609 (bytes_of all input)) → IsRefusedFor s bytes cause → WhereTold old (λ all. IsRefusedFor s (bytes_of all input) cause)
+refused_for s input bytes None cause read h = tt
+refused_for s input bytes (Some a) cause read h = cause_whole s (bytes_of a input) cause (subst (λ bs. IsRefusedFor s bs cause) read h)
 
 -- an accepted source is in the file
-pub held : (input bytes text : List ℕ) (functions : ℕ) (old : Option Files) → WhereTold old (λ all. bytes ≡ take 8388609 (bytes_of all input)) → IsRewritten bytes functions text → WhereTold old (λ all. HoldsSource (bytes_of all input))
+pub held : (s : Settings) (input bytes text : List ℕ) (functions : ℕ) (old : Option Files) → WhereTold old (λ all. bytes ≡ take 8388609 (bytes_of all input)) → IsRewritten s bytes functions text → WhereTold old (λ all. HoldsSource s (bytes_of all input))
 unfolding HoldsSource
-held input bytes text functions None read w = tt
-held input bytes text functions (Some a) read w = (w.0, source_of bytes (bytes_of a input) w.0 read w.1)
+held s input bytes text functions None read w = tt
+held s input bytes text functions (Some a) read w = (w.0, source_of s bytes (bytes_of a input) w.0 read w.1)
 
-cut_of_transformed : (input output : List ℕ) (a b : Files) → IsTransformed input output a b → IsCutShort input output a b
-cut_of_transformed input output a b t = record {
-  left = inr (t.«module», t.source, length (Enc (with_runtime t.«module»)), t.written.changed ∙ ap (λ (s : List ℕ). Some s) (sym (take_all (length (Enc (with_runtime t.«module»))) (Enc (with_runtime t.«module»)) (omega arith))));
+cut_of_transformed : (s : Settings) (input output : List ℕ) (a b : Files) → IsTransformed s input output a b → IsCutShort s input output a b
+cut_of_transformed s input output a b t = record {
+  left = inr (t.«module», t.source, length (Enc (with_runtime t.«module»)), t.written.changed ∙ ap (λ (bs : List ℕ). Some bs) (sym (take_all (length (Enc (with_runtime t.«module»))) (Enc (with_runtime t.«module»)) (omega arith))));
   others = t.written.others;
 }
 
 -- what is whole is a first part too
-pub transformed_is_cut : (input output : List ℕ) (old new : Option Files) → Becomes old new (IsTransformed input output) → Becomes old new (IsCutShort input output)
-transformed_is_cut input output old new h = becomes_by (IsTransformed input output) (IsCutShort input output) old new (λ a b e t. cut_of_transformed input output a b t) h
+pub transformed_is_cut : (s : Settings) (input output : List ℕ) (old new : Option Files) → Becomes old new (IsTransformed s input output) → Becomes old new (IsCutShort s input output)
+transformed_is_cut s input output old new h = becomes_by (IsTransformed s input output) (IsCutShort s input output) old new (λ a b e t. cut_of_transformed s input output a b t) h

@@ -1,9 +1,9 @@
 -- The lines that the program prints.
-use Rattle.std.specs.Prelude.{ℕ, ◌+◌, ◌/◌, ◌%◌, nat_le, nat_lt, ◌==◌, not, ◌&&◌, List, [], ◌∷◌, ◌++◌, codes, Option, Some, None, Bool, if◌then◌else◌}
+use Rattle.std.specs.Prelude.{ℕ, ◌+◌, ◌/◌, ◌%◌, nat_le, nat_lt, ◌==◌, not, ◌&&◌, List, [], ◌∷◌, ◌++◌, codes, Some, None, Bool, if◌then◌else◌}
 use Rattle.std.specs.Fmt.{decimal}
 use Rattle.wa_types.specs.declared.bounds.LimitKind.{LimitKind}
 use Rattle.wa_types.specs.declared.bounds.LimitKind.TheVariants.{File, Functions, Parameters, Body, Locals, Output, Script, Programs}
-use Rattle.asyncify_app.specs.Sources.{Cause, malformed, float, deep, limit, reserved, invalid, not_small}
+use Rattle.asyncify_app.specs.Sources.{Cause, malformed, float, deep, limit, reserved, invalid, not_built}
 
 -- a line feed
 abbrev pub line_end : List ℕ
@@ -68,4 +68,4 @@ line_of (reserved name) = codes "reserved " ++ printed_name name ++ line_end
 line_of (invalid None rule at) = codes "invalid rule " ++ decimal rule ++ codes " module" ++ line_end
 line_of (invalid (Some func) rule at) =
     codes "invalid rule " ++ decimal rule ++ codes " function " ++ decimal func ++ codes " at " ++ decimal at ++ line_end
-line_of not_small = not_built_line
+line_of not_built = not_built_line

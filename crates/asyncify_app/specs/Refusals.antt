@@ -9,9 +9,10 @@ use Rattle.asyncify_app.specs.declared.source.SourceFault.{SourceFault}
 use Rattle.asyncify_app.specs.declared.source.SourceFault.TheVariants.{Memory, Refused}
 use Rattle.asyncify_app.specs.declared.transform.TransformFault.{TransformFault}
 use Rattle.asyncify_app.specs.declared.transform.TransformFault.TheVariants.{Refused as transform_refused}
+use Rattle.wa_types.specs.Pausing.{Settings}
 use Rattle.vault_port.specs.Files.{Files, bytes_of}
 use Rattle.vault_port.specs.Told.{WhereTold}
-use Rattle.asyncify_app.specs.Sources.{Cause, malformed, float, deep, limit, reserved, invalid, not_small, IsRefusedFor}
+use Rattle.asyncify_app.specs.Sources.{Cause, malformed, float, deep, limit, reserved, invalid, not_built, IsRefusedFor}
 
 -- the cause that a refusal names
 abbrev pub cause_of : Refusal → Cause
@@ -21,12 +22,12 @@ cause_of (Deep at) = deep at
 cause_of (Limit what found) = limit what found
 cause_of (Reserved name) = reserved (string_bytes name)
 cause_of (Invalid func rule at) = invalid func rule at
-cause_of NotBuilt = not_small
+cause_of NotBuilt = not_built
 
 -- want of memory, or a refusal for which the bytes are refused
-abbrev pub IsFaultOf : List ℕ → SourceFault → Type 0
-IsFaultOf bytes Memory = Unit {0}
-IsFaultOf bytes (Refused refusal) = IsRefusedFor bytes (cause_of refusal)
+abbrev pub IsFaultOf : Settings → List ℕ → SourceFault → Type 0
+IsFaultOf s bytes Memory = Unit {0}
+IsFaultOf s bytes (Refused refusal) = IsRefusedFor s bytes (cause_of refusal)
 
 -- the fault of a source that wasn't read
 abbrev pub IsOfRead : ReadFault → SourceFault → Type 0
@@ -37,9 +38,9 @@ IsOfRead (read_deep at) fault = fault ≡ Refused (Deep at)
 IsOfRead (read_limit what found) fault = fault ≡ Refused (Limit what found)
 
 -- a refusal, for which, where the files are told, IN is refused
-abbrev pub IsToldRefusal : Option Files → List ℕ → TransformFault → Type 0
-IsToldRefusal files input (transform_refused refusal) = WhereTold files (λ all. IsRefusedFor (bytes_of all input) (cause_of refusal))
-IsToldRefusal files input _ = Unit {0}
+abbrev pub IsToldRefusal : Settings → Option Files → List ℕ → TransformFault → Type 0
+IsToldRefusal s files input (transform_refused refusal) = WhereTold files (λ all. IsRefusedFor s (bytes_of all input) (cause_of refusal))
+IsToldRefusal s files input _ = Unit {0}
 
 -- the fault is a refusal of the source
 abbrev pub IsOfSource : TransformFault → Type 0

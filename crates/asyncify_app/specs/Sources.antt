@@ -7,12 +7,13 @@ use Rattle.wa_types.specs.ModuleBounds.{source_bounds}
 use Rattle.wa_types.specs.FirstFault.{FirstFault}
 use Rattle.wa_types.specs.Validity.{Valid}
 use Rattle.wa_types.specs.Syntax.{Module}
+use Rattle.wa_types.specs.Pausing.{Settings, MayPause}
+use Rattle.wa_model.specs.Quiet.{NeverPauses}
 use Rattle.wasm_reader.specs.declared.read_fault.ReadFault.TheVariants.{Malformed, Float, Deep, Limit}
 use Rattle.wasm_reader.specs.Answers.{IsAccepted, IsRefused}
 use Rattle.asyncify_runtime.specs.declared.reserving.ReservedAt.{ReservedAt}
 use Rattle.asyncify_runtime.specs.declared.reserving.ReservedAt.TheVariants.{Import as at_import, Export as at_export}
 use Rattle.asyncify_runtime.specs.Reserved.{reserved_at}
-use Rattle.asyncify_app.specs.Small.{IsSmall}
 
 -- The bytes spell this module, without a float and within the limits of a source module, under no reserved name.
 pub record IsFree (bytes : List ℕ) (m : Module) : Type 0 where
@@ -24,10 +25,10 @@ pub record IsValidSource (bytes : List ℕ) (m : Module) : Type 0 where
   pub unreserved : IsFree bytes m
   pub valid : Valid m
 
--- .. and it is small
-pub record IsSource (bytes : List ℕ) (m : Module) : Type 0 where
+-- .. and none of its functions may pause
+pub record IsSource (s : Settings) (bytes : List ℕ) (m : Module) : Type 0 where
   pub accepted : IsValidSource bytes m
-  pub small : IsSmall m
+  pub quiet : NeverPauses m s
 
 -- the joined name of an import
 abbrev pub joined_name : Option Import → List ℕ
@@ -49,18 +50,18 @@ pub data Cause : Type 0 where
   limit : (what : LimitKind) → (found : ℕ) → Cause
   reserved : (name : List ℕ) → Cause
   invalid : (func : Option ℕ) → (rule at : ℕ) → Cause
-  not_small : Cause
+  not_built : Cause
 
 -- The bytes are refused for this, each cause behind those before it: what reading refuses; a reserved name; what isn't
--- valid; what isn't small.
-abbrev pub IsRefusedFor : List ℕ → Cause → Type 0
-IsRefusedFor bytes (malformed at) = IsRefused source_bounds bytes (Malformed at)
-IsRefusedFor bytes (float at) = IsRefused source_bounds bytes (Float at)
-IsRefusedFor bytes (deep at) = IsRefused source_bounds bytes (Deep at)
-IsRefusedFor bytes (limit what found) = IsRefused source_bounds bytes (Limit what found)
-IsRefusedFor bytes (reserved name) = (m : Module) × (at : ReservedAt) × IsAccepted source_bounds bytes m × (reserved_at m ≡ Some at) × (name ≡ reserved_name m at)
-IsRefusedFor bytes (invalid func rule at) = (m : Module) × IsFree bytes m × FirstFault m func rule at
-IsRefusedFor bytes not_small = (m : Module) × IsValidSource bytes m × (IsSmall m → ⊥)
+-- valid; a function that may pause.
+abbrev pub IsRefusedFor : Settings → List ℕ → Cause → Type 0
+IsRefusedFor s bytes (malformed at) = IsRefused source_bounds bytes (Malformed at)
+IsRefusedFor s bytes (float at) = IsRefused source_bounds bytes (Float at)
+IsRefusedFor s bytes (deep at) = IsRefused source_bounds bytes (Deep at)
+IsRefusedFor s bytes (limit what found) = IsRefused source_bounds bytes (Limit what found)
+IsRefusedFor s bytes (reserved name) = (m : Module) × (at : ReservedAt) × IsAccepted source_bounds bytes m × (reserved_at m ≡ Some at) × (name ≡ reserved_name m at)
+IsRefusedFor s bytes (invalid func rule at) = (m : Module) × IsFree bytes m × FirstFault m func rule at
+IsRefusedFor s bytes not_built = (m : Module) × IsValidSource bytes m × (x : ℕ) × MayPause m s x
 
 -- the status of each cause
 abbrev pub status_of : Cause → ℕ
@@ -70,7 +71,7 @@ status_of (invalid func rule at) = 5
 status_of (limit what found) = 6
 status_of (deep at) = 6
 status_of (reserved name) = 7
-status_of not_small = 14
+status_of not_built = 14
 
 -- the status of a refusal
 abbrev pub IsRefusal : ℕ → Type 0

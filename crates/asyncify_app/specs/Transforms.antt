@@ -1,66 +1,62 @@
 -- What `transform` does to the files and what it prints.
-use Rattle.std.specs.Prelude.{◌≡◌, ◌⊎◌, ℕ, List, ◌++◌, length, take, Option, Some, false}
+use Rattle.std.specs.Prelude.{◌≡◌, ◌⊎◌, ℕ, List, ◌++◌, length, take, Option, Some}
 use Rattle.vault_port.specs.Counts.{HasRisen}
 use Rattle.vault_port.specs.Files.{Files, bytes_of, KeepsOthers, ChangesOnly}
 use Rattle.vault_port.specs.Told.{WhereTold}
 use Rattle.vault_port.specs.Taken.{Appends, AppendsLess}
 use Rattle.wa_types.specs.Syntax.{Module}
 use Rattle.wa_types.specs.Encoding.{Enc}
-use Rattle.wa_types.specs.Pausing.{Settings, every, save_all}
+use Rattle.wa_types.specs.Pausing.{Settings}
 use Rattle.wa_types.specs.Runtime.{with_runtime}
 use Rattle.wa_model.specs.Rewrites.{Rewrites}
 use Rattle.asyncify_app.specs.Lines.{memory_line, read_fault_line, write_fault_line, done_line, line_of}
 use Rattle.asyncify_app.specs.Sources.{IsSource, Cause, IsRefusedFor, status_of}
 
 -- the bytes are an accepted source of so many functions, and the text is its module with the runtime's parts
-abbrev pub IsRewritten : List ℕ → ℕ → List ℕ → Type 0
-IsRewritten bytes functions text =
-    (m : Module) × IsSource bytes m × (functions ≡ length m.funcs) × (text ≡ Enc (with_runtime m))
+abbrev pub IsRewritten : Settings → List ℕ → ℕ → List ℕ → Type 0
+IsRewritten s bytes functions text =
+    (m : Module) × IsSource s bytes m × (functions ≡ length m.funcs) × (text ≡ Enc (with_runtime m))
 
--- the settings of the command: every import is listed, no indirect call is ignored, and frames save all locals
-abbrev pub plain_settings : Settings
-plain_settings = record { choice = every; ignore_indirect = false; policy = save_all }
-
--- OUT holds the module of IN with the runtime's parts, which is that module rewritten: under the host's protocol it behaves
+-- OUT holds the module of IN with the runtime's parts, which is that module rewritten by these settings: under the host's protocol it behaves
 -- like the original. The other files are as before.
-pub record IsTransformed (input output : List ℕ) (old new : Files) : Type 0 where
+pub record IsTransformed (s : Settings) (input output : List ℕ) (old new : Files) : Type 0 where
   pub «module» : Module
-  pub source : IsSource (bytes_of old input) «module»
+  pub source : IsSource s (bytes_of old input) «module»
   pub written : ChangesOnly output (Enc (with_runtime «module»)) old new
-  pub rewritten : Rewrites «module» plain_settings (with_runtime «module»)
+  pub rewritten : Rewrites «module» s (with_runtime «module»)
 
 -- OUT is as before, or holds some first bytes of what it would hold; the other files are as before.
-pub record IsCutShort (input output : List ℕ) (old new : Files) : Type 0 where
+pub record IsCutShort (s : Settings) (input output : List ℕ) (old new : Files) : Type 0 where
   pub left : (new output ≡ old output)
-      ⊎ ((m : Module) × IsSource (bytes_of old input) m × (n : ℕ) × (new output ≡ Some (take n (Enc (with_runtime m)))))
+      ⊎ ((m : Module) × IsSource s (bytes_of old input) m × (n : ℕ) × (new output ≡ Some (take n (Enc (with_runtime m)))))
   pub others : KeepsOthers output old new
 
 -- the functions of the module that these bytes spell, and the bytes of what is written
-abbrev pub IsCount : List ℕ → ℕ → ℕ → Type 0
-IsCount source functions bytes =
-    (m : Module) × IsSource source m × (functions ≡ length m.funcs) × (bytes ≡ length (Enc (with_runtime m)))
+abbrev pub IsCount : Settings → List ℕ → ℕ → ℕ → Type 0
+IsCount s source functions bytes =
+    (m : Module) × IsSource s source m × (functions ≡ length m.funcs) × (bytes ≡ length (Enc (with_runtime m)))
 
 -- the line of a module that was written; where the files are told, that of the module in IN
-abbrev pub IsDoneLine : Option Files → List ℕ → List ℕ → Type 0
-IsDoneLine files input line =
-    (functions : ℕ) × (bytes : ℕ) × (line ≡ done_line functions 0 bytes) × WhereTold files (λ all. IsCount (bytes_of all input) functions bytes)
+abbrev pub IsDoneLine : Settings → Option Files → List ℕ → List ℕ → Type 0
+IsDoneLine s files input line =
+    (functions : ℕ) × (bytes : ℕ) × (line ≡ done_line functions 0 bytes) × WhereTold files (λ all. IsCount s (bytes_of all input) functions bytes)
 
 -- there is an accepted source in IN
-unfoldable pub HoldsSource : List ℕ → Type 0
-HoldsSource bytes = (m : Module) × IsSource bytes m
+unfoldable pub HoldsSource : Settings → List ℕ → Type 0
+HoldsSource s bytes = (m : Module) × IsSource s bytes m
 
 -- a cause of this status; where the files are told, IN is refused for it
-abbrev pub HasCause : Option Files → List ℕ → ℕ → Type 0
-HasCause files input status = (cause : Cause) × (status ≡ status_of cause) × WhereTold files (λ all. IsRefusedFor (bytes_of all input) cause)
+abbrev pub HasCause : Settings → Option Files → List ℕ → ℕ → Type 0
+HasCause s files input status = (cause : Cause) × (status ≡ status_of cause) × WhereTold files (λ all. IsRefusedFor s (bytes_of all input) cause)
 
 -- the line of a refusal of IN
-abbrev pub IsRefusalLine : Option Files → List ℕ → List ℕ → Type 0
-IsRefusalLine files input line = (cause : Cause) × (line ≡ line_of cause) × WhereTold files (λ all. IsRefusedFor (bytes_of all input) cause)
+abbrev pub IsRefusalLine : Settings → Option Files → List ℕ → List ℕ → Type 0
+IsRefusalLine s files input line = (cause : Cause) × (line ≡ line_of cause) × WhereTold files (λ all. IsRefusedFor s (bytes_of all input) cause)
 
 -- the line of a refusal, or of a module that was written
-abbrev pub IsLine : Option Files → List ℕ → List ℕ → List ℕ → Type 0
-IsLine files input output line =
-    IsRefusalLine files input line ⊎ (line ≡ read_fault_line input) ⊎ (line ≡ write_fault_line output) ⊎ IsDoneLine files input line
+abbrev pub IsLine : Settings → Option Files → List ℕ → List ℕ → List ℕ → Type 0
+IsLine s files input output line =
+    IsRefusalLine s files input line ⊎ (line ≡ read_fault_line input) ⊎ (line ≡ write_fault_line output) ⊎ IsDoneLine s files input line
 
 -- the line was printed, or less of it where the sink has failed
 abbrev pub Prints : List ℕ → ℕ → ℕ → List ℕ → List ℕ → Type 0
@@ -75,18 +71,18 @@ abbrev pub PrintsMemory : List ℕ → List ℕ → List ℕ → Type 0
 PrintsMemory line old new = (n : ℕ) × (k : ℕ) × (new ≡ old ++ take n line ++ take k memory_line)
 
 -- the line of the module that was written was printed
-abbrev pub PrintsDone : Option Files → List ℕ → List ℕ → List ℕ → Type 0
-PrintsDone files input old new = (line : List ℕ) × IsDoneLine files input line × Appends line old new
+abbrev pub PrintsDone : Settings → Option Files → List ℕ → List ℕ → List ℕ → Type 0
+PrintsDone s files input old new = (line : List ℕ) × IsDoneLine s files input line × Appends line old new
 
 -- less of that line was printed
-abbrev pub PrintsLess : Option Files → List ℕ → List ℕ → List ℕ → Type 0
-PrintsLess files input old new = (line : List ℕ) × IsDoneLine files input line × AppendsLess line old new
+abbrev pub PrintsLess : Settings → Option Files → List ℕ → List ℕ → List ℕ → Type 0
+PrintsLess s files input old new = (line : List ℕ) × IsDoneLine s files input line × AppendsLess line old new
 
 -- some first bytes of a line of the command, and then some of the line on memory, were printed
-abbrev pub RunsOutOfMemory : Option Files → List ℕ → List ℕ → List ℕ → List ℕ → Type 0
-RunsOutOfMemory files input output old new = (line : List ℕ) × IsLine files input output line × PrintsMemory line old new
+abbrev pub RunsOutOfMemory : Settings → Option Files → List ℕ → List ℕ → List ℕ → List ℕ → Type 0
+RunsOutOfMemory s files input output old new = (line : List ℕ) × IsLine s files input output line × PrintsMemory line old new
 
 -- the line of a cause of this status was printed, for which IN is refused; or less of it where the sink has failed
-abbrev pub PrintsRefusal : Option Files → List ℕ → ℕ → ℕ → ℕ → List ℕ → List ℕ → Type 0
-PrintsRefusal files input status faults faults' old new =
-    (cause : Cause) × (status ≡ status_of cause) × WhereTold files (λ all. IsRefusedFor (bytes_of all input) cause) × Prints (line_of cause) faults faults' old new
+abbrev pub PrintsRefusal : Settings → Option Files → List ℕ → ℕ → ℕ → ℕ → List ℕ → List ℕ → Type 0
+PrintsRefusal s files input status faults faults' old new =
+    (cause : Cause) × (status ≡ status_of cause) × WhereTold files (λ all. IsRefusedFor s (bytes_of all input) cause) × Prints (line_of cause) faults faults' old new

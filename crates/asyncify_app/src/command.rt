@@ -1,17 +1,19 @@
 // A command from its words to its status.
 ghost use Rattle.std.specs.Prelude.{◌≡◌, ◌⊎◌, ◌≤◌, map, None, IsSome};
 ghost use Rattle.std.specs.String.{string_bytes};
+ghost use Rattle.call_graph.specs.Settings.{settings_of};
 ghost use Rattle.vault_port.specs.Counts.{HasRisen};
 ghost use Rattle.vault_port.specs.Files.{bytes_of, IsMissing};
 ghost use Rattle.vault_port.specs.Told.{WhereTold, Becomes};
-ghost use Rattle.asyncify_app.specs.Command.{command, OnTransform};
+ghost use Rattle.wa_model.specs.Command.{command, OnTransform};
 ghost use Rattle.asyncify_app.specs.Lines.{read_fault_line, usage_line, write_fault_line};
 ghost use Rattle.asyncify_app.specs.Sources.{IsRefusal};
 ghost use Rattle.asyncify_app.specs.Transforms.{HasCause, HoldsSource, IsCutShort, IsTransformed, Prints, PrintsRefusal, PrintsDone, PrintsLess, PrintsMemory, RunsOutOfMemory};
 
 use crate::printing::{out_of_memory, refuse, refuse_name, refuse_source, report};
 use crate::transform::{TransformFault, transform};
-use crate::words::{Command, read_words};
+use crate::words::{Command, WordsFault, read_words};
+use call_graph::Settings;
 use std::alloc::Global;
 use vault_port::{Sink, Vault};
 
@@ -27,7 +29,7 @@ const WRITE_FAULT: u8 = 11;
 /// Runs the command that the words spell, without the program's own name, over a vault of files and a sink for what
 /// it prints, and answers its status: 0 done, 2 no command, 3 bytes that spell no module, 4 a float, 5 a module that isn't
 /// valid, 6 a limit, 7 a reserved name, 9 want of memory, 10 a file that could not be read, 11 one that could not be
-/// written, 12 a sink that failed, 14 a module that this program doesn't rewrite yet. Each refusal prints a line. Want of
+/// written, 12 a sink that failed, 14 a module of which something may pause, which isn't built yet. Each refusal prints a line. Want of
 /// memory may come in the place of any other answer.
 pub fn asyncify<V: Vault, S: Sink>(
     alloc: Global,
@@ -43,48 +45,53 @@ pub fn asyncify<V: Vault, S: Sink>(
     ensures status { (result ≡ 0) ⊎ (result ≡ 2) ⊎ IsRefusal result ⊎ (result ≡ 9) ⊎ (result ≡ 10) ⊎ (result ≡ 11) ⊎ (result ≡ 12) }
 
     // The causes.
-    ensures read_fault { OnTransform (command (map string_bytes words.now)) (λ input output.
+    ensures read_fault { OnTransform (command (map string_bytes words.now)) (λ settings input output.
         result ≡ 10 → HasRisen (V.fetch_faults vault.old) (V.fetch_faults vault.new) ⊎ IsMissing (V.files vault.old) input) }
-    ensures refused { OnTransform (command (map string_bytes words.now)) (λ input output.
-        IsRefusal result → HasCause (V.files vault.old) input result) }
-    ensures built { OnTransform (command (map string_bytes words.now)) (λ input output.
-        result ≡ 11 → WhereTold (V.files vault.old) (λ all. HoldsSource (bytes_of all input))) }
-    ensures there { OnTransform (command (map string_bytes words.now)) (λ input output.
+    ensures refused { OnTransform (command (map string_bytes words.now)) (λ settings input output.
+        IsRefusal result → HasCause settings (V.files vault.old) input result) }
+    ensures built { OnTransform (command (map string_bytes words.now)) (λ settings input output.
+        result ≡ 11 → WhereTold (V.files vault.old) (λ all. HoldsSource settings (bytes_of all input))) }
+    ensures there { OnTransform (command (map string_bytes words.now)) (λ settings input output.
         (result ≡ 9) ⊎ (result ≡ 10) ⊎ WhereTold (V.files vault.old) (λ all. IsSome (all input))) }
     ensures write_fault { result ≡ 11 → HasRisen (V.save_faults vault.old) (V.save_faults vault.new) }
     ensures sink_fault { result ≡ 12 → HasRisen (S.faults out.old) (S.faults out.new) }
 
     // The files.
-    ensures done { OnTransform (command (map string_bytes words.now)) (λ input output.
-        (result ≡ 0) ⊎ (result ≡ 12) → Becomes (V.files vault.old) (V.files vault.new) (IsTransformed input output)) }
+    ensures done { OnTransform (command (map string_bytes words.now)) (λ settings input output.
+        (result ≡ 0) ⊎ (result ≡ 12) → Becomes (V.files vault.old) (V.files vault.new) (IsTransformed settings input output)) }
     ensures kept { (result ≡ 10) ⊎ IsRefusal result → V.files vault.new ≡ V.files vault.old }
-    ensures cut { OnTransform (command (map string_bytes words.now)) (λ input output.
-        (result ≡ 9) ⊎ (result ≡ 11) → Becomes (V.files vault.old) (V.files vault.new) (IsCutShort input output)) }
+    ensures cut { OnTransform (command (map string_bytes words.now)) (λ settings input output.
+        (result ≡ 9) ⊎ (result ≡ 11) → Becomes (V.files vault.old) (V.files vault.new) (IsCutShort settings input output)) }
 
     // What is printed.
-    ensures prints_done { OnTransform (command (map string_bytes words.now)) (λ input output.
-        result ≡ 0 → Becomes (S.taken out.old) (S.taken out.new) (PrintsDone (V.files vault.old) input)) }
-    ensures prints_less { OnTransform (command (map string_bytes words.now)) (λ input output.
-        result ≡ 12 → Becomes (S.taken out.old) (S.taken out.new) (PrintsLess (V.files vault.old) input)) }
-    ensures prints_memory { OnTransform (command (map string_bytes words.now)) (λ input output.
-        result ≡ 9 → Becomes (S.taken out.old) (S.taken out.new) (RunsOutOfMemory (V.files vault.old) input output)) }
-    ensures prints_read { OnTransform (command (map string_bytes words.now)) (λ input output.
+    ensures prints_done { OnTransform (command (map string_bytes words.now)) (λ settings input output.
+        result ≡ 0 → Becomes (S.taken out.old) (S.taken out.new) (PrintsDone settings (V.files vault.old) input)) }
+    ensures prints_less { OnTransform (command (map string_bytes words.now)) (λ settings input output.
+        result ≡ 12 → Becomes (S.taken out.old) (S.taken out.new) (PrintsLess settings (V.files vault.old) input)) }
+    ensures prints_memory { OnTransform (command (map string_bytes words.now)) (λ settings input output.
+        result ≡ 9 → Becomes (S.taken out.old) (S.taken out.new) (RunsOutOfMemory settings (V.files vault.old) input output)) }
+    ensures prints_read { OnTransform (command (map string_bytes words.now)) (λ settings input output.
         result ≡ 10 → Becomes (S.taken out.old) (S.taken out.new) (Prints (read_fault_line input) (S.faults out.old) (S.faults out.new))) }
-    ensures prints_write { OnTransform (command (map string_bytes words.now)) (λ input output.
+    ensures prints_write { OnTransform (command (map string_bytes words.now)) (λ settings input output.
         result ≡ 11 → Becomes (S.taken out.old) (S.taken out.new) (Prints (write_fault_line output) (S.faults out.old) (S.faults out.new))) }
-    ensures prints_refusal { OnTransform (command (map string_bytes words.now)) (λ input output.
-        IsRefusal result → Becomes (S.taken out.old) (S.taken out.new) (PrintsRefusal (V.files vault.old) input result (S.faults out.old) (S.faults out.new))) }
+    ensures prints_refusal { OnTransform (command (map string_bytes words.now)) (λ settings input output.
+        IsRefusal result → Becomes (S.taken out.old) (S.taken out.new) (PrintsRefusal settings (V.files vault.old) input result (S.faults out.old) (S.faults out.new))) }
 
     // No count falls.
     ensures fetch_faults { V.fetch_faults vault.old ≤ V.fetch_faults vault.new }
     ensures save_faults { V.save_faults vault.old ≤ V.save_faults vault.new }
     ensures sink_faults { S.faults out.old ≤ S.faults out.new }
 {
-    match read_words(words) {
-        None => refuse(out, USAGE, b"usage\n"),
-        Some(Command::Transform { input, output }) => run_transform(
-            alloc, vault, out, input, output,
-        ),
+    match read_words(alloc, words) {
+        Err(WordsFault::Usage) => refuse(out, USAGE, b"usage\n"),
+        Err(WordsFault::Memory) => out_of_memory(out),
+        Ok(
+            Command::Transform {
+                settings,
+                input,
+                output,
+            },
+        ) => run_transform(alloc, vault, out, &settings, input, output),
     }
 }
 
@@ -94,6 +101,7 @@ fn run_transform<V: Vault, S: Sink>(
     alloc: Global,
     vault: &mut V,
     out: &mut S,
+    settings: &Settings,
     input: &str,
     output: &str,
 ) -> u8
@@ -102,31 +110,31 @@ fn run_transform<V: Vault, S: Sink>(
     // The causes.
     ensures read_fault { result ≡ 10 → HasRisen (V.fetch_faults vault.old) (V.fetch_faults vault.new)
         ⊎ IsMissing (V.files vault.old) input.now }
-    ensures refused { IsRefusal result → HasCause (V.files vault.old) input.now result }
-    ensures built { result ≡ 11 → WhereTold (V.files vault.old) (λ all. HoldsSource (bytes_of all input.now)) }
+    ensures refused { IsRefusal result → HasCause (settings_of settings.now) (V.files vault.old) input.now result }
+    ensures built { result ≡ 11 → WhereTold (V.files vault.old) (λ all. HoldsSource (settings_of settings.now) (bytes_of all input.now)) }
     ensures there { (result ≡ 9) ⊎ (result ≡ 10) ⊎ WhereTold (V.files vault.old) (λ all. IsSome (all input.now)) }
     ensures write_fault { result ≡ 11 → HasRisen (V.save_faults vault.old) (V.save_faults vault.new) }
     ensures sink_fault { result ≡ 12 → HasRisen (S.faults out.old) (S.faults out.new) }
 
     // The files.
-    ensures done { (result ≡ 0) ⊎ (result ≡ 12) → Becomes (V.files vault.old) (V.files vault.new) (IsTransformed input.now output.now) }
+    ensures done { (result ≡ 0) ⊎ (result ≡ 12) → Becomes (V.files vault.old) (V.files vault.new) (IsTransformed (settings_of settings.now) input.now output.now) }
     ensures kept { (result ≡ 10) ⊎ IsRefusal result → V.files vault.new ≡ V.files vault.old }
-    ensures cut { (result ≡ 9) ⊎ (result ≡ 11) → Becomes (V.files vault.old) (V.files vault.new) (IsCutShort input.now output.now) }
+    ensures cut { (result ≡ 9) ⊎ (result ≡ 11) → Becomes (V.files vault.old) (V.files vault.new) (IsCutShort (settings_of settings.now) input.now output.now) }
 
     // What is printed.
-    ensures prints_done { result ≡ 0 → Becomes (S.taken out.old) (S.taken out.new) (PrintsDone (V.files vault.old) input.now) }
-    ensures prints_less { result ≡ 12 → Becomes (S.taken out.old) (S.taken out.new) (PrintsLess (V.files vault.old) input.now) }
-    ensures prints_memory { result ≡ 9 → Becomes (S.taken out.old) (S.taken out.new) (RunsOutOfMemory (V.files vault.old) input.now output.now) }
+    ensures prints_done { result ≡ 0 → Becomes (S.taken out.old) (S.taken out.new) (PrintsDone (settings_of settings.now) (V.files vault.old) input.now) }
+    ensures prints_less { result ≡ 12 → Becomes (S.taken out.old) (S.taken out.new) (PrintsLess (settings_of settings.now) (V.files vault.old) input.now) }
+    ensures prints_memory { result ≡ 9 → Becomes (S.taken out.old) (S.taken out.new) (RunsOutOfMemory (settings_of settings.now) (V.files vault.old) input.now output.now) }
     ensures prints_read { result ≡ 10 → Becomes (S.taken out.old) (S.taken out.new) (Prints (read_fault_line input.now) (S.faults out.old) (S.faults out.new)) }
     ensures prints_write { result ≡ 11 → Becomes (S.taken out.old) (S.taken out.new) (Prints (write_fault_line output.now) (S.faults out.old) (S.faults out.new)) }
-    ensures prints_refusal { IsRefusal result → Becomes (S.taken out.old) (S.taken out.new) (PrintsRefusal (V.files vault.old) input.now result (S.faults out.old) (S.faults out.new)) }
+    ensures prints_refusal { IsRefusal result → Becomes (S.taken out.old) (S.taken out.new) (PrintsRefusal (settings_of settings.now) (V.files vault.old) input.now result (S.faults out.old) (S.faults out.new)) }
 
     // No count falls.
     ensures fetch_faults { V.fetch_faults vault.old ≤ V.fetch_faults vault.new }
     ensures save_faults { V.save_faults vault.old ≤ V.save_faults vault.new }
     ensures sink_faults { S.faults out.old ≤ S.faults out.new }
 {
-    match transform(alloc, vault, input, output) {
+    match transform(alloc, vault, settings, input, output) {
         Ok(done) => report(alloc, out, done.functions, done.bytes),
         Err(TransformFault::Memory) => out_of_memory(out),
         Err(TransformFault::Read) => refuse_name(alloc, out, READ_FAULT, "read fault ", input),

@@ -1,7 +1,9 @@
 // From the bytes of a module to those of the written one.
 ghost use Rattle.std.specs.Prelude.{◌≡◌, ◌<◌, ◌^◌, length, IfOk, Some, slice_get};
 ghost use Rattle.std.specs.Result.{IfErr};
+ghost use Rattle.std.specs.List.{list_any};
 ghost use Rattle.std.specs.String.{string_bytes};
+ghost use Rattle.call_graph.specs.Settings.{settings_of};
 ghost use Rattle.wa_types.specs.View.{module_of};
 ghost use Rattle.wasm_reader.specs.Answers.{IsAccepted};
 ghost use Rattle.asyncify_runtime.specs.Reserved.{reserved_at};
@@ -11,9 +13,9 @@ ghost use Rattle.asyncify_app.specs.Sources.{IsSource, reserved_name};
 ghost use Rattle.asyncify_app.specs.Transforms.{IsRewritten};
 
 use crate::refusals::Refusal;
-use crate::small::is_small;
 use asyncify_runtime::{ReservedAt, RuntimeFault, add_runtime, reserved};
 use bytes::BytesMut;
+use call_graph::{Settings, may_pause};
 use std::alloc::{AllocError, Global};
 use thiserror::Error;
 use wa_types::{Bounds, Module};
@@ -48,12 +50,13 @@ pub struct Written {
     pub text: BytesMut,
 }
 
-/// The module that these bytes spell, with the runtime's parts, where it is an accepted source.
-pub fn rewrite(alloc: Global, bytes: &[u8]) -> Result<Written, SourceFault>
-    ensures done { IfOk result (λ r. IsRewritten bytes.now r.functions r.text.items) }
-    ensures refused { IfErr result (λ fault. IsFaultOf bytes.now fault) }
+/// The module that these bytes spell, with the runtime's parts, where it is an accepted source of which nothing may
+/// pause by these settings.
+pub fn rewrite(alloc: Global, bytes: &[u8], settings: &Settings) -> Result<Written, SourceFault>
+    ensures done { IfOk result (λ r. IsRewritten (settings_of settings.now) bytes.now r.functions r.text.items) }
+    ensures refused { IfErr result (λ fault. IsFaultOf (settings_of settings.now) bytes.now fault) }
 {
-    let module = source(alloc, bytes)?;
+    let module = source(alloc, bytes, settings)?;
     let functions = module.funcs.len();
     let with = match add_runtime(alloc, module) {
         Ok(with) => with,
@@ -67,10 +70,10 @@ pub fn rewrite(alloc: Global, bytes: &[u8]) -> Result<Written, SourceFault>
     }
 }
 
-// The module that these bytes spell, where it is an accepted source.
-fn source(alloc: Global, bytes: &[u8]) -> Result<Module, SourceFault>
-    ensures source { IfOk result (λ r. IsSource bytes.now (module_of r)) }
-    ensures refused { IfErr result (λ fault. IsFaultOf bytes.now fault) }
+// The module that these bytes spell, where it is an accepted source of which nothing may pause.
+fn source(alloc: Global, bytes: &[u8], settings: &Settings) -> Result<Module, SourceFault>
+    ensures source { IfOk result (λ r. IsSource (settings_of settings.now) bytes.now (module_of r)) }
+    ensures refused { IfErr result (λ fault. IsFaultOf (settings_of settings.now) bytes.now fault) }
 {
     let module = match read(alloc, bytes, &Bounds::source()) {
         Ok(module) => module,
@@ -87,10 +90,17 @@ fn source(alloc: Global, bytes: &[u8]) -> Result<Module, SourceFault>
             return Err(SourceFault::Refused(Refusal::Invalid { func, rule, at }));
         }
     };
-    if !is_small(valid.module()) {
+    let pausing = may_pause(alloc, &valid, settings)?;
+    if any_told(&pausing) {
         return Err(SourceFault::Refused(Refusal::NotBuilt));
     }
     Ok(valid.into_module())
+}
+
+fn any_told(told: &[bool]) -> bool
+    ensures { result ≡ list_any (λ b. b) told.now }
+{
+    told.iter().any(|told| *told)
 }
 
 // Why a source that isn't read is refused.

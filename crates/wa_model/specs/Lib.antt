@@ -1,6 +1,7 @@
 pub mod Alone
 pub mod Behaves
 pub mod Blocking
+pub mod Command
 pub mod Configuration
 pub mod Expected
 pub mod Fitting

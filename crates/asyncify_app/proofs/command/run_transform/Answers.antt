@@ -1,10 +1,18 @@
 -- What stays of the two files and of the lines, by status.
-use Rattle.asyncify_app.proofs.Printed.{memory_any}
+use Rattle.std.proofs.Common.{subst}
+use Rattle.asyncify_app.specs.Refusals.{cause_of, IsToldRefusal}
+use Rattle.call_graph.specs.Settings.{settings_of}
+use Rattle.asyncify_app.proofs.Printed.{memory_any, refused_has_cause}
 use Rattle.asyncify_app.proofs.Transforming.{transformed_is_cut}
 use Rattle.asyncify_app.proofs.command.run_transform.Goals as goal
 
 pub returns-in-Ok-clause-cut : goal.returns-in-Ok-clause-cut
-returns-in-Ok-clause-cut g c = λ h. transformed_is_cut c.args.input.now c.args.output.now _ _ c.in-Ok.ensures.done
+returns-in-Ok-clause-cut g c = λ h. transformed_is_cut (settings_of c.args.settings.now) c.args.input.now c.args.output.now _ _ c.in-Ok.ensures.done
 
 pub returns-in-Err-Memory-clause-prints_memory : goal.returns-in-Err-Memory-clause-prints_memory
-returns-in-Err-Memory-clause-prints_memory g c = λ h. memory_any _ c.args.input.now c.args.output.now _ _ c.out_of_memory.ensures.printed
+returns-in-Err-Memory-clause-prints_memory g c = λ h. memory_any (settings_of c.args.settings.now) _ c.args.input.now c.args.output.now _ _ c.out_of_memory.ensures.printed
+
+pub returns-in-Err-Refused-clause-refused : goal.returns-in-Err-Refused-clause-refused
+returns-in-Err-Refused-clause-refused g c = λ h.
+    refused_has_cause (settings_of c.args.settings.now) (g.V.Vault.files c.args.vault.now) c.args.input.now c.refuse_source.result (cause_of c.in-Err-Refused.refusal) c.refuse_source.ensures.status h
+    (subst (IsToldRefusal (settings_of c.args.settings.now) (g.V.Vault.files c.args.vault.now) c.args.input.now) c.in-Err-Refused.field-0-is c.in-Err-Refused.ensures.refused)

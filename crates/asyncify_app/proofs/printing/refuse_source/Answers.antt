@@ -1,10 +1,9 @@
 -- The lines of refusals that a name or no function is told of.
-use Rattle.std.proofs.Common.{◌≡◌, ◌++◌, List, ℕ, None, Option, sym, ap, ◌∙◌, refl, subst}
+use Rattle.std.proofs.Common.{◌≡◌, ◌++◌, List, ℕ, sym, ap, ◌∙◌, refl}
 use Rattle.std.specs.Prelude.{codes}
-use Rattle.std.specs.String.{string_bytes}
 use Rattle.asyncify_app.specs.Lines.{line_of, line_end, printed_name, not_built_line}
 use Rattle.asyncify_app.specs.Refusals.{cause_of}
-use Rattle.asyncify_app.specs.Sources.{status_of, reserved, not_small}
+use Rattle.asyncify_app.specs.Sources.{status_of, reserved, not_built}
 use Rattle.asyncify_app.proofs.Printed.{told_line, told_memory}
 use Rattle.asyncify_app.proofs.printing.refuse_source.Goals as goal
 
@@ -12,7 +11,7 @@ reserved_text : (name : List ℕ) → line_of (reserved name) ≡ codes "reserve
 unfolding line_of
 reserved_text name = refl
 
-not_built_text : line_of not_small ≡ not_built_line
+not_built_text : line_of not_built ≡ not_built_line
 unfolding line_of
 not_built_text = refl
 

@@ -1,19 +1,32 @@
 -- A source is short, reserves nothing, and grows little.
-use Rattle.std.proofs.Common.{arith, ◌≡◌, ◌∙◌, ap, sym, subst, length}
+use Rattle.std.proofs.Common.{arith, ◌∙◌, ap, sym, subst, length}
 use Rattle.std.proofs.lemmas.List.{length-map}
 use Rattle.wa_types.specs.Syntax.{Module}
 use Rattle.wa_types.specs.View.{module_of, func_type_of}
 use Rattle.wa_types.specs.Encoding.{Enc}
+use Rattle.call_graph.specs.Settings.{settings_of}
 use Rattle.wasm_encode.specs.Modules.{FewLocals}
 use Rattle.asyncify_app.proofs.Accepted.{strict, grown_short, few_locals, grown_locals}
+use Rattle.asyncify_app.proofs.Spaces.{funcs_counted, globals_counted}
 use Rattle.asyncify_app.proofs.source.rewrite.Goals as goal
 
 pub add_runtime-requires-clause-types : goal.add_runtime-requires-clause-types
 add_runtime-requires-clause-types c =
-    omega (arith, (strict c.args.bytes.now (module_of c.in_ok-module.module) c.in_ok-module.ensures.source).types, length-map c.in_ok-module.module.types.items func_type_of)
+    omega (arith, (strict (settings_of c.args.settings.now) c.args.bytes.now (module_of c.in_ok-module.module) c.in_ok-module.ensures.source).types, length-map c.in_ok-module.module.types.items func_type_of)
+
+pub add_runtime-requires-clause-imports : goal.add_runtime-requires-clause-imports
+add_runtime-requires-clause-imports c = (strict (settings_of c.args.settings.now) c.args.bytes.now (module_of c.in_ok-module.module) c.in_ok-module.ensures.source).imports
+
+pub add_runtime-requires-clause-funcs : goal.add_runtime-requires-clause-funcs
+add_runtime-requires-clause-funcs c =
+    omega (arith, (strict (settings_of c.args.settings.now) c.args.bytes.now (module_of c.in_ok-module.module) c.in_ok-module.ensures.source).funcs, funcs_counted (module_of c.in_ok-module.module))
+
+pub add_runtime-requires-clause-globals : goal.add_runtime-requires-clause-globals
+add_runtime-requires-clause-globals c =
+    omega (arith, (strict (settings_of c.args.settings.now) c.args.bytes.now (module_of c.in_ok-module.module) c.in_ok-module.ensures.source).globals, globals_counted (module_of c.in_ok-module.module))
 
 pub add_runtime-requires-clause-exports : goal.add_runtime-requires-clause-exports
-add_runtime-requires-clause-exports c = (strict c.args.bytes.now (module_of c.in_ok-module.module) c.in_ok-module.ensures.source).exports
+add_runtime-requires-clause-exports c = (strict (settings_of c.args.settings.now) c.args.bytes.now (module_of c.in_ok-module.module) c.in_ok-module.ensures.source).exports
 
 pub unreachable-requires : goal.unreachable-requires
 unreachable-requires c =
@@ -23,15 +36,15 @@ unreachable-requires c =
 
 pub encode-requires-clause-locals : goal.encode-requires-clause-locals
 encode-requires-clause-locals c =
-    subst (λ (m : Module). FewLocals m) (sym c.in-Ok.ensures.added) (grown_locals (module_of c.in_ok-module.module) (few_locals c.args.bytes.now (module_of c.in_ok-module.module) c.in_ok-module.ensures.source))
+    subst (λ (m : Module). FewLocals m) (sym c.in-Ok.ensures.added) (grown_locals (module_of c.in_ok-module.module) (few_locals (settings_of c.args.settings.now) c.args.bytes.now (module_of c.in_ok-module.module) c.in_ok-module.ensures.source))
 
 pub encode-requires-clause-fits : goal.encode-requires-clause-fits
 encode-requires-clause-fits c =
-    let more = grown_short c.args.bytes.now (module_of c.in_ok-module.module) c.in_ok-module.ensures.source in
+    let more = grown_short (settings_of c.args.settings.now) c.args.bytes.now (module_of c.in_ok-module.module) c.in_ok-module.ensures.source in
     let e = ap (λ (m : Module). length (Enc m)) c.in-Ok.ensures.added in omega (arith, e, more)
 
 pub unreachable-requires-in-Err-TooLong : goal.unreachable-requires-in-Err-TooLong
 unreachable-requires-in-Err-TooLong c =
-    let more = grown_short c.args.bytes.now (module_of c.in_ok-module.module) c.in_ok-module.ensures.source in
+    let more = grown_short (settings_of c.args.settings.now) c.args.bytes.now (module_of c.in_ok-module.module) c.in_ok-module.ensures.source in
     let e = ap (λ (m : Module). length (Enc m)) c.in-Ok.ensures.added in
     let w = ((c.in-Err-TooLong.ensures.too_long c.in-Err-TooLong.field-0-0).0 (cc)).0 in omega (arith, e, more, w)

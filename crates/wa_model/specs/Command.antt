@@ -1,0 +1,134 @@
+-- The commands that words spell.
+use Rattle.std.specs.Prelude.{ℕ, List, [], ◌∷◌, Option, Some, None, Bool, true, false, not, ◌||◌, ◌==◌, if◌then◌else◌, Result, Ok, Err, codes}
+use Rattle.std.specs.Str.{bytes_eq}
+use Rattle.wa_types.specs.Pausing.{Choice, every, nobody, of_list, Entry, ListError, list_of, save_all, Settings}
+
+-- Rewrite, by these settings, the module in one file into another.
+pub data Command : Type 0 where
+  transform : (settings : Settings) → (input output : List ℕ) → Command
+
+-- What a word is where an option may stand: `--imports`, `--imports=LIST`, a flag, the end of options, a name, or
+-- none of these.
+pub data Word : Type 0 where
+  imports_word ignore_imports_word ignore_indirect_word end_word unknown_word : Word
+  imports_with name_word : (text : List ℕ) → Word
+
+-- where the next word stands: an option may come; the LIST of `--imports` must; only files may
+pub data Place : Type 0 where
+  anywhere behind_imports behind_options : Place
+
+-- what the words have said so far
+pub record Said : Type 0 where
+  pub place : Place
+  pub imports : Option (List ℕ)
+  pub ignore_imports : Bool
+  pub ignore_indirect : Bool
+  pub input : Option (List ℕ)
+  pub output : Option (List ℕ)
+
+abbrev pub nothing_said : Said
+nothing_said = record { place = anywhere; imports = None; ignore_imports = false; ignore_indirect = false; input = None; output = None }
+
+-- the word begins with `-`
+abbrev pub is_hyphened : List ℕ → Bool
+is_hyphened [] = false
+is_hyphened (b ∷ bs) = b == 45
+
+-- what stands behind this beginning of a text
+abbrev pub behind : List ℕ → List ℕ → Option (List ℕ)
+behind [] text = Some text
+behind (b ∷ bs) [] = None
+behind (b ∷ bs) (c ∷ cs) = if c == b then behind bs cs else None
+
+-- a name is `-`, or doesn't begin with `-`
+abbrev pub named_word : List ℕ → Word
+named_word word = if not (is_hyphened word) || bytes_eq word (codes "-") then name_word word else unknown_word
+
+abbrev pub with_value : Option (List ℕ) → List ℕ → Word
+with_value (Some text) word = imports_with text
+with_value None word = named_word word
+
+abbrev pub word_of : List ℕ → Word
+word_of word =
+    if bytes_eq word (codes "--imports") then imports_word
+    else (if bytes_eq word (codes "--ignore-imports") then ignore_imports_word
+    else (if bytes_eq word (codes "--ignore-indirect") then ignore_indirect_word
+    else (if bytes_eq word (codes "--") then end_word
+    else with_value (behind (codes "--imports=") word) word)))
+
+-- an option and a flag are given once
+abbrev pub say_imports : Option (List ℕ) → List ℕ → Said → Option Said
+say_imports (Some earlier) text s = None
+say_imports None text s = Some (record s { place = anywhere; imports = Some text })
+
+abbrev pub say_ignore_imports : Bool → Said → Option Said
+say_ignore_imports true s = None
+say_ignore_imports false s = Some (record s { ignore_imports = true })
+
+abbrev pub say_ignore_indirect : Bool → Said → Option Said
+say_ignore_indirect true s = None
+say_ignore_indirect false s = Some (record s { ignore_indirect = true })
+
+-- the files are two, IN before OUT
+abbrev pub say_file : Option (List ℕ) → Option (List ℕ) → List ℕ → Said → Option Said
+say_file None output name s = Some (record s { input = Some name })
+say_file (Some input) None name s = Some (record s { output = Some name })
+say_file (Some input) (Some output) name s = None
+
+abbrev pub say_word : Word → Said → Option Said
+say_word imports_word s = Some (record s { place = behind_imports })
+say_word (imports_with text) s = say_imports s.imports text s
+say_word ignore_imports_word s = say_ignore_imports s.ignore_imports s
+say_word ignore_indirect_word s = say_ignore_indirect s.ignore_indirect s
+say_word end_word s = Some (record s { place = behind_options })
+say_word unknown_word s = None
+say_word (name_word name) s = say_file s.input s.output name s
+
+-- a LIST in a word of its own doesn't begin with `-`
+abbrev pub say_at : Place → List ℕ → Said → Option Said
+say_at anywhere word s = say_word (word_of word) s
+say_at behind_imports word s = if is_hyphened word then None else say_imports s.imports word s
+say_at behind_options word s = say_file s.input s.output word s
+
+abbrev pub say : List ℕ → Option Said → Option Said
+say word None = None
+say word (Some s) = say_at s.place word s
+
+-- the words from left to right
+abbrev pub said : Option Said → List (List ℕ) → Option Said
+said s [] = s
+said s (word ∷ words) = said (say word s) words
+
+-- Every import is listed, or none, or those of a LIST; one of the two options at most.
+abbrev pub listed_choice : Result (List Entry) ListError → Option Choice
+listed_choice (Ok entries) = Some (of_list entries)
+listed_choice (Err e) = None
+
+abbrev pub choice_said : Option (List ℕ) → Bool → Option Choice
+choice_said None false = Some every
+choice_said None true = Some nobody
+choice_said (Some text) false = listed_choice (list_of text)
+choice_said (Some text) true = None
+
+abbrev pub with_files : Option Choice → Bool → Option (List ℕ) → Option (List ℕ) → Option Command
+with_files (Some choice) ignore (Some input) (Some output) = Some (transform (record { choice = choice; ignore_indirect = ignore; policy = save_all }) input output)
+with_files _ ignore input output = None
+
+abbrev pub transform_at : Place → Said → Option Command
+transform_at behind_imports s = None
+transform_at _ s = with_files (choice_said s.imports s.ignore_imports) s.ignore_indirect s.input s.output
+
+abbrev pub transform_said : Option Said → Option Command
+transform_said None = None
+transform_said (Some s) = transform_at s.place s
+
+-- `transform [--imports LIST] [--ignore-imports] [--ignore-indirect] IN OUT`: options stand before, between and behind
+-- the files, each at most once; LIST is the next word or follows `=`; `--` ends the options.
+abbrev pub command : List (List ℕ) → Option Command
+command [] = None
+command (word ∷ words) = if bytes_eq word (codes "transform") then transform_said (said (Some nothing_said) words) else None
+
+-- what holds of the settings and the two files where the words are a `transform`
+abbrev pub OnTransform : Option Command → (Settings → List ℕ → List ℕ → Type 0) → Type 0
+OnTransform None P = Unit {0}
+OnTransform (Some (transform settings input output)) P = P settings input output
