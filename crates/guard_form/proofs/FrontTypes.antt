@@ -7,12 +7,11 @@ use Rattle.wa_types.specs.declared.operators.NumOp.TheVariants.{I32Ne}
 use Rattle.wa_types.specs.Syntax.{Plain, num, global_get, basic, local_get, local_set, local_tee, br, br_if, br_table, return, unreachable, call, call_indirect, a_block, a_loop, Code, done, plain, nest, branch}
 use Rattle.wa_types.specs.Pausing.{Callee, direct, indirect}
 use Rattle.wa_types.specs.Typing.{Around, gets, sets, gets_global, jump, may_jump, jumps, all_there, all_alike, agrees_with, sig, Takes, label, listed, Types}
-use Rattle.wa_model.specs.declared.flat.Operand.{Operand}
-use Rattle.wa_model.specs.declared.flat.Operand.TheVariants.{Local, Const}
-use Rattle.wa_model.specs.Flat.{got, set_to, slots_got, result_got}
+use Rattle.wa_model.specs.Flat.{followed_by, got, set_to, slots_got, result_got}
 use Rattle.guard_form.specs.Guarded.{raise, raised_plain, raised, GuardIndices, by_state, index_with, guarded, noted, choice, arm, front}
 use Rattle.guard_form.specs.Pieces.{Units, no_unit, call_unit, nest_unit, if_unit, numbers_in, call_to}
 use Rattle.guard_form.specs.Typed.{UnitsTyped, an_i32, FrontTyped, BodyTyped}
+use Rattle.guard_form.proofs.PieceTypes.{types_then}
 use Rattle.guard_form.proofs.CodeLemmas.{raise_out, raise_in, raise_on}
 
 abbrev Labels : Type 0
@@ -130,12 +129,6 @@ module _ (c : Around) where
     chooses ls k (if_unit _ _ _ _ _ _ _) (nest_unit _ _ _ _ _) = (I32 ∷ [], gets_index ls [], (I32 ∷ I32 ∷ [], (I32 ∷ [], refl, refl), (I32 ∷ [], ([], refl, refl), refl)))
     chooses ls k (if_unit _ _ _ _ _ _ _) (if_unit _ _ _ _ _ _ _) = (I32 ∷ [], gets_index ls [], (I32 ∷ I32 ∷ [], (I32 ∷ [], refl, refl), (I32 ∷ [], ([], refl, refl), refl)))
 
-    -- an operand under other labels
-    got_too : (ls ls2 : Labels) (o : Operand) → Types c ls (got o done) (I32 ∷ []) [] → Types c ls2 (got o done) (I32 ∷ []) []
-    unfolding Types
-    got_too ls ls2 (Local x) h = h
-    got_too ls ls2 (Const v) h = h
-
     -- arguments under other labels, before other code
     slots_too : (ls ls2 : Labels) (xs : List ℕ) (a b : Code) (outs ins : List ValType) → ((mids : List ValType) → Types c ls a outs mids → Types c ls2 b outs mids)
         → Types c ls (slots_got xs a) outs ins → Types c ls2 (slots_got xs b) outs ins
@@ -216,8 +209,9 @@ module _ (c : Around) where
     front_typed ls d k (if_unit o fa a fb b behind rest) first e h =
         let ta = arm_typed (None ∷ ls) a fa (front i (suc d) k fa a) (first_typed (None ∷ ls) fa a h.2) (front_typed (None ∷ ls) (suc d) k a fa e h.2) in
         let tb = arm_typed (None ∷ ls) b fb (front i (suc d) (k + numbers_in a) fb b) (first_typed (None ∷ ls) fb b h.3) (front_typed (None ∷ ls) (suc d) (k + numbers_in a) b fb e h.3) in
-        guards ls first (plain (basic (global_get i.state)) (branch (Some I32) (choice i k a b) (got o done) (branch None (arm a fa (front i (suc d) k fa a)) (arm b fb (front i (suc d) (k + numbers_in a) fb b)) (front i d (k + numbers_in a + numbers_in b) behind rest)))) h.0
-        (I32 ∷ [], gets_state ls [], ([], refl, chooses (Some I32 ∷ ls) k a b, got_too ls (Some I32 ∷ ls) o h.1, ([], refl, ta, tb, front_typed ls d (k + numbers_in a + numbers_in b) rest behind e h.4)))
+        let condition = types_then c ls first (got o done) (I32 ∷ []) [] [] h.0 h.1 in
+        let raised_too = types_raised [] (Some I32 ∷ []) ls (followed_by first (got o done)) (I32 ∷ []) [] condition in
+        (I32 ∷ [], gets_state ls [], ([], refl, chooses (Some I32 ∷ ls) k a b, raised_too, ([], refl, ta, tb, front_typed ls d (k + numbers_in a + numbers_in b) rest behind e h.4)))
 
 pub front_law : FrontTyped
 front_law c i d k ls first us state index e h = front_typed c i state index ls d k us first e h

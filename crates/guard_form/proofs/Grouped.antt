@@ -208,14 +208,14 @@ arms_law ps n s = arms_hold ps n s
 -- ---- no piece holds one
 
 module _ (P : Callee → Type 0) where
-  calls_then : (c d : Code) → Calls P c → Calls P d → Calls P (followed_by c d)
+  pub calls_then : (c d : Code) → Calls P c → Calls P d → Calls P (followed_by c d)
   unfolding followed_by
   calls_then done d h g = g
   calls_then (plain p c) d h g = (h.0, calls_then c d h.1 g)
   calls_then (nest s t b c) d h g = (h.0, calls_then c d h.1 g)
   calls_then (branch t a b c) d h g = (h.0, h.1, calls_then c d h.2 g)
 
-  calls_got : (a : Operand) (c : Code) → Calls P c → Calls P (got a c)
+  pub calls_got : (a : Operand) (c : Code) → Calls P c → Calls P (got a c)
   calls_got (Local x) c h = (tt, h)
   calls_got (Const v) c h = (tt, h)
 

@@ -13,7 +13,7 @@ use Rattle.guard_form.specs.Typed.{UnitsTyped, StmtsTyped, PiecesTyped}
 use Rattle.guard_form.proofs.Grouped.{then_then, then_got, then_all_got, then_slots, then_set, numbered_is}
 
 module _ (c : Around) where
-  types_then : (ls : List (Option ValType)) (a b : Code) (outs mids ins : List ValType) → Types c ls a mids ins → Types c ls b outs mids → Types c ls (followed_by a b) outs ins
+  pub types_then : (ls : List (Option ValType)) (a b : Code) (outs mids ins : List ValType) → Types c ls a mids ins → Types c ls b outs mids → Types c ls (followed_by a b) outs ins
   unfolding followed_by Types
   types_then ls done b outs mids ins h g = subst (λ ms. Types c ls b outs ms) (sym h) g
   types_then ls (plain p r) b outs mids ins h g = (h.0, h.1, types_then ls r b outs mids h.0 h.2 g)

@@ -2,7 +2,6 @@
 use Rattle.std.proofs.Common.{◌≡◌, ℕ, suc, ◌+◌, ◌*◌, ◌≤◌, List, [], ◌∷◌, length, Option, Some, None, Bool, true, false, max, refl, ap, arith}
 use Rattle.std.specs.Prelude.{nat_eq, if◌then◌else◌, ◌||◌}
 use Rattle.std.proofs.lemmas.List.{length-map}
-use Rattle.wa_types.specs.declared.values.ValType.TheVariants.{I32}
 use Rattle.wa_types.specs.Sizes.{label_count}
 use Rattle.wa_types.specs.Counts.{depth_of}
 use Rattle.wa_types.specs.Syntax.{Plain, global_get, basic, local_get, local_set, local_tee, br, br_if, br_table, return, unreachable, call, call_indirect, Code, done, plain, nest, branch}
@@ -143,7 +142,8 @@ size_front i d k first (if_unit c fa a fb b behind rest) =
     let e2 = size_got c (branch None fa_ fb_ fr_) in
     let e3 = size_got c done in
     let ch = size_choice i k a b in
-    let g = size_guarded i first (plain (basic (global_get i.state)) (branch (Some I32) (choice i k a b) (got c done) (branch None (arm a fa na) (arm b fb nb) nx))) in
+    let ep = size_then first (got c done) in
+    let er = size_raised 0 1 (followed_by first (got c done)) in
     omega arith
 
 pub size_law : SizeBound
@@ -256,7 +256,9 @@ deep_front i d k first (if_unit c fa a fb b behind rest) =
     let e2 = deep_got c (branch None fa_ fb_ fr_) in
     let e3 = deep_got c done in
     let ch = deep_choice i k a b in
-    deep_guarded i first (plain (basic (global_get i.state)) (branch (Some I32) (choice i k a b) (got c done) (branch None (arm a fa na) (arm b fb nb) nx))) (deep (followed_by first (flat_units (if_unit c fa a fb b behind rest))) + 2) (omega arith) (omega arith)
+    let ep = deep_then first (got c done) in
+    let er = deep_raised 0 1 (followed_by first (got c done)) in
+    omega arith
 
 pub depth_law : DepthBound
 depth_law i d k first us = deep_front i d k first us
@@ -437,7 +439,8 @@ module _ (i : GuardIndices) where
       let e3 = reads_got i.state c done in
       let ch = reads_choice k a b in
       let o = one_read i.state (basic (global_get i.state)) in
-      let g = reads_guarded first (plain (basic (global_get i.state)) (branch (Some I32) (choice i k a b) (got c done) (branch None (arm a fa na) (arm b fb nb) nx))) in
+      let ep = reads_then i.state first (got c done) in
+      let er = reads_raised i.state 0 1 (followed_by first (got c done)) in
       omega arith
 
 pub reads_law : ReadsBound

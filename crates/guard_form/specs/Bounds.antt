@@ -52,7 +52,7 @@ abbrev pub passing : (first : Code) → Units → ℕ
 passing first no_unit = over first
 passing first (call_unit slots x to behind rest) = 8 + passing done rest
 passing first (nest_unit s inner body behind rest) = over first + (2 + (passing inner body + passing behind rest))
-passing first (if_unit c fa a fb b behind rest) = over first + (8 + (passing fa a + passing fb b + passing behind rest))
+passing first (if_unit c fa a fb b behind rest) = 8 + (passing fa a + passing fb b + passing behind rest)
 
 -- ---- laws
 

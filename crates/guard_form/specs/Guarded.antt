@@ -5,7 +5,7 @@ use Rattle.wa_types.specs.declared.values.ValType.TheVariants.{I32}
 use Rattle.wa_types.specs.declared.values.Value.TheVariants as V
 use Rattle.wa_types.specs.declared.operators.NumOp.TheVariants.{I32Ne, I32LtU}
 use Rattle.wa_types.specs.Syntax.{const, num, global_get, Plain, basic, local_get, local_set, br, br_if, br_table, a_block, Code, done, plain, nest, branch}
-use Rattle.wa_model.specs.Flat.{got, set_to, slots_got}
+use Rattle.wa_model.specs.Flat.{followed_by, got, set_to, slots_got}
 use Rattle.guard_form.specs.Pieces.{Units, no_unit, call_unit, nest_unit, if_unit, numbers_in, call_to}
 
 -- ---- labels raised
@@ -77,8 +77,8 @@ front i d k first (call_unit slots x to behind rest) =
 front i d k first (nest_unit s inner body behind rest) =
     guarded i first (nest s None (front i (suc d) k inner body) (front i d (k + numbers_in body) behind rest))
 front i d k first (if_unit c fa a fb b behind rest) =
-    guarded i first (plain (basic (global_get i.state)) (branch (Some I32) (choice i k a b) (got c done)
-    (branch None (arm a fa (front i (suc d) k fa a)) (arm b fb (front i (suc d) (k + numbers_in a) fb b)) (front i d (k + numbers_in a + numbers_in b) behind rest))))
+    plain (basic (global_get i.state)) (branch (Some I32) (choice i k a b) (raised 0 1 (followed_by first (got c done)))
+    (branch None (arm a fa (front i (suc d) k fa a)) (arm b fb (front i (suc d) (k + numbers_in a) fb b)) (front i d (k + numbers_in a + numbers_in b) behind rest)))
 
 -- The body of a written function around its guarded code: the code that restores a frame, where the state isn't 0; the guarded
 -- code in a block, to the end of which each return, fall and unwinding exit goes; the code that saves a frame, where the state

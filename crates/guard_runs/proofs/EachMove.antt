@@ -9,19 +9,17 @@ use Rattle.wa_types.specs.Syntax.{Plain, basic, local_get, local_set, local_tee,
 use Rattle.wa_types.specs.Modules.{func_type_at, type_at, defined_at}
 use Rattle.wa_types.specs.Pausing.{Callee, direct, indirect, callee}
 use Rattle.wa_model.specs.declared.flat.Operand.{Operand}
-use Rattle.wa_model.specs.declared.flat.Operand.TheVariants.{Local, Const}
 use Rattle.wa_model.specs.Store.{Store, value_at, Did, works, fails, lacks, takes, act}
 use Rattle.wa_model.specs.Configuration.{Label, block_label, Configuration, running, waiting}
 use Rattle.wa_model.specs.Step.{Next, steps, traps, jump, did, choose, arity_of, invoke, param_count, same_func_type, through, memory_max, step_plain, step_at, step}
-use Rattle.wa_model.specs.Flat.{followed_by, got, set_to, slots_got}
+use Rattle.wa_model.specs.Flat.{followed_by, set_to, slots_got}
 use Rattle.guard_form.specs.Functions.{GuardedFunc, Role, with_guards, indices_of, MayCall, Calls, PiecesCall}
 use Rattle.guard_form.specs.Guarded.{raise, raised_plain, raised, GuardIndices, arm, front}
 use Rattle.guard_form.specs.Pieces.{Units, no_unit, call_unit, nest_unit, if_unit, numbers_in, call_to, flat_units}
 use Rattle.guard_form.specs.Places.{Enclosing, in_a_block, in_a_loop, flat_labels, written_labels, BodyPlace, at_start, in_block, in_loop, in_then, in_else, call_code, call_label}
-use Rattle.guard_runs.specs.Beside.{Sides, DidToo, Together, BehindPiece, arm_end, tail_at, InPiece, outside, block_in, loop_in, GoesOn, SamePoint, in_piece, at_args, at_block, at_loop, at_operand, at_choice, at_end, at_body, at_return, GoesTo, directly, by_table, BothWait, in_a_piece, at_number, Aligned, aligned, Near, Matched, both_step, both_trap, flat_stuck, ProperPlain, ProperCode, Proper}
-use Rattle.guard_runs.proofs.SilentStretches.{walks}
+use Rattle.guard_runs.specs.Beside.{Sides, DidToo, Together, BehindPiece, arm_end, tail_at, InPiece, outside, block_in, loop_in, GoesOn, SamePoint, in_piece, at_args, at_block, at_loop, at_choice, at_end, at_body, at_return, GoesTo, directly, by_table, BothWait, in_a_piece, at_number, Aligned, aligned, Near, Matched, both_step, both_trap, flat_stuck, ProperPlain, ProperCode, Proper}
 use Rattle.guard_form.proofs.CodeLemmas.{then_done, raised_none, picked, got_left, set_left}
-use Rattle.guard_runs.proofs.Settling.{Ctx, cq, cp, no_lag, later, wider, Arounds, calls_at, arounds, settle, settle_piece}
+use Rattle.guard_runs.proofs.Settling.{Ctx, cq, cp, no_lag, wider, Arounds, calls_at, arounds, settle, settle_piece}
 use Rattle.guard_runs.proofs.Moving.{same_params, with_stores, resume}
 use Rattle.guard_runs.proofs.Moving as N
 
@@ -188,13 +186,6 @@ module _ (w : Sides) (ok : Together w) where
     args_step ops h k [] slots c to behind rest xs pl pr = calls_too x _ _ _ _ ops c pr (λ g left taken gt. at_number x.fn x.here x.is x.ls x.extra left taken x.both h pl gt)
     args_step ops h k (y ∷ left) slots c to behind rest xs pl pr = local_got x _ _ _ _ ops y pr (wider w 0 9 _ _ (no_lag w x _ _ _ _ _ (at_args h left pl)) (omega arith))
 
-    operand_step : (ops : List Value) (h k : ℕ) (c : Operand) (fa : Code) (a : Units) (fb : Code) (b : Units) (behind : Code) (rest : Units) (xs : List Enclosing)
-        → BodyPlace w.state f k (if_unit c fa a fb b behind rest) xs → ProperCode w x.s x.ls ops (flat_units (if_unit c fa a fb b behind rest))
-        → M (step_at q x.s x.fn x.under x.ls ops (flat_labels f xs) (flat_units (if_unit c fa a fb b behind rest)))
-        (step_at p x.s' x.fn x.under' (x.ls ++ x.extra) ops (block_label h 1 (branch None (arm a fa (front i (suc (length xs)) k fa a)) (arm b fb (front i (suc (length xs)) (k + numbers_in a) fb b)) (front i (length xs) (k + numbers_in a + numbers_in b) behind rest)) done ∷ written_labels w.state f xs) (got c done))
-    operand_step ops h k (Local z) fa a fb b behind rest xs pl pr = local_got x _ _ _ _ ops z pr (later w 1 0 9 _ _ _ (walks p 1 _ _ refl) (no_lag w x _ _ _ _ _ (at_choice pl)) (omega arith))
-    operand_step ops h k (Const v) fa a fb b behind rest xs pl pr = both_step (later w 1 0 9 _ _ _ (walks p 1 _ _ refl) (no_lag w x _ _ _ _ _ (at_choice pl)) (omega arith))
-
     -- an arm begins
     arm_near : (ops : List Value) (k : ℕ) (us : Units) (xs : List Enclosing) (first : Code) → BodyPlace w.state f k us xs → Calls w.free first
         → Near w 9 (cq w x ops (followed_by first (flat_units us)) (flat_labels f xs)) (cp w x ops (arm us first (front i (length xs) k first us)) (written_labels w.state f xs))
@@ -240,7 +231,6 @@ module _ (w : Sides) (ok : Together w) where
           both_step (four f x x ops k body (in_a_block (length ops) (k + numbers_in body) done done behind rest ∷ xs) first (in_block (length ops) pl) (calls_at w f (pcs f x) k (nest_unit a_block first body behind rest) xs pl).0)
       by_site _ x _ _ _ _ _ (at_loop {ops = ops} {f = f} {k = k} {first = first} {body = body} {behind = behind} {rest = rest} {xs = xs} pl) pr =
           both_step (four f x x ops k body (in_a_loop (length ops) k first body (k + numbers_in body) behind rest ∷ xs) first (in_loop (length ops) pl) (calls_at w f (pcs f x) k (nest_unit a_loop first body behind rest) xs pl).0)
-      by_site _ x _ _ _ _ _ (at_operand {ops = ops} {f = f} {k = k} {c = c} {fa = fa} {a = a} {fb = fb} {b = b} {behind = behind} {rest = rest} {xs = xs} h pl) pr = operand_step f x ops h k c fa a fb b behind rest xs pl pr
       by_site _ x _ _ _ _ _ (at_choice {ops = ops} {f = f} {k = k} {c = c} {fa = fa} {a = a} {fb = fb} {b = b} {behind = behind} {rest = rest} {xs = xs} pl) pr = choice_step f x ops k c fa a fb b behind rest xs pl
       by_site _ x _ _ _ _ _ (at_end {ops = ops} {f = f} {k = k} {xs = xs} pl) pr = end_step f x ops k xs (arounds w f (pcs f x) k no_unit xs pl)
       by_site _ x _ _ _ _ _ (at_body {f = f}) pr = both_step (four f x x [] 0 f.body [] f.first at_start (N.role_calls w ok x.fn (with_guards f) x.here x.is).0)

@@ -7,7 +7,7 @@ use Rattle.wa_types.specs.declared.values.Value.{Value}
 use Rattle.wa_types.specs.declared.values.Value.TheVariants as V
 use Rattle.wa_types.specs.declared.values.Trap.TheVariants.{StackExhausted}
 use Rattle.wa_types.specs.Encoding.{same_type}
-use Rattle.wa_types.specs.Syntax.{global_get, basic, local_get, local_set, br_if, Code, done, plain, FuncType, Module}
+use Rattle.wa_types.specs.Syntax.{global_get, basic, local_get, local_set, br_if, Code, done, plain, branch, FuncType, Module}
 use Rattle.wa_types.specs.Modules.{func_imports, func_type_at, declared_locals, defined_at}
 use Rattle.wa_types.specs.Pausing.{Callee}
 use Rattle.wa_model.specs.Store.{Store}
@@ -15,10 +15,10 @@ use Rattle.wa_model.specs.Configuration.{Label, block_label, loop_label, Activat
 use Rattle.wa_model.specs.Step.{Next, steps, asks, traps, stuck, keep, result_count, leave, jump, with_top, with_number, choose, zero_of, entered, invoke, param_count, same_types, same_func_type}
 use Rattle.wa_model.specs.Flat.{followed_by, set_to, result_got}
 use Rattle.guard_form.specs.Functions.{GuardedFunc, Role, as_is, with_guards, size_of, extra_types, indices_of, flat_code, written_code, Calls, PiecesCall, RoleCalls}
-use Rattle.guard_form.specs.Guarded.{raise, raised, by_state, noted, front}
-use Rattle.guard_form.specs.Pieces.{Units, call_unit, flat_units}
+use Rattle.guard_form.specs.Guarded.{raise, raised, by_state, noted, arm, front}
+use Rattle.guard_form.specs.Pieces.{Units, call_unit, flat_units, numbers_in}
 use Rattle.guard_form.specs.Places.{Enclosing, in_a_block, in_a_loop, flat_labels, written_labels, BodyPlace, past_call, call_code, call_label}
-use Rattle.guard_runs.specs.Beside.{Sides, Twin, both_import, both_defined, Together, BehindPiece, guard_end, before_call, arm_end, func_end, tail_at, InPiece, outside, block_in, loop_in, at_body, Locals, BothWait, in_a_piece, at_number, Callers, host, above, Near, Matched, both_step, both_ask, both_return, both_trap, flat_stuck}
+use Rattle.guard_runs.specs.Beside.{Sides, Twin, both_import, both_defined, Together, BehindPiece, guard_end, before_call, before_if, arm_end, func_end, tail_at, InPiece, outside, block_in, loop_in, at_body, Locals, BothWait, in_a_piece, at_number, Callers, host, above, Near, Matched, both_step, both_ask, both_return, both_trap, flat_stuck}
 use Rattle.guard_runs.proofs.SilentStretches.{Comes, on, walks}
 use Rattle.guard_form.proofs.CodeLemmas.{then_done, raised_none, raise_out, raise_in, raise_on, set_behind}
 use Rattle.guard_runs.proofs.Settling.{Ctx, cq, cp, no_lag, later, wider, Arounds, calls_at, arounds, reads, to_else, settle, settle_piece}
@@ -167,6 +167,10 @@ module _ (w : Sides) where
     jumps_cont x (before_call {f = f} {k = k} {slots = slots} {x = c} {to = to} {behind = behind} {rest = rest} {xs = xs} h h2 pl) j ops l =
         let z : suc (suc l) ≡ l + 2 = omega arith in
         subst (λ n. M (jump j q x.s x.fn x.under x.ls ops (flat_labels f xs) l) (jump j p x.s' x.fn x.under' (x.ls ++ x.extra) ops (block_label h 0 (call_code w.state f (length xs) k slots c to behind) done ∷ call_label w.state f h2 (length xs) k rest ∷ written_labels w.state f xs) n)) z (jumps_out f x j ops xs l (arounds w f (pieces x f refl) k _ xs pl))
+    jumps_cont x (before_if {f = f} {k = k} {c = c} {fa = fa} {a = a} {fb = fb} {b = b} {behind = behind} {rest = rest} {xs = xs} h pl) j ops l =
+        let z : suc l ≡ l + 1 = omega arith in
+        let lb : Label = block_label h 1 (branch None (arm a fa (front (indices_of w.state f) (suc (length xs)) k fa a)) (arm b fb (front (indices_of w.state f) (suc (length xs)) (k + numbers_in a) fb b)) (front (indices_of w.state f) (length xs) (k + numbers_in a + numbers_in b) behind rest)) done in
+        subst (λ n. M (jump j q x.s x.fn x.under x.ls ops (flat_labels f xs) l) (jump j p x.s' x.fn x.under' (x.ls ++ x.extra) ops (lb ∷ written_labels w.state f xs) n)) z (jumps_out f x j ops xs l (arounds w f (pieces x f refl) k _ xs pl))
     jumps_cont x (arm_end {f = f} {k = k} {xs = xs} pl) j ops l =
         let z : l ≡ l + 0 = omega arith in
         subst (λ n. M (jump j q x.s x.fn x.under x.ls ops (flat_labels f xs) l) (jump j p x.s' x.fn x.under' (x.ls ++ x.extra) ops (written_labels w.state f xs) n)) z (jumps_out f x j ops xs l (arounds w f (pieces x f refl) k _ xs pl))

@@ -11,7 +11,7 @@ use Rattle.wa_ops.specs.Integers.{ine, ilt_u}
 use Rattle.wa_model.specs.declared.flat.Operand.{Operand}
 use Rattle.wa_model.specs.Store.{Store, value_at}
 use Rattle.wa_model.specs.Configuration.{Label, block_label, loop_label, Activation, Configuration, running}
-use Rattle.wa_model.specs.Flat.{got}
+use Rattle.wa_model.specs.Flat.{followed_by, got}
 use Rattle.guard_form.specs.Bounds.{over, passing}
 use Rattle.guard_form.specs.Functions.{GuardedFunc, indices_of, HasUnit, ArmsHold}
 use Rattle.guard_form.specs.Guarded.{raised, GuardIndices, by_state, index_with, guarded, sought, choice, arm, front}
@@ -95,7 +95,7 @@ module _ (p : Module) (st : ℕ) (f : GuardedFunc) (s : Store) (fn : ℕ) (under
     passes_call d k first slots x to behind rest labels ne = on p 6 1 _ _ _ (to_test d k first slots x to behind rest labels 1 (ne_one t k ne)) (walks p 1 _ _ refl)
 
     -- an `if`: its arms, what follows, and what decides
-    module _ (d k : ℕ) (x : Operand) (fa : Code) (a : Units) (fb : Code) (b : Units) (behind : Code) (rest : Units) (labels : List Label) where
+    module _ (d k : ℕ) (first : Code) (x : Operand) (fa : Code) (a : Units) (fb : Code) (b : Units) (behind : Code) (rest : Units) (labels : List Label) where
       abbrev pub na : Code
       na = front i (suc d) k fa a
 
@@ -106,15 +106,15 @@ module _ (p : Module) (st : ℕ) (f : GuardedFunc) (s : Store) (fn : ℕ) (under
       next = front i d (k + numbers_in a + numbers_in b) behind rest
 
       abbrev pub whole : Code
-      whole = plain (basic (global_get st)) (branch (Some I32) (choice i k a b) (got x done) (branch None (arm a fa na) (arm b fb nb) next))
+      whole = plain (basic (global_get st)) (branch (Some I32) (choice i k a b) (raised 0 1 (followed_by first (got x done))) (branch None (arm a fa na) (arm b fb nb) next))
 
       abbrev lbc : List Label
-      lbc = block_label 0 1 (branch None (arm a fa na) (arm b fb nb) next) (got x done) ∷ labels
+      lbc = block_label 0 1 (branch None (arm a fa na) (arm b fb nb) next) (raised 0 1 (followed_by first (got x done))) ∷ labels
 
       decides : (v : ℕ) → Within p (c [] (choice i k a b) lbc) 3 (c (V.I32 v ∷ []) done lbc)
           → Within p (c [] whole labels) 6 (c (V.I32 v ∷ []) (branch None (arm a fa na) (arm b fb nb) next) labels)
       decides v w =
-          let two : Comes p (c [] whole labels) 2 (c [] (choice i k a b) lbc) = on p 1 1 _ _ _ (reads [] (branch (Some I32) (choice i k a b) (got x done) (branch None (arm a fa na) (arm b fb nb) next)) labels) (walks p 1 (c (V.I32 (suc n) ∷ []) (branch (Some I32) (choice i k a b) (got x done) (branch None (arm a fa na) (arm b fb nb) next)) labels) _ refl) in
+          let two : Comes p (c [] whole labels) 2 (c [] (choice i k a b) lbc) = on p 1 1 _ _ _ (reads [] (branch (Some I32) (choice i k a b) (raised 0 1 (followed_by first (got x done))) (branch None (arm a fa na) (arm b fb nb) next)) labels) (walks p 1 (c (V.I32 (suc n) ∷ []) (branch (Some I32) (choice i k a b) (raised 0 1 (followed_by first (got x done))) (branch None (arm a fa na) (arm b fb nb) next)) labels) _ refl) in
           gets_on 6 (gets 2 two (omega arith)) (gets_on 4 w (gets 1 (walks p 1 (c (V.I32 v ∷ []) done lbc) (c (V.I32 v ∷ []) (branch None (arm a fa na) (arm b fb nb) next) labels) refl) (omega arith)) (omega arith)) (omega arith)
 
       into_then : Within p (c [] (choice i k a b) lbc) 3 (c (V.I32 1 ∷ []) done lbc) → Some_unit a
@@ -189,15 +189,14 @@ module _ (p : Module) (st : ℕ) (f : GuardedFunc) (s : Store) (fn : ℕ) (under
         (gets_on (2 + (passing inner body + passing behind rest)) (gets 1 into (omega arith)) (gets_on (1 + (passing inner body + passing behind rest)) inside (gets_on (1 + passing behind rest) (gets 1 leaves (omega arith)) tail (omega arith)) (omega arith)) (omega arith)) (omega arith)
     passes (if_unit x fa a fb b behind rest) d k first labels ok out =
         let tail = passes rest d (k + numbers_in a + numbers_in b) behind labels ok.3 (⊎_elim (λ lt. inl (omega arith)) (λ le. inr (omega arith)) out) in
-        let in_a = passes a (suc d) k fa (block_label 0 0 (next d k x fa a fb b behind rest labels) (arm b fb (nb d k x fa a fb b behind rest labels)) ∷ labels) ok.1 (⊎_elim (λ lt. inl lt) (λ le. inr (omega arith)) out) in
-        let in_b = passes b (suc d) (k + numbers_in a) fb (block_label 0 0 (next d k x fa a fb b behind rest labels) done ∷ labels) ok.2 (⊎_elim (λ lt. inl (omega arith)) (λ le. inr (omega arith)) out) in
-        gets_on (over first + (8 + (passing fa a + passing fb b + passing behind rest))) (over_piece first (whole d k x fa a fb b behind rest labels) labels)
-        (⊎_elim
+        let in_a = passes a (suc d) k fa (block_label 0 0 (next d k first x fa a fb b behind rest labels) (arm b fb (nb d k first x fa a fb b behind rest labels)) ∷ labels) ok.1 (⊎_elim (λ lt. inl lt) (λ le. inr (omega arith)) out) in
+        let in_b = passes b (suc d) (k + numbers_in a) fb (block_label 0 0 (next d k first x fa a fb b behind rest labels) done ∷ labels) ok.2 (⊎_elim (λ lt. inl (omega arith)) (λ le. inr (omega arith)) out) in
+        ⊎_elim
         (λ h. gets_on (8 + (passing fa a + passing fb b + passing behind rest)) h.1 (gets_on (1 + (passing fa a + passing fb b + passing behind rest)) in_a
-        (gets_on (1 + passing behind rest) (gets 1 (walks p 1 (c [] done (block_label 0 0 (next d k x fa a fb b behind rest labels) (arm b fb (nb d k x fa a fb b behind rest labels)) ∷ labels)) (c [] (next d k x fa a fb b behind rest labels) labels) refl) (omega arith)) tail (omega arith)) (omega arith)) (omega arith))
+        (gets_on (1 + passing behind rest) (gets 1 (walks p 1 (c [] done (block_label 0 0 (next d k first x fa a fb b behind rest labels) (arm b fb (nb d k first x fa a fb b behind rest labels)) ∷ labels)) (c [] (next d k first x fa a fb b behind rest labels) labels) refl) (omega arith)) tail (omega arith)) (omega arith)) (omega arith))
         (λ h. gets_on (8 + (passing fa a + passing fb b + passing behind rest)) h.1 (gets_on (1 + (passing fa a + passing fb b + passing behind rest)) in_b
-        (gets_on (1 + passing behind rest) (gets 1 (walks p 1 (c [] done (block_label 0 0 (next d k x fa a fb b behind rest labels) done ∷ labels)) (c [] (next d k x fa a fb b behind rest labels) labels) refl) (omega arith)) tail (omega arith)) (omega arith)) (omega arith))
-        (picks d k x fa a fb b behind rest labels ok.0)) (omega arith)
+        (gets_on (1 + passing behind rest) (gets 1 (walks p 1 (c [] done (block_label 0 0 (next d k first x fa a fb b behind rest labels) done ∷ labels)) (c [] (next d k first x fa a fb b behind rest labels) labels) refl) (omega arith)) tail (omega arith)) (omega arith)) (omega arith))
+        (picks d k first x fa a fb b behind rest labels ok.0)
 
 pub passes_law : Passes
 passes_law p st n t f s fn under ls d k first us labels state index ok out = passes p st f s fn under ls n state t index us d k first labels ok out

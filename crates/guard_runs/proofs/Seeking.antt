@@ -99,12 +99,11 @@ module _ (p : Module) (st : ℕ) (f : GuardedFunc) (s : Store) (fn : ℕ) (under
       let bb = front i (suc d) (k + numbers_in a) fb b in
       let in_a = passes p st f s fn under ls n state t index a (suc d) k fa (block_label 0 0 nx (arm b fb bb) ∷ lbs xs) ar.1 (inr (omega arith)) in
       let in_b = passes p st f s fn under ls n state t index b (suc d) (k + numbers_in a) fb (block_label 0 0 nx done ∷ lbs xs) ar.2 (inr (omega arith)) in
-      goes_on k (if_unit x fa a fb b behind rest) xs (k + numbers_in a + numbers_in b) behind rest xs r (over r.first + (8 + (passing fa a + passing fb b)))
-      (gets_on (over r.first + (8 + (passing fa a + passing fb b))) (over_piece p st f s fn under ls n state r.first (whole p st f s fn under ls n state t index d k x fa a fb b behind rest (lbs xs)) (lbs xs))
+      goes_on k (if_unit x fa a fb b behind rest) xs (k + numbers_in a + numbers_in b) behind rest xs r (8 + (passing fa a + passing fb b))
       (⊎_elim
       (λ h. gets_on (8 + (passing fa a + passing fb b)) h.1 (gets_on (1 + (passing fa a + passing fb b)) in_a (gets 1 (walks p 1 (c done (block_label 0 0 nx (arm b fb bb) ∷ lbs xs)) (c nx (lbs xs)) refl) (omega arith)) (omega arith)) (omega arith))
       (λ h. gets_on (8 + (passing fa a + passing fb b)) h.1 (gets_on (1 + (passing fa a + passing fb b)) in_b (gets 1 (walks p 1 (c done (block_label 0 0 nx done ∷ lbs xs)) (c nx (lbs xs)) refl) (omega arith)) (omega arith)) (omega arith))
-      (picks p st f s fn under ls n state t index d k x fa a fb b behind rest (lbs xs) ar.0)) (omega arith)) (omega arith)
+      (picks p st f s fn under ls n state t index d k r.first x fa a fb b behind rest (lbs xs) ar.0)) (omega arith)
   seeks _ _ _ (in_block {k = k} {first = inner} {body = body} {behind = behind} {rest = rest} {xs = xs} h pl) bo le lt =
       let r = seeks k (nest_unit a_block inner body behind rest) xs pl bo.1 le (omega arith) in
       let d = length xs in
@@ -126,18 +125,16 @@ module _ (p : Module) (st : ℕ) (f : GuardedFunc) (s : Store) (fn : ℕ) (under
       let d = length xs in
       let nx = front i d (k + numbers_in a + numbers_in b) behind rest in
       let bb = front i (suc d) (k + numbers_in a) fb b in
-      goes_on k (if_unit x fa a fb b behind rest) xs k fa a (in_a_block h (k + numbers_in a + numbers_in b) _ (arm b fb bb) behind rest ∷ xs) r (over r.first + 7)
-      (gets_on (over r.first + 7) (over_piece p st f s fn under ls n state r.first (whole p st f s fn under ls n state t index d k x fa a fb b behind rest (lbs xs)) (lbs xs))
-      (subst (λ z. Within p (c (whole p st f s fn under ls n state t index d k x fa a fb b behind rest (lbs xs)) (lbs xs)) 7 (c (front i (suc d) k fa a) (block_label z 0 nx (arm b fb bb) ∷ lbs xs))) (sym bo.0)
-      (picks_then p st f s fn under ls n state t index d k x fa a fb b behind rest (lbs xs) lt (counted a k t le lt))) (omega arith)) (omega arith)
+      goes_on k (if_unit x fa a fb b behind rest) xs k fa a (in_a_block h (k + numbers_in a + numbers_in b) _ (arm b fb bb) behind rest ∷ xs) r 7
+      (subst (λ z. Within p (c (whole p st f s fn under ls n state t index d k r.first x fa a fb b behind rest (lbs xs)) (lbs xs)) 7 (c (front i (suc d) k fa a) (block_label z 0 nx (arm b fb bb) ∷ lbs xs))) (sym bo.0)
+      (picks_then p st f s fn under ls n state t index d k r.first x fa a fb b behind rest (lbs xs) lt (counted a k t le lt))) (omega arith)
   seeks _ _ _ (in_else {k = k} {c = x} {fa = fa} {a = a} {fb = fb} {b = b} {behind = behind} {rest = rest} {xs = xs} h pl) bo le lt =
       let r = seeks k (if_unit x fa a fb b behind rest) xs pl bo.1 (omega arith) (omega arith) in
       let d = length xs in
       let nx = front i d (k + numbers_in a + numbers_in b) behind rest in
-      goes_on k (if_unit x fa a fb b behind rest) xs (k + numbers_in a) fb b (in_a_block h (k + numbers_in a + numbers_in b) done done behind rest ∷ xs) r (over r.first + 7)
-      (gets_on (over r.first + 7) (over_piece p st f s fn under ls n state r.first (whole p st f s fn under ls n state t index d k x fa a fb b behind rest (lbs xs)) (lbs xs))
-      (subst (λ z. Within p (c (whole p st f s fn under ls n state t index d k x fa a fb b behind rest (lbs xs)) (lbs xs)) 7 (c (front i (suc d) (k + numbers_in a) fb b) (block_label z 0 nx done ∷ lbs xs))) (sym bo.0)
-      (picks_else p st f s fn under ls n state t index d k x fa a fb b behind rest (lbs xs) le (counted b (k + numbers_in a) t le lt))) (omega arith)) (omega arith)
+      goes_on k (if_unit x fa a fb b behind rest) xs (k + numbers_in a) fb b (in_a_block h (k + numbers_in a + numbers_in b) done done behind rest ∷ xs) r 7
+      (subst (λ z. Within p (c (whole p st f s fn under ls n state t index d k r.first x fa a fb b behind rest (lbs xs)) (lbs xs)) 7 (c (front i (suc d) (k + numbers_in a) fb b) (block_label z 0 nx done ∷ lbs xs))) (sym bo.0)
+      (picks_else p st f s fn under ls n state t index d k r.first x fa a fb b behind rest (lbs xs) le (counted b (k + numbers_in a) t le lt))) (omega arith)
 
   pub reaches : (slots : List ℕ) (x : Callee) (to : Option ℕ) (behind : Code) (rest : Units) (xs : List Enclosing) → BodyPlace st f t (call_unit slots x to behind rest) xs
       → NoneBelow xs → Within p start (passing f.first f.body) (c (call_code st f (length xs) t slots x to behind) (call_label st f 0 (length xs) t rest ∷ lbs xs))

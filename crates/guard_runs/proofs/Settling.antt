@@ -1,5 +1,5 @@
 -- In state 0 the written side comes, within a few reductions, to the instruction that stands next on the flat side.
-use Rattle.std.proofs.Common.{◌≡◌, ℕ, zero, suc, ◌+◌, ◌≤◌, ◌<◌, List, [], ◌∷◌, ◌++◌, length, Option, Some, None, refl, subst, arith}
+use Rattle.std.proofs.Common.{◌≡◌, ℕ, zero, suc, ◌+◌, ◌≤◌, ◌<◌, List, [], ◌∷◌, ◌++◌, length, Option, Some, None, refl, ap, ◌∙◌, subst, arith}
 use Rattle.wa_types.specs.declared.values.ValType.{ValType}
 use Rattle.wa_types.specs.declared.values.ValType.TheVariants.{I32}
 use Rattle.wa_types.specs.declared.values.Value.{Value}
@@ -8,12 +8,15 @@ use Rattle.wa_types.specs.Syntax.{Plain, Shape, global_get, basic, a_block, a_lo
 use Rattle.wa_types.specs.Pausing.{Callee}
 use Rattle.wa_model.specs.Store.{Store}
 use Rattle.wa_model.specs.Configuration.{Label, block_label, Activation, Configuration, running}
+use Rattle.wa_model.specs.declared.flat.Operand.{Operand}
+use Rattle.wa_model.specs.declared.flat.Operand.TheVariants.{Local, Const}
 use Rattle.wa_model.specs.Flat.{followed_by, got}
 use Rattle.guard_form.specs.Functions.{GuardedFunc, Role, with_guards, indices_of, Calls, PiecesCall}
 use Rattle.guard_form.specs.Guarded.{raised, GuardIndices, by_state, sought, choice, arm, front}
 use Rattle.guard_form.specs.Pieces.{Units, no_unit, call_unit, nest_unit, if_unit, numbers_in, flat_units}
 use Rattle.guard_form.specs.Places.{Enclosing, in_a_block, in_a_loop, flat_labels, written_labels, BodyPlace, at_start, past_call, past_block, past_loop, past_if, in_block, in_loop, in_then, in_else, call_code, call_label}
-use Rattle.guard_runs.specs.Beside.{Sides, Together, BehindPiece, guard_end, before_call, arm_end, func_end, tail_at, InPiece, outside, GoesOn, SamePoint, in_piece, at_args, at_block, at_loop, at_operand, at_end, at_return, Locals, Callers, Aligned, aligned, Near}
+use Rattle.guard_runs.specs.Beside.{Sides, Together, BehindPiece, guard_end, before_call, before_if, arm_end, func_end, tail_at, InPiece, outside, GoesOn, SamePoint, in_piece, at_args, at_block, at_loop, at_choice, at_end, at_return, Locals, Callers, Aligned, aligned, Near}
+use Rattle.guard_form.proofs.Grouped.{then_then, then_got, calls_then, calls_got}
 use Rattle.guard_runs.proofs.SilentStretches.{Comes, none, on, walks}
 
 -- what both sides share while a function of this role runs
@@ -43,6 +46,22 @@ goes_nest (suc d) s r y n = tt
 goes_branch : (d : ℕ) (r : Option ValType) (y z n : Code) → GoesOn d (branch r y z n)
 goes_branch zero r y z n = tt
 goes_branch (suc d) r y z n = tt
+
+-- a piece and a condition behind it
+goes_got : (first : Code) (c : Operand) → GoesOn 0 (followed_by first (got c done))
+unfolding followed_by
+goes_got done (Local x) = tt
+goes_got done (Const v) = tt
+goes_got (plain p n) c = tt
+goes_got (nest s r y n) c = tt
+goes_got (branch r y z n) c = tt
+
+none_then : (tail : Code) → followed_by done tail ≡ tail
+unfolding followed_by
+none_then tail = refl
+
+joined_got : (first : Code) (c : Operand) (tail : Code) → followed_by (followed_by first (got c done)) tail ≡ followed_by first (got c tail)
+joined_got first c tail = then_then first (got c done) tail ∙ ap (followed_by first) (then_got c done tail ∙ ap (got c) (none_then tail))
 
 module _ (w : Sides) where
   abbrev pub cq : {r : Role} → Ctx w r → List Value → Code → List Label → Configuration
@@ -119,6 +138,20 @@ module _ (w : Sides) where
       abbrev i : GuardIndices
       i = indices_of w.state f
 
+      -- an `if` begins with the piece in front of it
+      begins_if : (ops : List Value) (k : ℕ) (c : Operand) (fa : Code) (a : Units) (fb : Code) (b : Units) (behind : Code) (rest : Units) (xs : List Enclosing) (first : Code)
+          → BodyPlace w.state f k (if_unit c fa a fb b behind rest) xs → Calls w.free first
+          → Near w 4 (cq x ops (followed_by first (flat_units (if_unit c fa a fb b behind rest))) (flat_labels f xs)) (cp x ops (front i (length xs) k first (if_unit c fa a fb b behind rest)) (written_labels w.state f xs))
+      begins_if ops k c fa a fb b behind rest xs first pl ca =
+          let next : Code = branch None (arm a fa (front i (suc (length xs)) k fa a)) (arm b fb (front i (suc (length xs)) (k + numbers_in a) fb b)) (front i (length xs) (k + numbers_in a + numbers_in b) behind rest) in
+          let piece : Code = followed_by first (got c done) in
+          let from = cp x ops (front i (length xs) k first (if_unit c fa a fb b behind rest)) (written_labels w.state f xs) in
+          let two : Comes w.written from 2 (cp x ops (raised 0 1 piece) (block_label (length ops) 1 next done ∷ written_labels w.state f xs)) =
+          on w.written 1 1 _ _ _ (reads x ops (branch (Some I32) (choice i k a b) (raised 0 1 piece) next) (written_labels w.state f xs)) (walks w.written 1 _ _ refl) in
+          let at_piece = no_lag x ops _ _ _ _ (in_piece (before_if (length ops) pl) outside piece (calls_then w.free first (got c done) ca (calls_got w.free c done tt)) (goes_got first c)) in
+          subst (λ z. Near w 4 (cq x ops z (flat_labels f xs)) from) (joined_got first c (branch None (followed_by fa (flat_units a)) (followed_by fb (flat_units b)) (followed_by behind (flat_units rest))))
+          (later 2 0 4 _ _ _ two at_piece (omega arith))
+
       -- at a unit, with nothing in front of it
       pub settle_units : (ops : List Value) (k : ℕ) (us : Units) (xs : List Enclosing) → BodyPlace w.state f k us xs
           → Near w 4 (cq x ops (flat_units us) (flat_labels f xs)) (cp x ops (front i (length xs) k done us) (written_labels w.state f xs))
@@ -134,11 +167,8 @@ module _ (w : Sides) where
       settle_units ops k (nest_unit a_block first body behind rest) xs pl = wider 0 4 _ _ (no_lag x ops _ _ _ _ (at_block pl)) (omega arith)
       settle_units ops k (nest_unit a_loop first body behind rest) xs pl = wider 0 4 _ _ (no_lag x ops _ _ _ _ (at_loop pl)) (omega arith)
       settle_units ops k (if_unit c fa a fb b behind rest) xs pl =
-          let next : Code = branch None (arm a fa (front i (suc (length xs)) k fa a)) (arm b fb (front i (suc (length xs)) (k + numbers_in a) fb b)) (front i (length xs) (k + numbers_in a + numbers_in b) behind rest) in
-          let from = cp x ops (front i (length xs) k done (if_unit c fa a fb b behind rest)) (written_labels w.state f xs) in
-          let two : Comes w.written from 2 (cp x ops (got c done) (block_label (length ops) 1 next done ∷ written_labels w.state f xs)) =
-          on w.written 1 1 _ _ _ (reads x ops (branch (Some I32) (choice i k a b) (got c done) next) (written_labels w.state f xs)) (walks w.written 1 _ _ refl) in
-          later 2 0 4 _ _ _ two (no_lag x ops _ _ _ _ (at_operand (length ops) pl)) (omega arith)
+          subst (λ z. Near w 4 (cq x ops z (flat_labels f xs)) (cp x ops (front i (length xs) k done (if_unit c fa a fb b behind rest)) (written_labels w.state f xs))) (none_then (flat_units (if_unit c fa a fb b behind rest)))
+          (begins_if ops k c fa a fb b behind rest xs done pl tt)
 
       -- a piece that isn't empty begins
       begins_guard : (ops : List Value) (k : ℕ) (us : Units) (xs : List Enclosing) (first : Code) → BodyPlace w.state f k us xs → Calls w.free first → GoesOn 0 first
@@ -172,9 +202,9 @@ module _ (w : Sides) where
       settle ops k (nest_unit sh first body behind rest) xs (plain p n) pl ca = begins_guard ops k (nest_unit sh first body behind rest) xs (plain p n) pl ca tt
       settle ops k (nest_unit sh first body behind rest) xs (nest s r y n) pl ca = begins_guard ops k (nest_unit sh first body behind rest) xs (nest s r y n) pl ca tt
       settle ops k (nest_unit sh first body behind rest) xs (branch r y z n) pl ca = begins_guard ops k (nest_unit sh first body behind rest) xs (branch r y z n) pl ca tt
-      settle ops k (if_unit c fa a fb b behind rest) xs (plain p n) pl ca = begins_guard ops k (if_unit c fa a fb b behind rest) xs (plain p n) pl ca tt
-      settle ops k (if_unit c fa a fb b behind rest) xs (nest s r y n) pl ca = begins_guard ops k (if_unit c fa a fb b behind rest) xs (nest s r y n) pl ca tt
-      settle ops k (if_unit c fa a fb b behind rest) xs (branch r y z n) pl ca = begins_guard ops k (if_unit c fa a fb b behind rest) xs (branch r y z n) pl ca tt
+      settle ops k (if_unit c fa a fb b behind rest) xs (plain p n) pl ca = begins_if ops k c fa a fb b behind rest xs (plain p n) pl ca
+      settle ops k (if_unit c fa a fb b behind rest) xs (nest s r y n) pl ca = begins_if ops k c fa a fb b behind rest xs (nest s r y n) pl ca
+      settle ops k (if_unit c fa a fb b behind rest) xs (branch r y z n) pl ca = begins_if ops k c fa a fb b behind rest xs (branch r y z n) pl ca
 
     -- within a piece, or at its end
     pub settle_piece : {r : Role} {by : ℕ} {tail : Code} {outer outer' : List Label} (x : Ctx w r) (pc : (f : GuardedFunc) → r ≡ with_guards f → PiecesCall w.free f.body)
@@ -192,5 +222,6 @@ module _ (w : Sides) where
             → BehindPiece w r by tail outer outer' → Near w 5 (cq x ops tail outer) (cp x ops done outer')
         at_tail x pc (guard_end {f = f} {k = k} {us = us} {xs = xs} h pl) = later 1 4 5 _ _ _ (walks w.written 1 _ _ refl) (settle_units f (pc f refl) x ops k us xs pl) (omega arith)
         at_tail x pc (before_call {f = f} {k = k} {slots = slots} h h2 pl) = later 1 0 5 _ _ _ (walks w.written 1 _ _ refl) (no_lag x ops _ _ _ _ (at_args h2 slots pl)) (omega arith)
+        at_tail x pc (before_if h pl) = later 1 0 5 _ _ _ (walks w.written 1 _ _ refl) (no_lag x ops _ _ _ _ (at_choice pl)) (omega arith)
         at_tail x pc (arm_end pl) = wider 0 5 _ _ (no_lag x ops _ _ _ _ (at_end pl)) (omega arith)
         at_tail x pc func_end = wider 0 5 _ _ (no_lag x ops _ _ _ _ at_return) (omega arith)

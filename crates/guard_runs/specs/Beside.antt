@@ -7,7 +7,7 @@ use Rattle.wa_types.specs.declared.values.Trap.{Trap}
 use Rattle.wa_types.specs.declared.values.Value.{Value}
 use Rattle.wa_types.specs.declared.values.Value.TheVariants as V
 use Rattle.wa_model.specs.Configuration.{Label, block_label, loop_label, Activation, Configuration, running, waiting}
-use Rattle.wa_model.specs.Flat.{followed_by, got, set_to, slots_got, result_got}
+use Rattle.wa_model.specs.Flat.{followed_by, set_to, slots_got, result_got}
 use Rattle.wa_model.specs.Step.{Next, steps, asks, returns, traps, stuck, param_count, same_func_type, memory_max}
 use Rattle.wa_model.specs.Store.{Store, value_at, Did, works, fails, lacks, takes, act}
 use Rattle.wa_model.specs.declared.flat.Operand.{Operand}
@@ -64,13 +64,18 @@ pub record Together (w : Sides) : Type 0 where
 
 -- ---- positions where both sides have the same instruction next
 
--- What both sides go on with behind a piece that is run in lockstep, and by how much its labels are raised.
+-- What both sides go on with behind a piece that is run in lockstep, and by how much its labels are raised. The condition of an
+-- `if` belongs to the piece in front of it.
 pub data BehindPiece (w : Sides) : Role → (by : ℕ) → (tail : Code) → (outer outer' : List Label) → Type 0 where
   guard_end : {f : GuardedFunc} {k : ℕ} {us : Units} {xs : List Enclosing} → (h : ℕ) → BodyPlace w.state f k us xs
       → BehindPiece w (with_guards f) 1 (flat_units us) (flat_labels f xs) (block_label h 0 (front (indices_of w.state f) (length xs) k done us) done ∷ written_labels w.state f xs)
   before_call : {f : GuardedFunc} {k : ℕ} {slots : List ℕ} {x : Callee} {to : Option ℕ} {behind : Code} {rest : Units} {xs : List Enclosing} → (h h2 : ℕ)
       → BodyPlace w.state f k (call_unit slots x to behind rest) xs
       → BehindPiece w (with_guards f) 2 (flat_units (call_unit slots x to behind rest)) (flat_labels f xs) (block_label h 0 (call_code w.state f (length xs) k slots x to behind) done ∷ call_label w.state f h2 (length xs) k rest ∷ written_labels w.state f xs)
+  before_if : {f : GuardedFunc} {k : ℕ} {c : Operand} {fa : Code} {a : Units} {fb : Code} {b : Units} {behind : Code} {rest : Units} {xs : List Enclosing} → (h : ℕ)
+      → BodyPlace w.state f k (if_unit c fa a fb b behind rest) xs
+      → BehindPiece w (with_guards f) 1 (branch None (followed_by fa (flat_units a)) (followed_by fb (flat_units b)) (followed_by behind (flat_units rest))) (flat_labels f xs)
+      (block_label h 1 (branch None (arm a fa (front (indices_of w.state f) (suc (length xs)) k fa a)) (arm b fb (front (indices_of w.state f) (suc (length xs)) (k + numbers_in a) fb b)) (front (indices_of w.state f) (length xs) (k + numbers_in a + numbers_in b) behind rest)) done ∷ written_labels w.state f xs)
   arm_end : {f : GuardedFunc} {k : ℕ} {xs : List Enclosing} → BodyPlace w.state f k no_unit xs
       → BehindPiece w (with_guards f) 0 done (flat_labels f xs) (written_labels w.state f xs)
   func_end : {r : Role} → BehindPiece w r 0 done [] []
@@ -106,10 +111,6 @@ pub data SamePoint (w : Sides) : Role → (ops : List Value) → (code : Code) �
   at_loop : {ops : List Value} {f : GuardedFunc} {k : ℕ} {first : Code} {body : Units} {behind : Code} {rest : Units} {xs : List Enclosing}
       → BodyPlace w.state f k (nest_unit a_loop first body behind rest) xs
       → SamePoint w (with_guards f) ops (flat_units (nest_unit a_loop first body behind rest)) (flat_labels f xs) (front (indices_of w.state f) (length xs) k done (nest_unit a_loop first body behind rest)) (written_labels w.state f xs)
-  at_operand : {ops : List Value} {f : GuardedFunc} {k : ℕ} {c : Operand} {fa : Code} {a : Units} {fb : Code} {b : Units} {behind : Code} {rest : Units} {xs : List Enclosing}
-      → (h : ℕ) → BodyPlace w.state f k (if_unit c fa a fb b behind rest) xs
-      → SamePoint w (with_guards f) ops (flat_units (if_unit c fa a fb b behind rest)) (flat_labels f xs) (got c done)
-      (block_label h 1 (branch None (arm a fa (front (indices_of w.state f) (suc (length xs)) k fa a)) (arm b fb (front (indices_of w.state f) (suc (length xs)) (k + numbers_in a) fb b)) (front (indices_of w.state f) (length xs) (k + numbers_in a + numbers_in b) behind rest)) done ∷ written_labels w.state f xs)
   at_choice : {ops : List Value} {f : GuardedFunc} {k : ℕ} {c : Operand} {fa : Code} {a : Units} {fb : Code} {b : Units} {behind : Code} {rest : Units} {xs : List Enclosing}
       → BodyPlace w.state f k (if_unit c fa a fb b behind rest) xs
       → SamePoint w (with_guards f) ops (branch None (followed_by fa (flat_units a)) (followed_by fb (flat_units b)) (followed_by behind (flat_units rest))) (flat_labels f xs)
