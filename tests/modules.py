@@ -40,27 +40,48 @@ def exported(name, space, index):
     return sized(name.encode()) + bytes([space]) + unsigned(index)
 
 
+# The parts of a module, in the order of their sections 1 to 11. Of the start, the function's index.
+PARTS = ["types", "imports", "sorts", "tables", "memories", "globals", "exports", "start", "elements", "bodies", "data"]
+
+
+def whole(customs=(), **parts):
+    """A module of these parts. A custom section stands, as (id, bytes), behind the section of this id."""
+    sections = [custom for at, custom in customs if at == 0]
+    for id, name in enumerate(PARTS, 1):
+        if name == "start" and name in parts:
+            sections.append(bytes([8]) + sized(unsigned(parts[name])))
+        elif parts.get(name):
+            sections.append(section(id, parts[name]))
+        sections += [custom for at, custom in customs if at == id]
+    return module(*sections)
+
+
+def rewritten(customs=(), functions=0, globals_before=0, memory=False, **parts):
+    """The same with the runtime's parts behind its own: so many functions and globals are imported, and maybe a memory."""
+    sorts, state = parts.get("sorts", []), globals_before + len(parts.get("globals", []))
+    types = [*parts.get("types", []), of_type(I32, b""), of_type(b"", b""), of_type(b"", I32)]
+    own = functions + len(sorts)
+    at = {"state": unsigned(state).hex(), "address": unsigned(state + 1).hex()}
+    exports = [exported(f"asyncify_{name}", 0, own + place) for place, (name, _) in enumerate(NAMES)]
+    parts |= {
+        "types": types,
+        "sorts": [*sorts, *(unsigned(len(types) - 3 + sort) for _, sort in NAMES)],
+        "memories": parts.get("memories") or ([] if memory else [b"\x01\x01\x01"]),
+        "globals": [*parts.get("globals", []), *[b"\x7f\x01\x41\x00\x0b"] * 2],
+        "exports": [*parts.get("exports", []), *exports],
+        "bodies": [*parts.get("bodies", []), *(body(bytes.fromhex(it.format(**at))) for it in BODIES)],
+    }
+    return whole(customs, **parts)
+
+
 def small(types, sorts, exports, bodies):
     """A module of functions alone."""
-    parts = [(1, types), (3, [unsigned(sort) for sort in sorts]), (7, exports), (10, bodies)]
-    return module(*(section(id, entries) for id, entries in parts if entries))
+    return whole(types=types, sorts=[unsigned(sort) for sort in sorts], exports=exports, bodies=bodies)
 
 
 def written(types, sorts, exports, bodies):
     """The same with the runtime's parts behind its own."""
-    own = len(sorts)
-    types = [*types, of_type(I32, b""), of_type(b"", b""), of_type(b"", I32)]
-    sorts = [*sorts, *(len(types) - 3 + sort for _, sort in NAMES)]
-    exports = [*exports, *(exported(f"asyncify_{name}", 0, own + at) for at, (name, _) in enumerate(NAMES))]
-    bodies = [*bodies, *(body(bytes.fromhex(it.format(state="00", address="01"))) for it in BODIES)]
-    return module(
-        section(1, types),
-        section(3, [unsigned(sort) for sort in sorts]),
-        section(5, [b"\x01\x01\x01"]),
-        section(6, [b"\x7f\x01\x41\x00\x0b"] * 2),
-        section(7, exports),
-        section(10, bodies),
-    )
+    return rewritten(types=types, sorts=[unsigned(sort) for sort in sorts], exports=exports, bodies=bodies)
 
 
 def put(name, content):
