@@ -13,8 +13,6 @@ use Rattle.wa_types.specs.declared.syntax.Limits.{Limits}
 use Rattle.wa_types.specs.declared.syntax.Import.{Import}
 use Rattle.wa_types.specs.Base.{Base, added_memories}
 use Rattle.wa_types.specs.Runtime.{zero_global, runtime_globals, with_runtime}
-use Rattle.wa_types.specs.Pausing.{Settings}
-use Rattle.wa_model.specs.Rewrites.{Rewrites}
 use Rattle.wa_types.specs.Memory.{page_size, bytes_of}
 use Rattle.wa_types.specs.Modules.{func_imports, func_type_at, defined_at, imported, imported_memory, all_memories}
 use Rattle.wa_types.proofs.MemoryLemmas.{length-bytes_of}
@@ -30,7 +28,7 @@ use Rattle.wa_model.specs.Instantiation.{Opening, fails_as, opens, opening, leas
 use Rattle.wa_model.specs.Blocking.{Note, note, call_note, fault_of, pause_of, poked, resumed, done_notes, value_of_results, Task, the_start, an_entry, Left, with_outcomes, Asker, inside, outermost, store_at, stack_at, in_start, next_entry, no_store, all_left}
 use Rattle.wa_model.specs.Protocol.{Exports, exports_of, Phase, is_running, unwinds, rewinds, Then, give_zero, test_unwound, pause_there, call_again, test_rewound, give_answer, Held, free, starting, busy, calling, aside, entering, over, put_word, with_words, used_of, protocol, broken, held_on, held_back, held_given, held_ends, held_pauses, held_tested, held_asked, trap_end, busy_step, is_state, zeros_of, answer_note, aside_back, aside_step, busy_enters, held_next, aside_called, held_start, held_started, held_begun, held_continued, store_held}
 use Rattle.wa_model.specs.LawfulStacks.{SuspendedIn}
-use Rattle.range_laws.specs.Ranges.{byte_in, CodesIn, ValuesIn, MemoryIn, StoreIn, ActivationIn, NextIn, EndIn, TicksIn, NoteIn, EntryIn, LeftIn, AskerIn, PokeInside, PhaseIn, ThenIn, HeldIn, HeldFrom, OpeningIn, ProtocolIn, ProtocolMemoryGrows, ProtocolLater, FitsIn, FitsAreas, ComparedIn}
+use Rattle.range_laws.specs.Ranges.{byte_in, CodesIn, ValuesIn, MemoryIn, StoreIn, ActivationIn, NextIn, EndIn, TicksIn, NoteIn, EntryIn, LeftIn, AskerIn, PokeInside, PhaseIn, ThenIn, HeldIn, HeldFrom, OpeningIn, ProtocolIn, ProtocolHoldsArea, ProtocolMemoryGrows, ProtocolLater, FitsIn, FitsAreas, ComparedIn}
 use Rattle.range_laws.proofs.Acts.{none_in, more_in}
 use Rattle.range_laws.proofs.Bytes.{bytes_of_in, overwritten_in}
 use Rattle.range_laws.proofs.Steps.{func_in, entered_in, step_in, zeros_in}
@@ -301,29 +299,47 @@ held_on_from low s l [] ok h = ok
 held_on_from low s l (e ∷ es) ok h = (ok, h)
 
 module _ (p : Module) (w : CodesIn p) (plan : Plan) (n : ℕ) (area : AreaFits p plan.area) where
-  ran_in : (start : Option ℕ) (l : Left) (o : Opening) → OpeningIn (least_of (all_memories p) * page_size) o → LeftIn l
-      → All (NoteIn 0) (held_continued p plan n (held_begun start l o)).events × StoreIn 0 (store_held (held_continued p plan n (held_begun start l o)).last)
+  abbrev declared : ℕ
+  declared = least_of (all_memories p) * page_size
+
+  abbrev RunsFrom : ℕ → Ran Held Note → Type 0
+  RunsFrom low r = All (NoteIn low) (held_continued p plan n r).events × HeldFrom low (held_continued p plan n r).last
+
+  -- where it opens the memory is as declared
+  opened_in : (start : Option ℕ) (l : Left) (s : Store) → StoreIn declared s → LeftIn l → RunsFrom declared (held_started s l start)
+  opened_in start l s h k =
+      let same : declared ≤ declared = omega arith in
+      after_keeps (protocol p (exports_of p) plan) (HeldFrom declared) (NoteIn declared)
+      (λ u c. turn_in p w (exports_of p) plan declared area.least area.inside declared u same c) n (held_started s l start) (begins_in start)
+    where
+      begins_in : (o : Option ℕ) → All (NoteIn declared) (held_started s l o).events × HeldFrom declared (held_started s l o).last
+      begins_in None = (done_in _ s l.entries h, (_, omega arith, held_on_from _ s l l.entries h k))
+      begins_in (Some f) = (All-nil (NoteIn _), (_, omega arith, (h, k)))
+
+  runs_lower : (low size : ℕ) (r : Ran Held Note) → low ≤ size → RunsFrom size r → RunsFrom low r
+  runs_lower low size r le h =
+      let far : size ≤ (h.1).0 = (h.1).1 in
+      (notes_lower low size _ le h.0, ((h.1).0, omega arith, (h.1).2))
+
+  ran_in : (start : Option ℕ) (l : Left) (o : Opening) → OpeningIn declared o → LeftIn l → RunsFrom 0 (held_begun start l o)
   ran_in start l (fails_as e) h k = by_count n
     where
-      by_count : (n : ℕ) → All (NoteIn 0) (held_continued p plan n (held_begun start l (fails_as e))).events × StoreIn 0 (store_held (held_continued p plan n (held_begun start l (fails_as e))).last)
-      by_count zero = (one_note 0 _ (note_in 0 (ended e) no_store h no_store_in), no_store_in)
-      by_count (suc n) = (one_note 0 _ (note_in 0 (ended e) no_store h no_store_in), no_store_in)
-  ran_in start l (opens s) h k = by_start start
-    where
-      by_start : (o : Option ℕ) → All (NoteIn 0) (held_continued p plan n (held_started s l o)).events × StoreIn 0 (store_held (held_continued p plan n (held_started s l o)).last)
-      by_start o =
-          let low = least_of (all_memories p) * page_size in
-          let same : low ≤ low = omega arith in
-          let first : All (NoteIn low) (held_started s l o).events × HeldFrom low (held_started s l o).last = begins_in o in
-          let r = after_keeps (protocol p (exports_of p) plan) (HeldFrom low) (NoteIn low) (λ u c. turn_in p w (exports_of p) plan low area.least area.inside low u same c) n (held_started s l o) first in
-          (notes_lower 0 low _ (omega arith) r.0, store_lower 0 (r.1).0 _ (omega arith) (held_store (r.1).0 _ (r.1).2))
-        where
-          begins_in : (o : Option ℕ) → All (NoteIn (least_of (all_memories p) * page_size)) (held_started s l o).events × HeldFrom (least_of (all_memories p) * page_size) (held_started s l o).last
-          begins_in None = (done_in _ s l.entries h, (_, omega arith, held_on_from _ s l l.entries h k))
-          begins_in (Some f) = (All-nil (NoteIn _), (_, omega arith, (h, k)))
+      by_count : (n : ℕ) → All (NoteIn 0) (held_continued p plan n (held_begun start l (fails_as e))).events × HeldFrom 0 (held_continued p plan n (held_begun start l (fails_as e))).last
+      by_count zero = (one_note 0 _ (note_in 0 (ended e) no_store h no_store_in), (0, omega arith, no_store_in))
+      by_count (suc n) = (one_note 0 _ (note_in 0 (ended e) no_store h no_store_in), (0, omega arith, no_store_in))
+  ran_in start l (opens s) h k = runs_lower 0 declared (held_started s l start) (omega arith) (opened_in start l s h k)
 
 pub protocol_in : ProtocolIn
 protocol_in p plan os n w v area fs = ran_in p w plan n area p.start (all_left plan os) (opening p plan.globals) (openings_in p plan.globals w v.globals) (record { entries = v.entries; outcomes = fs })
+
+pub protocol_area : ProtocolHoldsArea
+protocol_area p plan os n s w v area fs e =
+    let low = plan.area.at + plan.area.len in
+    let l = all_left plan os in
+    let size = least_of (all_memories p) * page_size in
+    let opened : StoreIn size s = subst (OpeningIn size) e (openings_in p plan.globals w v.globals) in
+    let r = runs_lower p w plan n area low size (held_started s l p.start) area.inside (opened_in p w plan n area p.start l s opened (record { entries = v.entries; outcomes = fs })) in
+    subst (λ (o : Opening). RunsFrom p w plan n area low (held_begun p.start l o)) (sym e) r
 
 -- ---- longer runs
 
@@ -403,18 +419,18 @@ runtime_in =
     let fits : CodeFits zero_global.init = (omega arith, tt) in
     All-cons (λ (g : GlobalDef). CodeFits g.init) zero_global (zero_global ∷ []) fits (All-cons (λ (g : GlobalDef). CodeFits g.init) zero_global [] fits (All-nil (λ (g : GlobalDef). CodeFits g.init)))
 
--- a rewritten module holds constants in range, where its bodies do
-rewritten_in : (m : Module) (s : Settings) (p : Module) → CodesIn m → All (λ (f : Func). CodeFits f.body) p.funcs → Rewrites m s p → CodesIn p
+-- a module with the runtime's globals holds constants in range, where its bodies do
+rewritten_in : (m p : Module) → CodesIn m → All (λ (f : Func). CodeFits f.body) p.funcs → p.globals ≡ (with_runtime m).globals → p.segments ≡ m.segments → CodesIn p
 unfolding with_runtime
-rewritten_in m s p w fs r = record {
+rewritten_in m p w fs globals segments = record {
   funcs = fs;
-  globals = subst (All (λ (g : GlobalDef). CodeFits g.init)) (sym r.globals) (All-append (λ (g : GlobalDef). CodeFits g.init) m.globals runtime_globals w.globals runtime_in);
-  segments = subst (All (λ (s : Segment). All byte_in s.bytes)) (sym r.segments) w.segments;
+  globals = subst (All (λ (g : GlobalDef). CodeFits g.init)) (sym globals) (All-append (λ (g : GlobalDef). CodeFits g.init) m.globals runtime_globals w.globals runtime_in);
+  segments = subst (All (λ (s : Segment). All byte_in s.bytes)) (sym segments) w.segments;
 }
 
 pub compared_in : ComparedIn
-compared_in m s p plan os n k wm bodies r h fs =
-    let codes = well_formed_in m wm in (
-      (blocking_in m plan os n codes (fits_in m plan h) fs).0,
-      (protocol_in p plan os k (rewritten_in m s p codes bodies r) (fits_in m plan h) (fits_areas m p plan r.imports r.memories h) fs).0,
-    )
+compared_in m p plan os n k wm bodies imports memories globals segments h fs =
+    let codes = well_formed_in m wm in
+    let first = blocking_in m plan os n codes (fits_in m plan h) fs in
+    let second = protocol_in p plan os k (rewritten_in m p codes bodies globals segments) (fits_in m plan h) (fits_areas m p plan imports memories h) fs in
+    (first.0, first.1, second.0, second.1)
