@@ -63,21 +63,26 @@ module _ (m : Module) (w : CodesIn m) (plan : Plan) (low : ℕ) where
   ends_in : (k : ℕ) (x : Note) (e : End) → NoteIn low x → EndIn e → TurnIn (ends_at_call k x e)
   ends_in k x e nx h = (two_notes low x _ nx (note_in low (ended e) x.store h nx.store), nx.store)
 
-  tested_in : (k import : ℕ) (args : List Value) (who : Asker) (l : Left) (a : Answer) (o : Option End) → ValuesIn args → AskerIn low who → LeftIn l → AnswerFits a → FaultIn o → (o ≡ None → All (PokeInside (length (store_at who).memory)) a.pokes)
+  tested_in : (k import : ℕ) (args : List Value) (who : Asker) (l : Left) (a : Answer) (o : Option End) → ValuesIn args → AskerIn low who → LeftIn l
+      → AnswerFits a → FaultIn o → (o ≡ None → All (PokeInside (length (store_at who).memory)) a.pokes)
       → TurnIn (tested m k import args who l a o)
   tested_in k import args who l a (Some e) va wh h f bad on =
-      ends_in k (call_note import args (store_at who) (stack_at m who) None) e (call_note_in low import args (store_at who) (stack_at m who) None va (asker_store low who wh) (stack_in low m who wh) tt) bad
+      ends_in k (call_note import args (store_at who) (stack_at m who) None) e
+      (call_note_in low import args (store_at who) (stack_at m who) None va (asker_store low who wh) (stack_in low m who wh) tt) bad
   tested_in k import args who l a None va wh h f bad on =
       let ok = asker_store low who wh in
       go_on_in k (call_note import args (store_at who) (stack_at m who) (pause_of a.ticks)) a (poked (store_at who) a.pokes) l who
-      (call_note_in low import args (store_at who) (stack_at m who) (pause_of a.ticks) va ok (stack_in low m who wh) (ticks_in a.ticks f.ticks)) f (answered_in low (store_at who) a f (on refl) ok) h wh
+      (call_note_in low import args (store_at who) (stack_at m who) (pause_of a.ticks) va ok (stack_in low m who wh) (ticks_in a.ticks f.ticks)) f
+      (answered_in low (store_at who) a f (on refl) ok) h wh
 
-  asked_in : (k import : ℕ) (args : List Value) (who : Asker) (l : Left) (os : List Outcome) → ValuesIn args → AskerIn low who → All EntryIn l.entries → All OutcomeFits os → TurnIn (asked m plan k import args who l os)
+  asked_in : (k import : ℕ) (args : List Value) (who : Asker) (l : Left) (os : List Outcome) → ValuesIn args → AskerIn low who
+      → All EntryIn l.entries → All OutcomeFits os → TurnIn (asked m plan k import args who l os)
   asked_in k import args who l [] va wh h fs =
       let ok = asker_store low who wh in
       (one_note low _ (call_note_in low import args (store_at who) (stack_at m who) None va ok (stack_in low m who wh) tt), ok)
   asked_in k import args who l (refused e ∷ os) va wh h fs =
-      ends_in k (call_note import args (store_at who) (stack_at m who) None) e (call_note_in low import args (store_at who) (stack_at m who) None va (asker_store low who wh) (stack_in low m who wh) tt) (refusal_in e (All-head OutcomeFits (refused e) os fs))
+      ends_in k (call_note import args (store_at who) (stack_at m who) None) e
+      (call_note_in low import args (store_at who) (stack_at m who) None va (asker_store low who wh) (stack_in low m who wh) tt) (refusal_in e (All-head OutcomeFits (refused e) os fs))
   asked_in k import args who l (given a ∷ os) va wh h fs =
       let f : AnswerFits a = All-head OutcomeFits (given a) os fs in
       let results = (func_type_at m import).results in
@@ -98,7 +103,8 @@ module _ (m : Module) (w : CodesIn m) (plan : Plan) (low : ℕ) where
 
   next_in : (s : Store) (l : Left) (es : List Entry) → StoreIn low s → All EntryIn es → All OutcomeFits l.outcomes → TurnIn (enter_next m s l es)
   next_in s l [] ok h k = tt
-  next_in s l (e ∷ es) ok h k = enters_in e s (record { number = l.number; entries = es; outcomes = l.outcomes }) (defined_at m e.func) (All-head EntryIn e es h) ok (left_entries l e es h k) (func_in m w e.func)
+  next_in s l (e ∷ es) ok h k =
+      enters_in e s (record { number = l.number; entries = es; outcomes = l.outcomes }) (defined_at m e.func) (All-head EntryIn e es h) ok (left_entries l e es h k) (func_in m w e.func)
 
   start_in : (x : ℕ) (s : Store) (l : Left) (o : Option Func) → StoreIn low s → LeftIn l → ((f : Func) → o ≡ Some f → CodeFits f.body) → TurnIn (start_called m plan x s l o)
   start_in x s l (Some f) ok h ff = (All-nil (NoteIn low), (tt, entered_in low s [] [] x f ok (All-nil _) none_in (ff f refl), h))

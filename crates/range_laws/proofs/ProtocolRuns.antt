@@ -101,7 +101,8 @@ module _ (p : Module) (w : CodesIn p) (x : Exports) (plan : Plan) (base : ℕ) (
     ends_in k n e nx h = (two_notes low n _ nx (note_in low (ended e) n.store h nx.store), same low (over n.store) nx.store)
 
     -- a pause: its pokes lie inside the memory as it is
-    pauses_in : (k : ℕ) (n : Note) (import : ℕ) (a : Answer) (l : Left) (who : Asker) → NoteIn low n → AnswerFits a → LeftIn l → AskerIn low who → All (PokeInside (length (store_at who).memory)) a.pokes → MoveIn low (held_pauses x plan k n import a l who)
+    pauses_in : (k : ℕ) (n : Note) (import : ℕ) (a : Answer) (l : Left) (who : Asker) → NoteIn low n → AnswerFits a → LeftIn l → AskerIn low who
+        → All (PokeInside (length (store_at who).memory)) a.pokes → MoveIn low (held_pauses x plan k n import a l who)
     pauses_in k n import a l (inside (an_entry e) c) nx f h wh pokes =
         let size = length c.store.memory in
         let ok : StoreIn low c.store = wh.1.store in
@@ -124,10 +125,12 @@ module _ (p : Module) (w : CodesIn p) (x : Exports) (plan : Plan) (base : ℕ) (
     pauses_in k n import a l (inside the_start c) nx f h wh pokes = tt
     pauses_in k n import a l (outermost s) nx f h wh pokes = tt
 
-    tested_in : (k import : ℕ) (args : List Value) (who : Asker) (l : Left) (a : Answer) (o : Option End) (pause : Option ℕ) → ValuesIn args → AskerIn low who → LeftIn l → AnswerFits a → FaultIn o → (pause ≡ pause_of a.ticks)
+    tested_in : (k import : ℕ) (args : List Value) (who : Asker) (l : Left) (a : Answer) (o : Option End) (pause : Option ℕ) → ValuesIn args
+        → AskerIn low who → LeftIn l → AnswerFits a → FaultIn o → (pause ≡ pause_of a.ticks)
         → (o ≡ None → All (PokeInside (length (store_at who).memory)) a.pokes) → MoveIn low (held_tested p x plan k import args who l a o pause)
     tested_in k import args who l a (Some e) pause va wh h f bad z on =
-        ends_in k (call_note import args (store_at who) (stack_at p who) None) e (call_note_in low import args (store_at who) (stack_at p who) None va (asker_store low who wh) (stack_in low p who wh) tt) bad
+        ends_in k (call_note import args (store_at who) (stack_at p who) None) e
+        (call_note_in low import args (store_at who) (stack_at p who) None va (asker_store low who wh) (stack_in low p who wh) tt) bad
     tested_in k import args who l a None None va wh h f bad z on =
         let ok = asker_store low who wh in
         given_in k (call_note import args (store_at who) (stack_at p who) None) a (poked (store_at who) a.pokes) l who
@@ -137,12 +140,14 @@ module _ (p : Module) (w : CodesIn p) (x : Exports) (plan : Plan) (base : ℕ) (
         pauses_in k (call_note import args (store_at who) (stack_at p who) (Some ticks)) import a l who
         (call_note_in low import args (store_at who) (stack_at p who) (Some ticks) va ok (stack_in low p who wh) (subst TicksIn (sym z) (ticks_in a.ticks f.ticks))) f h wh (on refl)
 
-    asked_in : (k import : ℕ) (args : List Value) (who : Asker) (l : Left) (os : List Outcome) → ValuesIn args → AskerIn low who → All EntryIn l.entries → All OutcomeFits os → MoveIn low (held_asked p x plan k import args who l os)
+    asked_in : (k import : ℕ) (args : List Value) (who : Asker) (l : Left) (os : List Outcome) → ValuesIn args → AskerIn low who
+        → All EntryIn l.entries → All OutcomeFits os → MoveIn low (held_asked p x plan k import args who l os)
     asked_in k import args who l [] va wh h fs =
         let ok = asker_store low who wh in
         (one_note low _ (call_note_in low import args (store_at who) (stack_at p who) None va ok (stack_in low p who wh) tt), same low (over (store_at who)) ok)
     asked_in k import args who l (refused e ∷ os) va wh h fs =
-        ends_in k (call_note import args (store_at who) (stack_at p who) None) e (call_note_in low import args (store_at who) (stack_at p who) None va (asker_store low who wh) (stack_in low p who wh) tt) (refusal_in e (All-head OutcomeFits (refused e) os fs))
+        ends_in k (call_note import args (store_at who) (stack_at p who) None) e
+        (call_note_in low import args (store_at who) (stack_at p who) None va (asker_store low who wh) (stack_in low p who wh) tt) (refusal_in e (All-head OutcomeFits (refused e) os fs))
     asked_in k import args who l (given a ∷ os) va wh h fs =
         let f : AnswerFits a = All-head OutcomeFits (given a) os fs in
         let results = (func_type_at p import).results in
@@ -176,7 +181,8 @@ module _ (p : Module) (w : CodesIn p) (x : Exports) (plan : Plan) (base : ℕ) (
     answer_in : (value : Option Value) (s at_pause : Store) → ValueFits value → StoreIn low s → StoreIn 0 at_pause → NoteIn low (answer_note value s at_pause)
     answer_in value s at_pause vf ok since = record { event = vf; store = ok; stack = All-nil SuspendedIn; pause = tt; since = since }
 
-    aside_back_in : (k : ℕ) (ph : Phase) (th : Then) (l : Left) (results : List Value) (s : Store) → PhaseIn low ph → ThenIn th → LeftIn l → StoreIn low s → MoveIn low (aside_back p x plan k ph th l results s)
+    aside_back_in : (k : ℕ) (ph : Phase) (th : Then) (l : Left) (results : List Value) (s : Store) → PhaseIn low ph → ThenIn th
+        → LeftIn l → StoreIn low s → MoveIn low (aside_back p x plan k ph th l results s)
     aside_back_in k (unwinds e i a) (give_zero c) l results s ph th h ok =
         (quiet low, same low (busy (unwinds e i a) (resumed c s (zeros_of p i)) l) (ph, resumed_in low c s (zeros_of p i) th ok (zeros_in (func_type_at p i).results), h))
     aside_back_in k (unwinds e i a) test_unwound l results s ph th h ok = by_state (is_state 1 results)
@@ -200,7 +206,8 @@ module _ (p : Module) (w : CodesIn p) (x : Exports) (plan : Plan) (base : ℕ) (
         let f : AnswerFits a = ph.0.fits in
         let there : StoreIn low (poked s a.pokes) = poked_store_in low s a f ph.0.inside ok in (
           one_note low _ (answer_in a.value (poked s a.pokes) at_pause f.value there ph.1),
-          same low (busy (is_running (an_entry e)) (resumed c (poked s a.pokes) (option_to_list a.value)) l) (ph.0.entry, resumed_in low c (poked s a.pokes) (option_to_list a.value) th there (optional_in a.value f.value), h),
+          same low (busy (is_running (an_entry e)) (resumed c (poked s a.pokes) (option_to_list a.value)) l)
+              (ph.0.entry, resumed_in low c (poked s a.pokes) (option_to_list a.value) th there (optional_in a.value f.value), h),
         )
     aside_back_in k _ _ l results s ph th h ok = tt
 
@@ -211,7 +218,8 @@ module _ (p : Module) (w : CodesIn p) (x : Exports) (plan : Plan) (base : ℕ) (
     aside_in ph th l (traps k trap s) a b h ok = trapped_in k ph trap s ok
     aside_in ph th l stuck a b h ok = tt
 
-    enters_in : (ph : Phase) (e : Entry) (s : Store) (l : Left) (o : Option Func) → PhaseIn low ph → EntryIn e → StoreIn low s → LeftIn l → ((f : Func) → o ≡ Some f → CodeFits f.body) → MoveIn low (busy_enters ph e s l o)
+    enters_in : (ph : Phase) (e : Entry) (s : Store) (l : Left) (o : Option Func) → PhaseIn low ph → EntryIn e → StoreIn low s → LeftIn l
+        → ((f : Func) → o ≡ Some f → CodeFits f.body) → MoveIn low (busy_enters ph e s l o)
     enters_in ph e s l None a eh ok h ff = tt
     enters_in ph e s l (Some f) a eh ok h ff = (quiet low, same low (busy ph (entered s [] e.args e.func f) l) (a, entered_in low s [] e.args e.func f ok (All-nil ActivationIn) eh (ff f refl), h))
 
@@ -221,7 +229,8 @@ module _ (p : Module) (w : CodesIn p) (x : Exports) (plan : Plan) (base : ℕ) (
         let eh = All-head EntryIn e es h in
         enters_in (is_running (an_entry e)) e s (record { number = l.number; entries = es; outcomes = l.outcomes }) (defined_at p e.func) eh eh ok (left_entries l e es h k) (func_in p w e.func)
 
-    called_in : (ph : Phase) (s : Store) (f : ℕ) (args : List Value) (th : Then) (l : Left) (o : Option Func) → PhaseIn low ph → StoreIn low s → ValuesIn args → ThenIn th → LeftIn l → ((g : Func) → o ≡ Some g → CodeFits g.body) → MoveIn low (aside_called ph s f args th l o)
+    called_in : (ph : Phase) (s : Store) (f : ℕ) (args : List Value) (th : Then) (l : Left) (o : Option Func) → PhaseIn low ph → StoreIn low s → ValuesIn args → ThenIn th
+        → LeftIn l → ((g : Func) → o ≡ Some g → CodeFits g.body) → MoveIn low (aside_called ph s f args th l o)
     called_in ph s f args th l None a ok va b h ff = tt
     called_in ph s f args th l (Some g) a ok va b h ff = (quiet low, same low (aside ph (entered s [] args f g) th l) (a, entered_in low s [] args f g ok (All-nil ActivationIn) va (ff g refl), b, h))
 
@@ -280,7 +289,8 @@ held_whole low (free s l) h = (store_whole low s h.0, h.1)
 held_whole low (starting f s l) h = (store_whole low s h.0, h.1)
 held_whole low (busy ph c l) h = (phase_raise low (length c.store.memory) ph h.1.store.memory.least h.0, record { store = store_whole low c.store h.1.store; here = h.1.here; under = h.1.under }, h.2)
 held_whole low (calling ph s f args th l) h = (phase_raise low (length s.memory) ph h.1.memory.least h.0, store_whole low s h.1, h.2, h.3, h.4)
-held_whole low (aside ph c th l) h = (phase_raise low (length c.store.memory) ph h.1.store.memory.least h.0, record { store = store_whole low c.store h.1.store; here = h.1.here; under = h.1.under }, h.2, h.3)
+held_whole low (aside ph c th l) h =
+    (phase_raise low (length c.store.memory) ph h.1.store.memory.least h.0, record { store = store_whole low c.store h.1.store; here = h.1.here; under = h.1.under }, h.2, h.3)
 held_whole low (entering ph e s l) h = (phase_raise low (length s.memory) ph h.2.memory.least h.0, h.1, store_whole low s h.2, h.3)
 held_whole low (over s) h = store_whole low s h
 
@@ -330,7 +340,8 @@ module _ (p : Module) (w : CodesIn p) (plan : Plan) (n : ℕ) (area : AreaFits p
   ran_in start l (opens s) h k = runs_lower 0 declared (held_started s l start) (omega arith) (opened_in start l s h k)
 
 pub protocol_in : ProtocolIn
-protocol_in p plan os n w v area fs = ran_in p w plan n area p.start (all_left plan os) (opening p plan.globals) (openings_in p plan.globals w v.globals) (record { entries = v.entries; outcomes = fs })
+protocol_in p plan os n w v area fs =
+    ran_in p w plan n area p.start (all_left plan os) (opening p plan.globals) (openings_in p plan.globals w v.globals) (record { entries = v.entries; outcomes = fs })
 
 pub protocol_area : ProtocolHoldsArea
 protocol_area p plan os n s w v area fs e =
@@ -344,7 +355,8 @@ protocol_area p plan os n s w v area fs e =
 -- ---- longer runs
 
 -- a run that is over before it begins stays so
-none_moves : (p : Module) (plan : Plan) (low : ℕ) (t : Held) → t ≡ over no_store → TurnKeeps (protocol p (exports_of p) plan) (λ (u : Held). u ≡ over no_store) (NoteIn low) (protocol p (exports_of p) plan t)
+none_moves : (p : Module) (plan : Plan) (low : ℕ) (t : Held) → t ≡ over no_store
+    → TurnKeeps (protocol p (exports_of p) plan) (λ (u : Held). u ≡ over no_store) (NoteIn low) (protocol p (exports_of p) plan t)
 none_moves p plan low t e = subst (λ (u : Held). TurnKeeps (protocol p (exports_of p) plan) (λ (u : Held). u ≡ over no_store) (NoteIn low) (protocol p (exports_of p) plan u)) (sym e) tt
 
 -- what is made later than so much of a run
@@ -393,7 +405,8 @@ module _ (p : Module) (w : CodesIn p) (plan : Plan) (n more : ℕ) (area : AreaF
       by_start (Some f) = held_later (held_started s l (Some f)) (_, omega arith, (h, k))
 
 pub protocol_later : ProtocolLater
-protocol_later p plan os n more w v area fs = ran_later p w plan n more area p.start (all_left plan os) (opening p plan.globals) (openings_in p plan.globals w v.globals) (record { entries = v.entries; outcomes = fs })
+protocol_later p plan os n more w v area fs =
+    ran_later p w plan n more area p.start (all_left plan os) (opening p plan.globals) (openings_in p plan.globals w v.globals) (record { entries = v.entries; outcomes = fs })
 
 -- ---- plans that fit
 

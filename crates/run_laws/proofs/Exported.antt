@@ -32,7 +32,8 @@ none_found : (es : List Export) (name : List ℕ) → Contains runtime_names nam
 none_found [] name c h = refl
 none_found (e ∷ es) name c h = by_name (same_name e.name name) refl (none_found es name c (All-tail NoRuntimeName e es h)) (All-head NoRuntimeName e es h)
   where
-    by_name : (t : Bool) → same_name e.name name ≡ t → find (λ (e : Export). same_name e.name name) es ≡ None → (Contains runtime_names e.name → ⊥) → (if t then Some e else find (λ (e : Export). same_name e.name name) es) ≡ None
+    by_name : (t : Bool) → same_name e.name name ≡ t → find (λ (e : Export). same_name e.name name) es ≡ None → (Contains runtime_names e.name → ⊥)
+        → (if t then Some e else find (λ (e : Export). same_name e.name name) es) ≡ None
     by_name true q ih differs = absurd (differs (subst (λ n. Contains runtime_names n) (sym (same_is e.name name q)) c))
     by_name false q ih differs = ih
 
