@@ -20,7 +20,7 @@ use Rattle.wa_types.specs.Memory.{Memory, number_at, with_number as number_put, 
 use Rattle.wa_types.specs.Typing.{type_of}
 use Rattle.wa_ops.specs.Operate.{operate, number_of}
 use Rattle.wa_model.specs.LawfulStacks.{LeadsTo}
-use Rattle.stack_laws.specs.Standing.{calls_from, Remains, LabelsRemain, StandsAt, WaitsAt, CallersAt, ConfigurationAt, NextAt}
+use Rattle.stack_laws.proofs.StandingStates.{calls_from, Remains, LabelsRemain, StandsAt, WaitsAt, CallersAt, ConfigurationAt, NextAt}
 
 -- a part more stands before
 past : (all before xs ys : List Callee) → all ≡ before ++ (xs ++ ys) → all ≡ (before ++ xs) ++ ys
@@ -129,12 +129,12 @@ module _ (m : Module) (table : List (Option ℕ)) (root : ℕ) where
             let lt : length under + 1 < 4096 = ltb-true _ _ z in
             record { same = e; here = body_stands m x g there; under = (c, to, (f, before, is, at, lb), u); few = omega arith }
         by_depth false z = e
-    invoke_at c s ls own ops rest labels params x None before e to at lb there = by_import (ltb x (func_imports m))
+    invoke_at c s ls own ops rest labels params x None before e to at lb there = by_import (ltb x (func_imports m)) refl
       where
-        by_import : (b : Bool) → NextAt m table root
+        by_import : (b : Bool) → ltb x (func_imports m) ≡ b → NextAt m table root
             (cond b (asks params x (reverse (take params ops)) (record { store = s; here = waiting fn ls (drop params ops) (own ++ take params ops) rest labels; under = under })) stuck)
-        by_import true = record { same = e; stack = (c, to, (f, before, is, at, lb), u); few = few }
-        by_import false = tt
+        by_import true z = record { same = e; stack = (c, to, (f, before, is, at, lb), u); few = few; imported = ltb-true x (func_imports m) z }
+        by_import false z = tt
 
     through_at : (s : Store) (ls ops : List Value) (n : ℕ) (rest : Code) (labels : List Label) (sort : ℕ) (o : Option (Option ℕ)) (before : List Callee) → s.table ≡ table → slice_get s.table n ≡ o
         → calls_in f ≡ before ++ indirect sort ∷ calls_from rest labels → LabelsRemain (calls_in f) labels → NextAt m table root (through m s fn under ls (V.I32 n ∷ []) ops rest labels sort o)
