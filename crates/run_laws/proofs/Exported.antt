@@ -110,7 +110,8 @@ free_names first (e ∷ es) h =
     clash : Contains runtime_names e.name → list_any (same_name e.name) (map (λ (e : Export). e.name) (es ++ runtime_exports first)) ≡ false → ⊥
     clash c none =
         let there : list_any (same_name e.name) runtime_names ≡ true = list_any_at (same_name e.name) runtime_names c.0 e.name c.1 (ap (same_name e.name) c.2 ∙ same_self e.name) in
-        let split = ap (list_any (same_name e.name)) (map-append (λ (e : Export). e.name) es (runtime_exports first)) ∙ list_any-append (same_name e.name) (map (λ (e : Export). e.name) es) runtime_names in
+        let split =
+        ap (list_any (same_name e.name)) (map-append (λ (e : Export). e.name) es (runtime_exports first)) ∙ list_any-append (same_name e.name) (map (λ (e : Export). e.name) es) runtime_names in
         let found : list_any (same_name e.name) (map (λ (e : Export). e.name) (es ++ runtime_exports first)) ≡ true =
         split ∙ ap (λ b. list_any (same_name e.name) (map (λ (e : Export). e.name) es) || b) there ∙ or_true (list_any (same_name e.name) (map (λ (e : Export). e.name) es)) in
         both_ways (list_any (same_name e.name) (map (λ (e : Export). e.name) (es ++ runtime_exports first))) none found

@@ -3,6 +3,7 @@ pub mod Exported
 pub mod Growing
 pub mod Keeping
 pub mod RewrittenByHand
+pub mod Seeing
 pub mod Silence
 pub mod Sizes
 pub mod Stopping
