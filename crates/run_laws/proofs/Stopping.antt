@@ -189,7 +189,7 @@ module _ (b : Module) (v : Valid b) (plan : Plan) where
   stops_over (runs task c l) h e = absurd (step_goes task l h.0 (step b c) (steps_fit b h.0 c v h.1) e)
   stops_over (halts s) h e = (s, refl)
 
-start_there : (b : Module) (x : ℕ) (o : Option ℕ) → Each (λ y. y < length (func_sorts b)) (start_indices o) → o ≡ Some x → x < length (func_sorts b)
+pub start_there : (b : Module) (x : ℕ) (o : Option ℕ) → Each (λ y. y < length (func_sorts b)) (start_indices o) → o ≡ Some x → x < length (func_sorts b)
 start_there b x None h e = cc
 start_there b x (Some y) h e = let z : y ≡ x = cc in subst (λ n. n < length (func_sorts b)) z h.0
 

@@ -146,7 +146,7 @@ pause_outside : (in_start unlisted : Bool) (import ticks : ℕ) → bad_pause in
 pause_outside true unlisted import ticks e = cc
 pause_outside false unlisted import ticks e = refl
 
-fault_outside : (results : List ValType) (size : ℕ) (plan : Plan) (in_start : Bool) (import : ℕ) (a : Answer) (ticks : ℕ)
+pub fault_outside : (results : List ValType) (size : ℕ) (plan : Plan) (in_start : Bool) (import : ℕ) (a : Answer) (ticks : ℕ)
     → a.ticks ≡ suc ticks → fault_of results size plan in_start import a ≡ None → in_start ≡ false
 fault_outside results size plan in_start import a ticks t e =
     let last = or_else_last (bad_poke size plan.area a.pokes) _ (or_else_last _ _ e) in
