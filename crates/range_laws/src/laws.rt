@@ -1,6 +1,6 @@
 //! Laws of ranges and of memories. Each is the contract of a function that does nothing.
 
-ghost use Rattle.range_laws.specs.Ranges.{AnswersIn, BlockingIn, BlockingLater, BlockingMemoryGrows, CallsIn, ComparedIn, EndsIn, FitsAreas, FitsIn, OpeningsIn, OperatorsIn, ProtocolIn, ProtocolLater, ProtocolMemoryGrows, StepsIn, StretchesIn, WellFormedIn};
+ghost use Rattle.range_laws.specs.Ranges.{AnswersIn, BlockingHoldsArea, BlockingIn, BlockingLater, BlockingMemoryGrows, CallsIn, ComparedIn, EndsIn, FitsAreas, FitsIn, OpeningsIn, OperatorsIn, ProtocolHoldsArea, ProtocolIn, ProtocolLater, ProtocolMemoryGrows, StepsIn, StretchesIn, WellFormedIn};
 
 /// What an operator makes of operands in range is in range (standard, section 4.4.1).
 pub fn operators_in_range()
@@ -30,6 +30,12 @@ pub fn runs_in_range()
     ensures blocking { BlockingIn }
     ensures protocol { ProtocolIn }
     ensures compared { ComparedIn }
+{}
+
+/// Where there is an instance, the area of a plan that fits lies inside the memory all along a run.
+pub fn area_stays_inside()
+    ensures blocking { BlockingHoldsArea }
+    ensures protocol { ProtocolHoldsArea }
 {}
 
 /// No move makes the memory shorter, and it stays whole pages, 1,024 of them at most.

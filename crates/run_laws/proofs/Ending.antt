@@ -115,7 +115,8 @@ module _ (m : Module) (plan : Plan) where
 
   back_ends : (k : ℕ) (task : Task) (results : List Value) (s : Store) (l : Left) → Ends (task_back k task results s l)
   back_ends k the_start results s l = done_ends s l l.entries
-  back_ends k (an_entry e) results s l = front_ends (StateOver (on_to s (next_entry l) l.entries)) (note (returned l.number (value_of_results results)) s) (done_notes s l.entries) refl (done_ends s (next_entry l) l.entries)
+  back_ends k (an_entry e) results s l =
+      front_ends (StateOver (on_to s (next_entry l) l.entries)) (note (returned l.number (value_of_results results)) s) (done_notes s l.entries) refl (done_ends s (next_entry l) l.entries)
 
   go_on_ends : (k : ℕ) (x : Note) (a : Answer) (s : Store) (l : Left) (who : Asker) → is_end x.event ≡ false → Ends (go_on k x a s l who)
   go_on_ends k x a s l (inside task c) e = (e, λ f. cc)
@@ -128,7 +129,8 @@ module _ (m : Module) (plan : Plan) where
   asked_ends : (k import : ℕ) (args : List Value) (who : Asker) (l : Left) (os : List Outcome) → Ends (asked m plan k import args who l os)
   asked_ends k import args who l [] = λ e. tt
   asked_ends k import args who l (refused e ∷ os) = (refl, λ f. tt)
-  asked_ends k import args who l (given a ∷ os) = tested_ends k import args who (with_outcomes l os) a (fault_of (func_type_at m import).results (length (store_at who).memory) plan (in_start who) import a)
+  asked_ends k import args who l (given a ∷ os) =
+      tested_ends k import args who (with_outcomes l os) a (fault_of (func_type_at m import).results (length (store_at who).memory) plan (in_start who) import a)
 
   step_ends : (task : Task) (l : Left) (o : Next) → Ends (by_step m plan task l o)
   step_ends task l (steps k d) = tt
@@ -167,7 +169,8 @@ module _ (m : Module) (plan : Plan) where
 blocking_ending : (m : Module) (plan : Plan) (os : List Outcome) (n : ℕ) → RanEnds State (blocking (Base m) plan) StateOver (over_stops (Base m) plan) (Blocking m plan os n)
 blocking_ending m plan os n =
     let b : Module = Base m in
-    after_ends State (blocking b plan) StateOver (over_stops b plan) (turn_ends b plan) n (begun b.start (all_left plan os) (opening b plan.globals)) (begun_ends b plan b.start (all_left plan os) (opening b plan.globals))
+    after_ends State (blocking b plan) StateOver (over_stops b plan) (turn_ends b plan) n (begun b.start (all_left plan os) (opening b plan.globals))
+    (begun_ends b plan b.start (all_left plan os) (opening b plan.globals))
 
 pub blocking_end_last : BlockingEndIsLast
 blocking_end_last m plan os n = end_last (StateOver (Blocking m plan os n).last) (Blocking m plan os n).events (blocking_ending m plan os n)
@@ -263,7 +266,8 @@ module _ (p : Module) (x : Exports) (plan : Plan) where
 
   back_held : (k : ℕ) (task : Task) (results : List Value) (s : Store) (l : Left) → HeldEnds (held_back k task results s l)
   back_held k the_start results s l = held_done s l l.entries
-  back_held k (an_entry e) results s l = held_front (HeldOver (held_on s (next_entry l) l.entries)) (note (returned l.number (value_of_results results)) s) (done_notes s l.entries) refl (held_done s (next_entry l) l.entries)
+  back_held k (an_entry e) results s l =
+      held_front (HeldOver (held_on s (next_entry l) l.entries)) (note (returned l.number (value_of_results results)) s) (done_notes s l.entries) refl (held_done s (next_entry l) l.entries)
 
   given_held : (k : ℕ) (y : Note) (a : Answer) (s : Store) (l : Left) (who : Asker) → is_end y.event ≡ false → HeldEnds (held_given k y a s l who)
   given_held k y a s l (inside task c) e = (e, λ f. cc)

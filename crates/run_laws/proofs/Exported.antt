@@ -1,18 +1,18 @@
 -- The exports that the host calls are the runtime's functions.
 use Rattle.std.proofs.Common.{arith, ◌≡◌, ◌≤◌, ℕ, zero, suc, ◌+◌, ◌-◌, List, [], ◌∷◌, ◌++◌, length, map, take, drop, Some, None, Bool, true, false, All, Contains, refl, sym, ap, ◌∙◌, subst, eqb-true}
-use Rattle.std.specs.Prelude.{slice_get, if◌then◌else◌, codes, ◌==◌}
-use Rattle.std.specs.List.{filter_map, find}
+use Rattle.std.specs.Prelude.{slice_get, if◌then◌else◌, codes, ◌==◌, not, ◌||◌, ◌&&◌}
+use Rattle.std.specs.List.{filter_map, find, list_any}
 use Rattle.std.specs.Option.{option_or}
-use Rattle.std.proofs.lemmas.Bool.{and_parts}
-use Rattle.std.proofs.lemmas.List.{length-append, length-map, take-append-drop}
+use Rattle.std.proofs.lemmas.Bool.{and_parts, both_ways, not-true, eq-eqb}
+use Rattle.std.proofs.lemmas.List.{length-append, length-map, map-append, take-append-drop}
 use Rattle.std.proofs.Math.Seq.{drop-append_seam}
-use Rattle.std.proofs.lemmas.List.Elements.{All-head, All-tail}
-use Rattle.std.proofs.lemmas.List.Folds.{find-append}
+use Rattle.std.proofs.lemmas.List.Elements.{All-nil, All-cons, All-head, All-tail}
+use Rattle.std.proofs.lemmas.List.Folds.{find-append, list_any_at, list_any-append}
 use Rattle.wa_types.specs.declared.syntax.Export.{Export}
 use Rattle.wa_types.specs.declared.syntax.Import.{Import}
 use Rattle.wa_types.specs.Syntax.{Func, Module}
 use Rattle.wa_types.specs.Modules.{imported, imported_func, func_imports, defined_at}
-use Rattle.wa_types.specs.Validity.{same_name}
+use Rattle.wa_types.specs.Validity.{same_name, all_differ}
 use Rattle.wa_types.specs.Runtime.{func_space, global_space, runtime_funcs, runtime_exports, runtime_names, with_runtime}
 use Rattle.wa_model.specs.Protocol.{index_of, exported_as}
 use Rattle.wa_model.specs.Quiet.{FreeOfNames}
@@ -32,7 +32,8 @@ none_found : (es : List Export) (name : List ℕ) → Contains runtime_names nam
 none_found [] name c h = refl
 none_found (e ∷ es) name c h = by_name (same_name e.name name) refl (none_found es name c (All-tail NoRuntimeName e es h)) (All-head NoRuntimeName e es h)
   where
-    by_name : (t : Bool) → same_name e.name name ≡ t → find (λ (e : Export). same_name e.name name) es ≡ None → (Contains runtime_names e.name → ⊥) → (if t then Some e else find (λ (e : Export). same_name e.name name) es) ≡ None
+    by_name : (t : Bool) → same_name e.name name ≡ t → find (λ (e : Export). same_name e.name name) es ≡ None → (Contains runtime_names e.name → ⊥)
+        → (if t then Some e else find (λ (e : Export). same_name e.name name) es) ≡ None
     by_name true q ih differs = absurd (differs (subst (λ n. Contains runtime_names n) (sym (same_is e.name name q)) c))
     by_name false q ih differs = ih
 
@@ -89,8 +90,35 @@ taken_length zero xs y ys e = refl
 taken_length (suc n) [] y ys e = cc
 taken_length (suc n) (x ∷ xs) y ys e = ap suc (taken_length n xs y ys e)
 
+-- ---- in a valid module the original's exports have other names
+
+same_self : (xs : List ℕ) → same_name xs xs ≡ true
+same_self [] = refl
+same_self (x ∷ xs) = ap (λ b. b && same_name xs xs) (eq-eqb x x refl) ∙ same_self xs
+
+free_names : (first : ℕ) (es : List Export) → all_differ (map (λ (e : Export). e.name) (es ++ runtime_exports first)) ≡ true → All NoRuntimeName es
+free_names first [] h = All-nil NoRuntimeName
+free_names first (e ∷ es) h =
+    let names : List (List ℕ) = map (λ (e : Export). e.name) (es ++ runtime_exports first) in
+    let b = and_parts (not (list_any (same_name e.name) names)) (all_differ names) h in
+    All-cons NoRuntimeName e es (λ c. clash c (not-true (list_any (same_name e.name) names) b.0)) (free_names first es b.1)
+  where
+    or_true : (b : Bool) → (b || true) ≡ true
+    or_true true = refl
+    or_true false = refl
+
+    clash : Contains runtime_names e.name → list_any (same_name e.name) (map (λ (e : Export). e.name) (es ++ runtime_exports first)) ≡ false → ⊥
+    clash c none =
+        let there : list_any (same_name e.name) runtime_names ≡ true = list_any_at (same_name e.name) runtime_names c.0 e.name c.1 (ap (same_name e.name) c.2 ∙ same_self e.name) in
+        let split =
+        ap (list_any (same_name e.name)) (map-append (λ (e : Export). e.name) es (runtime_exports first)) ∙ list_any-append (same_name e.name) (map (λ (e : Export). e.name) es) runtime_names in
+        let found : list_any (same_name e.name) (map (λ (e : Export). e.name) (es ++ runtime_exports first)) ≡ true =
+        split ∙ ap (λ b. list_any (same_name e.name) (map (λ (e : Export). e.name) es) || b) there ∙ or_true (list_any (same_name e.name) (map (λ (e : Export). e.name) es)) in
+        both_ways (list_any (same_name e.name) (map (λ (e : Export). e.name) (es ++ runtime_exports first))) none found
+
 pub rewritten_exported : RewrittenIsExported
-rewritten_exported m s p free r =
+rewritten_exported m s p r =
+    let free : FreeOfNames m = free_names (func_space m) m.exports (ap (λ es. all_differ (map (λ (e : Export). e.name) es)) (sym (r.exports ∙ grown_exports m)) ∙ r.valid_rewritten.names) in
     let more : List Func = runtime_funcs (length m.types) (global_space m) (global_space m + 1) in
     let behind : drop (length m.funcs) p.funcs ≡ more = r.runtime ∙ ap (drop (length m.funcs)) (grown_funcs m) ∙ drop-append_seam m.funcs more in
     let same : func_imports p ≡ func_imports m = ap (λ xs. length (filter_map (λ (i : Import). imported_func i.kind) xs)) r.imports in

@@ -34,7 +34,8 @@ module _ (room fit : List Suspended → ℕ) (len : ℕ) where
           cons_prefix x (pause_note ticks (room x.stack) x.store x.stack ∷ shown room fit len xs) (pause_note ticks (room x.stack) x.store x.stack ∷ shown room fit len (xs ++ ys))
           (cons_prefix (pause_note ticks (room x.stack) x.store x.stack) (shown room fit len xs) (shown room fit len (xs ++ ys)) h)
 
-      by_pause : (o : Option ℕ) → IsPrefix (shown room fit len xs) (shown room fit len (xs ++ ys)) → IsPrefix (shown_at room fit len x o (shown room fit len xs)) (shown_at room fit len x o (shown room fit len (xs ++ ys)))
+      by_pause : (o : Option ℕ) → IsPrefix (shown room fit len xs) (shown room fit len (xs ++ ys))
+          → IsPrefix (shown_at room fit len x o (shown room fit len xs)) (shown_at room fit len x o (shown room fit len (xs ++ ys)))
       by_pause None h = cons_prefix x (shown room fit len xs) (shown room fit len (xs ++ ys)) h
       by_pause (Some ticks) h = by_room ticks (nat_lt len (room x.stack)) h
 
@@ -43,7 +44,8 @@ expected_grow m s plan os n more =
     let room : List Suspended → ℕ = Room m s.policy in
     let fit : List Suspended → ℕ = λ stack. Fit m s.policy stack plan.area.len in
     let g = runs_grow m plan os n more in
-    subst (λ xs. IsPrefix (shown room fit plan.area.len (Blocking m plan os n).events) (shown room fit plan.area.len xs)) (sym g.1) (shown_grows room fit plan.area.len (Blocking m plan os n).events g.0)
+    subst (λ xs. IsPrefix (shown room fit plan.area.len (Blocking m plan os n).events) (shown room fit plan.area.len xs)) (sym g.1)
+    (shown_grows room fit plan.area.len (Blocking m plan os n).events g.0)
 
 pub compared_lower : ComparedLower
 compared_lower m s plan os n k le c = record { fits = c.fits; listed = c.listed; outcomes = c.outcomes; untouched = λ j lt. c.untouched j (omega (arith, le, lt)) }

@@ -100,8 +100,14 @@ module _ (g : ℕ) (area : Area) where
           record {
             globals_same = λ x h. refl;
             size = sym (length-overwritten s.memory place (bytes_of w n) fits);
-            below = λ x h. got_of s.memory x ∙ ap head (sym (bytes_at-overwritten_below s.memory place (bytes_of w n) x 1 (omega arith) fits)) ∙ sym (got_of (overwritten s.memory place (bytes_of w n)) x);
-            above = λ x h. got_of s.memory x ∙ ap head (sym (bytes_at-overwritten_behind s.memory place (bytes_of w n) x 1 (omega arith) fits)) ∙ sym (got_of (overwritten s.memory place (bytes_of w n)) x);
+            below =
+                λ x h. got_of s.memory x
+                ∙ ap head (sym (bytes_at-overwritten_below s.memory place (bytes_of w n) x 1 (omega arith) fits))
+                ∙ sym (got_of (overwritten s.memory place (bytes_of w n)) x);
+            above =
+                λ x h. got_of s.memory x
+                ∙ ap head (sym (bytes_at-overwritten_behind s.memory place (bytes_of w n) x 1 (omega arith) fits))
+                ∙ sym (got_of (overwritten s.memory place (bytes_of w n)) x);
           }
       by_room false e = tt
 
@@ -152,7 +158,8 @@ module _ (g : ℕ) (area : Area) where
   leaves_keep k s ops arity [] = same_refl g area s
   leaves_keep k s ops arity (a ∷ under) = same_refl g area s
 
-  did_keeps : (fn : ℕ) (under : List Activation) (ls : List Value) (labels : List Label) (rest : Code) (ops : List Value) (s : Store) (d : Did) → DidKeeps s d → NextKeeps s (did fn under ls labels rest s ops d)
+  did_keeps : (fn : ℕ) (under : List Activation) (ls : List Value) (labels : List Label) (rest : Code) (ops : List Value) (s : Store) (d : Did)
+      → DidKeeps s d → NextKeeps s (did fn under ls labels rest s ops d)
   did_keeps fn under ls labels rest ops s (works s' results) h = h
   did_keeps fn under ls labels rest ops s (fails trap) h = same_refl g area s
   did_keeps fn under ls labels rest ops s lacks h = tt
@@ -206,7 +213,8 @@ module _ (g : ℕ) (area : Area) where
     through_keeps ls own ops rest labels sort (Some None) = same_refl g area s
     through_keeps ls own ops rest labels sort (Some (Some x)) = by_type (same_func_type (func_type_at p x) (type_at p sort))
       where
-        by_type : (b : Bool) → NextKeeps s (if b then invoke p s fn under ls own ops rest labels (param_count (type_at p sort)) x (defined_at p x) else traps (param_count (type_at p sort)) TypeMismatch s)
+        by_type : (b : Bool) → NextKeeps s
+            (if b then invoke p s fn under ls own ops rest labels (param_count (type_at p sort)) x (defined_at p x) else traps (param_count (type_at p sort)) TypeMismatch s)
         by_type true = invokes_keep ls own ops rest labels (param_count (type_at p sort)) x (defined_at p x)
         by_type false = same_refl g area s
 
@@ -237,7 +245,8 @@ module _ (g : ℕ) (area : Area) where
         by_arm (suc v) below = same_refl g area s
 
   -- one move of the checked machine
-  checked : (p : Module) (c : Configuration) (b : Bool) (o : Next) (k : ℕ) (es : List Note) (d : Configuration) → alone_next b o ≡ goes k es d → (b ≡ true → NextKeeps c.store o) → (o ≡ steps k d) × SameEnd g area c.store d.store
+  checked : (p : Module) (c : Configuration) (b : Bool) (o : Next) (k : ℕ) (es : List Note) (d : Configuration) → alone_next b o ≡ goes k es d
+      → (b ≡ true → NextKeeps c.store o) → (o ≡ steps k d) × SameEnd g area c.store d.store
   checked p c true (steps j e) k es d q h =
       let k' : j ≡ k = cc in
       let d' : e ≡ d = cc in
@@ -250,7 +259,8 @@ module _ (g : ℕ) (area : Area) where
 
   -- Reductions by which a machine goes on and that show their store: at each cost within them it has made nothing, and shows
   -- the first store but for the area.
-  module _ (p : Module) (S : Type 0) (next : S → Turn S Note) (hold : Configuration → S) (seen : S → Store) (on_by : (c d : Configuration) (k : ℕ) → step p c ≡ steps k d → next (hold c) ≡ goes k [] (hold d)) (shows : (c : Configuration) → seen (hold c) ≡ c.store) where
+  module _ (p : Module) (S : Type 0) (next : S → Turn S Note) (hold : Configuration → S) (seen : S → Store)
+      (on_by : (c d : Configuration) (k : ℕ) → step p c ≡ steps k d → next (hold c) ≡ goes k [] (hold d)) (shows : (c : Configuration) → seen (hold c) ≡ c.store) where
     abbrev Kept : Configuration → ℕ → Type 0
     Kept c j = ((run next j (hold c)).events ≡ []) × SameEnd g area c.store (seen (run next j (hold c)).last)
 

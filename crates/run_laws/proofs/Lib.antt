@@ -2,7 +2,10 @@ pub mod Ending
 pub mod Exported
 pub mod Growing
 pub mod Keeping
+pub mod ProtocolStopping
 pub mod RewrittenByHand
+pub mod RuntimeTyped
+pub mod Seeing
 pub mod Silence
 pub mod Sizes
 pub mod Stopping

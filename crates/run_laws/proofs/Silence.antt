@@ -121,7 +121,8 @@ module _ (s : Store) where
 
     step_stays : (ls ops : List Value) (labels : List Label) (code : Code) → silent_code code ≡ true → NextStays s (step_at m s fn under ls ops labels code)
     step_stays ls ops labels done h = finish_stays ls ops labels
-    step_stays ls ops labels (plain (basic b) rest) h = did_stays fn under ls labels rest (drop (takes b) ops) (act (memory_max m) b s (take (takes b) ops)) (act_stays (memory_max m) b (take (takes b) ops) h)
+    step_stays ls ops labels (plain (basic b) rest) h =
+        did_stays fn under ls labels rest (drop (takes b) ops) (act (memory_max m) b s (take (takes b) ops)) (act_stays (memory_max m) b (take (takes b) ops) h)
     step_stays ls ops labels (plain (local_get x) rest) h = refl
     step_stays ls ops labels (plain (local_set x) rest) h = top_stays ops _ (λ v below. refl)
     step_stays ls ops labels (plain (local_tee x) rest) h = top_stays ops _ (λ v below. refl)

@@ -67,7 +67,9 @@ module _ (m : Module) where
 
   sorts_grow : all_sorts (with_runtime m) ≡ all_sorts m ++ added_sorts
   unfolding with_runtime
-  sorts_grow = ap (λ xs. flat_map (λ (i : Import). kind_sorts i.kind) m.imports ++ xs) (map-append (λ (f : Func). f.sort) m.funcs added) ∙ sym (append_assoc _ (map (λ (f : Func). f.sort) m.funcs) added_sorts)
+  sorts_grow =
+      ap (λ xs. flat_map (λ (i : Import). kind_sorts i.kind) m.imports ++ xs) (map-append (λ (f : Func). f.sort) m.funcs added)
+      ∙ sym (append_assoc _ (map (λ (f : Func). f.sort) m.funcs) added_sorts)
 
   types_grow : (with_runtime m).types ≡ m.types ++ runtime_types
   unfolding with_runtime
@@ -130,14 +132,18 @@ module _ (m : Module) where
       record {
         runs = omega (arith, runs);
         labels = lists_more f.body h.labels;
-        total = bound (code_items f.body) (code_params m f.body) (code_params (with_runtime m) f.body) (params_of_type m.types f.sort) (params_of_type (m.types ++ runtime_types) f.sort) (params_of_type (with_runtime m).types f.sort) (sum_by (λ (r : Run). r.count) f.locals) total calls own same;
+        total =
+            bound (code_items f.body) (code_params m f.body) (code_params (with_runtime m) f.body) (params_of_type m.types f.sort) (params_of_type (m.types ++ runtime_types) f.sort)
+            (params_of_type (with_runtime m).types f.sort) (sum_by (λ (r : Run). r.count) f.locals) total calls own same;
       }
     where
-      bound : (items calls more params grown all runs : ℕ) → items + 1 + calls + params + runs < 2 ^ 31 → more ≤ calls + items → grown ≤ params + 1 → all ≡ grown → items + 1 + more + all + runs < 2 ^ 56
+      bound : (items calls more params grown all runs : ℕ) → items + 1 + calls + params + runs < 2 ^ 31 → more ≤ calls + items
+          → grown ≤ params + 1 → all ≡ grown → items + 1 + more + all + runs < 2 ^ 56
       bound items calls more params grown all runs a b c d = omega (arith, a, b, c, d)
 
   -- a function of the runtime, by the number of its items, which has no call
-  added_func : (sort : ℕ) (body : Code) → code_lists (2 ^ 32) body → code_items body ≤ 20 → code_params (with_runtime m) body ≡ 0 → FewParams m.types sort → FuncSizes (2 ^ 32) (2 ^ 56) (with_runtime m) (runtime_func sort body)
+  added_func : (sort : ℕ) (body : Code) → code_lists (2 ^ 32) body → code_items body ≤ 20 → code_params (with_runtime m) body ≡ 0
+      → FewParams m.types sort → FuncSizes (2 ^ 32) (2 ^ 56) (with_runtime m) (runtime_func sort body)
   added_func sort body lists items none few =
       let same = ap (λ ts. params_of_type ts sort) types_grow in
       record { runs = omega arith; labels = lists; total = bound (code_items body) (code_params (with_runtime m) body) (params_of_type (m.types ++ runtime_types) sort) (params_of_type (with_runtime m).types sort) items none few same }
@@ -201,7 +207,9 @@ runtime_keeps_sizes m h =
           All-append (λ (g : GlobalDef). code_lists (2 ^ 32) g.init) m.globals runtime_globals
           (All-weaker (λ (g : GlobalDef). code_lists (2 ^ 31) g.init) (λ (g : GlobalDef). code_lists (2 ^ 32) g.init) (λ g k. lists_more m g.init k) m.globals h.each_global) globals_small;
       each_elem = All-weaker (ElemSizes (2 ^ 31)) (ElemSizes (2 ^ 32)) (λ e k. let a = k.funcs in record { funcs = omega (arith, a); offset = lists_more m e.offset k.offset }) m.elems h.each_elem;
-      each_segment = All-weaker (SegmentSizes (2 ^ 31)) (SegmentSizes (2 ^ 32)) (λ s k. let a = k.bytes in record { bytes = omega (arith, a); offset = lists_more m s.offset k.offset }) m.segments h.each_segment;
+      each_segment =
+          All-weaker (SegmentSizes (2 ^ 31)) (SegmentSizes (2 ^ 32))
+          (λ s k. let a = k.bytes in record { bytes = omega (arith, a); offset = lists_more m s.offset k.offset }) m.segments h.each_segment;
     }
   where
     small : (t : FuncType) → length t.params ≤ 1 → length t.results ≤ 1 → TypeSizes (2 ^ 32) t
@@ -209,7 +217,8 @@ runtime_keeps_sizes m h =
 
     types_small : All (TypeSizes (2 ^ 32)) runtime_types
     types_small =
-        All-cons (TypeSizes (2 ^ 32)) (record { params = I32 ∷ []; results = [] }) ((record { params = []; results = [] }) ∷ (record { params = []; results = I32 ∷ [] }) ∷ []) (small (record { params = I32 ∷ []; results = [] }) (omega arith) (omega arith))
+        All-cons (TypeSizes (2 ^ 32)) (record { params = I32 ∷ []; results = [] }) ((record { params = []; results = [] }) ∷ (record { params = []; results = I32 ∷ [] }) ∷ [])
+        (small (record { params = I32 ∷ []; results = [] }) (omega arith) (omega arith))
         (All-cons (TypeSizes (2 ^ 32)) (record { params = []; results = [] }) ((record { params = []; results = I32 ∷ [] }) ∷ []) (small (record { params = []; results = [] }) (omega arith) (omega arith))
         (All-cons (TypeSizes (2 ^ 32)) (record { params = []; results = I32 ∷ [] }) [] (small (record { params = []; results = I32 ∷ [] }) (omega arith) (omega arith)) (All-nil (TypeSizes (2 ^ 32)))))
 

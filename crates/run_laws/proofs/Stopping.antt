@@ -78,7 +78,8 @@ module _ (b : Module) (v : Valid b) (plan : Plan) where
   poked_fits : (s : Store) (a : Answer) → StoreFits b s → StoreFits b (poked s a.pokes)
   poked_fits s a so = record { globals = so.globals; table = so.table }
 
-  go_on_fits : (k import : ℕ) (x : Note) (a : Answer) (s : Store) (l : Left) (who : Asker) → StoreFits b s → types_of (option_to_list a.value) ≡ results_of b import → LeftTyped l → AskerFits import who → TurnFits (go_on k x a s l who)
+  go_on_fits : (k import : ℕ) (x : Note) (a : Answer) (s : Store) (l : Left) (who : Asker) → StoreFits b s → types_of (option_to_list a.value) ≡ results_of b import
+      → LeftTyped l → AskerFits import who → TurnFits (go_on k x a s l who)
   go_on_fits k import x a s l (inside task c) so e h w =
       (any_notes (x ∷ note (answered a.value) s ∷ []), (w.0, answers_fit b w.0 c s (option_to_list a.value) so (subst (λ ts. CallersFit b w.0 ts (c.here ∷ c.under)) (sym e) w.1.waits), h))
   go_on_fits k import x a s l (outermost old) so e h w = (any_notes (x ∷ note (answered a.value) s ∷ done_notes s l.entries), on_fits s l l.entries refl so h)
@@ -131,12 +132,14 @@ module _ (b : Module) (v : Valid b) (plan : Plan) where
   turn_fits (runs task c l) h = step_turn task l h.0 (step b c) h.2 (steps_fit b h.0 c v h.1)
   turn_fits (halts s) h = tt
 
-  begun_fits : (l : Left) (o : Opening) (start : Option ℕ) (n : ℕ) → LeftTyped l → ((s : Store) → o ≡ opens s → StoreFits b s) → ((x : ℕ) → start ≡ Some x → ((func_type_at b x).params ≡ []) × (x < length (func_sorts b)))
+  begun_fits : (l : Left) (o : Opening) (start : Option ℕ) (n : ℕ) → LeftTyped l → ((s : Store) → o ≡ opens s → StoreFits b s)
+      → ((x : ℕ) → start ≡ Some x → ((func_type_at b x).params ≡ []) × (x < length (func_sorts b)))
       → RanKeeps (blocking b plan) StateFits AnyNote (continued b plan n (begun start l o))
   begun_fits l (fails_as e) start n h so st = after_keeps (blocking b plan) StateFits AnyNote turn_fits n (begun start l (fails_as e)) (any_notes (note (ended e) no_store ∷ []), tt)
   begun_fits l (opens s) start n h so st = by_start start st
     where
-      by_start : (o : Option ℕ) → ((x : ℕ) → o ≡ Some x → ((func_type_at b x).params ≡ []) × (x < length (func_sorts b))) → RanKeeps (blocking b plan) StateFits AnyNote (continued b plan n (started s l o))
+      by_start : (o : Option ℕ) → ((x : ℕ) → o ≡ Some x → ((func_type_at b x).params ≡ []) × (x < length (func_sorts b)))
+          → RanKeeps (blocking b plan) StateFits AnyNote (continued b plan n (started s l o))
       by_start None r = after_keeps (blocking b plan) StateFits AnyNote turn_fits n (started s l None) (any_notes (done_notes s l.entries), on_fits s l l.entries refl (so s refl) h)
       by_start (Some x) r = after_keeps (blocking b plan) StateFits AnyNote turn_fits n (started s l (Some x)) (any_notes [], (so s refl, (r x refl).0, (r x refl).1, h))
 
@@ -186,7 +189,7 @@ module _ (b : Module) (v : Valid b) (plan : Plan) where
   stops_over (runs task c l) h e = absurd (step_goes task l h.0 (step b c) (steps_fit b h.0 c v h.1) e)
   stops_over (halts s) h e = (s, refl)
 
-start_there : (b : Module) (x : ℕ) (o : Option ℕ) → Each (λ y. y < length (func_sorts b)) (start_indices o) → o ≡ Some x → x < length (func_sorts b)
+pub start_there : (b : Module) (x : ℕ) (o : Option ℕ) → Each (λ y. y < length (func_sorts b)) (start_indices o) → o ≡ Some x → x < length (func_sorts b)
 start_there b x None h e = cc
 start_there b x (Some y) h e = let z : y ≡ x = cc in subst (λ n. n < length (func_sorts b)) z h.0
 

@@ -1,5 +1,6 @@
 pub mod Growing
 pub mod RewrittenByHand
 pub mod RuntimeParts
+pub mod Seeing
 pub mod Stopping
 pub mod Stretches

@@ -22,9 +22,9 @@ pub record RuntimeExported (m p : Module) : Type 0 where
 abbrev pub RuntimeIsExported : Type 0
 RuntimeIsExported = (m : Module) → FreeOfNames m → RuntimeExported m (with_runtime m)
 
--- and in each module that is rewritten.
+-- and in each module that is rewritten: it is valid, so the original has no export of one of the five names.
 abbrev pub RewrittenIsExported : Type 0
-RewrittenIsExported = (m : Module) (s : Settings) (p : Module) → FreeOfNames m → Rewrites m s p → RuntimeExported m p
+RewrittenIsExported = (m : Module) (s : Settings) (p : Module) → Rewrites m s p → RuntimeExported m p
 
 -- A module that keeps the stricter size rule keeps the size rule with the runtime's parts.
 abbrev pub RuntimeKeepsSizes : Type 0

@@ -1,6 +1,6 @@
 //! Laws of runs at greater and lower costs. Each is the contract of a function that does nothing.
 
-ghost use Rattle.run_laws.specs.Stopping.{BlockingStopsOver};
+ghost use Rattle.run_laws.specs.Stopping.{BlockingStopsOver, ProtocolStopsOver};
 ghost use Rattle.run_laws.specs.Growing.{BlockingEndIsLast, ComparedLower, ExpectedEndIsLast, ExpectedGrow, PausesLower, ProtocolEndIsLast};
 
 /// What is expected within a cost begins what is expected within more.
@@ -21,7 +21,8 @@ pub fn ends_are_last()
     ensures protocol { ProtocolEndIsLast }
 {}
 
-/// A run of a valid module stops only where all is over.
+/// A run of a valid module stops only where all is over, with blocking imports and under the protocol.
 pub fn runs_stop_over()
-    ensures { BlockingStopsOver }
+    ensures blocking { BlockingStopsOver }
+    ensures protocol { ProtocolStopsOver }
 {}

@@ -1,11 +1,13 @@
 //! Laws of the runtime's parts. Each is the contract of a function that does nothing.
 
 ghost use Rattle.run_laws.specs.RuntimeParts.{RewrittenIsExported, RuntimeIsExported, RuntimeKeepsSizes};
+ghost use Rattle.run_laws.specs.Stopping.{RuntimeIsTyped};
 
-/// The exports that the host calls are the five functions behind the original's.
+/// The exports that the host calls are the five functions behind the original's, and take what the host gives them.
 pub fn runtime_is_exported()
     ensures runtime { RuntimeIsExported }
     ensures rewritten { RewrittenIsExported }
+    ensures typed { RuntimeIsTyped }
 {}
 
 /// A module that keeps the stricter size rule keeps the size rule with the runtime's parts behind its own.

@@ -1,7 +1,10 @@
+pub mod Counted
+pub mod LawfulPauses
 pub mod NotEach
 pub mod SpotPlaces
 pub mod SpotRuns
 pub mod SpotSteps
 pub mod Spots
 pub mod StandingPauses
+pub mod StandingStates
 pub mod StandingSteps

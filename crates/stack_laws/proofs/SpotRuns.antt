@@ -169,7 +169,8 @@ module _ (b : Module) (v : Valid b) (plan : Plan) where
   asker_points import (inside task c) w = stack_points b import (c.here ∷ c.under) w.waits
   asker_points import (outermost s) w = none
 
-  go_on_spots : (k import : ℕ) (x : Note) (a : Answer) (s : Store) (l : Left) (who : Asker) → NoteAtPoints x → StoreFits b s → types_of (option_to_list a.value) ≡ results_of b import → LeftTyped l → AskerAtSpots import who → TurnAtSpots (go_on k x a s l who)
+  go_on_spots : (k import : ℕ) (x : Note) (a : Answer) (s : Store) (l : Left) (who : Asker) → NoteAtPoints x → StoreFits b s → types_of (option_to_list a.value) ≡ results_of b import
+      → LeftTyped l → AskerAtSpots import who → TurnAtSpots (go_on k x a s l who)
   go_on_spots k import x a s l (inside task c) nx so e h w =
       let stack = w.waits in
       (two x _ nx none, (record { store = so; here = goes_on_behind b import c.here (option_to_list a.value) stack.0 e; under = stack.1 }, h))
@@ -266,13 +267,15 @@ whole_run m plan os n v fits =
 
 -- ---- operands at calls, in the module without the memory
 
-points_same : (c d : Around) (w : Wider c d) (ls : List (Option ValType)) (k : Code) (outs under ops : List ValType) → Types c ls k outs ops → call_points c ls k under ops ≡ call_points d ls k under ops
+points_same : (c d : Around) (w : Wider c d) (ls : List (Option ValType)) (k : Code) (outs under ops : List ValType)
+    → Types c ls k outs ops → call_points c ls k under ops ≡ call_points d ls k under ops
 unfolding call_points Types
 points_same c d w ls done outs under ops t = refl
 points_same c d w ls (plain p rest) outs under ops t = by_last (is_last p) refl (points_same c d w ls rest outs under t.0 t.2)
   where
     by_last : (b : Bool) → is_last p ≡ b → call_points c ls rest under t.0 ≡ call_points d ls rest under t.0
-        → if_call (callee p) (ops ++ under) ++ unless_last b (call_points c ls rest under (after (sig c ls p) ops)) ≡ if_call (callee p) (ops ++ under) ++ unless_last b (call_points d ls rest under (after (sig d ls p) ops))
+        → if_call (callee p) (ops ++ under) ++ unless_last b (call_points c ls rest under (after (sig c ls p) ops)) ≡ if_call (callee p) (ops ++ under) ++ unless_last b
+        (call_points d ls rest under (after (sig d ls p) ops))
     by_last true e h = refl
     by_last false e h =
         let left = takes_after (sig c ls p) ops t.0 (passes c ls p e) t.1 in

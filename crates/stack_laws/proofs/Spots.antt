@@ -33,7 +33,8 @@ callees_of c ls labels done under ops = refl
 callees_of c ls labels (plain p rest) under ops = by_call (callee p) (is_last p) (callees_of c ls labels rest under (after (sig c ls p) ops))
   where
     by_call : (o : Option Callee) (b : Bool) → callees (sites c ls labels rest under (after (sig c ls p) ops)) ≡ calls_of (pruned rest)
-        → callees (site_of o (position (pruned rest) labels) (ops ++ under) ++ unless_last b (sites c ls labels rest under (after (sig c ls p) ops))) ≡ callee_onto o (calls_of (if b then done else pruned rest))
+        → callees (site_of o (position (pruned rest) labels) (ops ++ under) ++ unless_last b (sites c ls labels rest under (after (sig c ls p) ops))) ≡ callee_onto o
+        (calls_of (if b then done else pruned rest))
     by_call None true h = refl
     by_call None false h = h
     by_call (Some x) true h = refl
@@ -87,7 +88,8 @@ places_of c ls labels (branch r a b rest) under ops =
     ∙ ap (λ xs. behind_calls inner (pruned a) ++ (xs ++ places third)) (places_of c (r ∷ ls) inner b (drop 1 ops ++ under) [])
     ∙ ap (λ xs. behind_calls inner (pruned a) ++ (behind_calls inner (pruned b) ++ xs)) (places_of c ls labels rest under (listed r ++ drop 1 ops))
 
-pub points_of : (c : Around) (ls : List (Option ValType)) (labels : List Continuation) (k : Code) (under ops : List ValType) → points (sites c ls labels k under ops) ≡ call_points c ls (pruned k) under ops
+pub points_of : (c : Around) (ls : List (Option ValType)) (labels : List Continuation) (k : Code) (under ops : List ValType)
+    → points (sites c ls labels k under ops) ≡ call_points c ls (pruned k) under ops
 unfolding sites call_points pruned
 points_of c ls labels done under ops = refl
 points_of c ls labels (plain p rest) under ops = by_call (callee p) (is_last p) (points_of c ls labels rest under (after (sig c ls p) ops))
@@ -165,14 +167,16 @@ pub record Retyped (c : Around) (body : Code) (results : List (Option ValType)) 
   pub typed : Types c results code outs own
   pub again : (code' : Code) (own' : List ValType) → Types c results code' outs own' → Placed c body results labels code' own' below
 
-pub retyped : (c : Around) (body : Code) (results : List (Option ValType)) (labels : List Label) (code : Code) (own below : List ValType) → Placed c body results labels code own below → Retyped c body results labels code own below
+pub retyped : (c : Around) (body : Code) (results : List (Option ValType)) (labels : List Label) (code : Code) (own below : List ValType)
+    → Placed c body results labels code own below → Retyped c body results labels code own below
 retyped c body results [] code own below h = record { outs = listed c.result; typed = h.2; again = λ code' own' t. (h.0, h.1, t) }
 retyped c body results (block_label height arity rest skipped ∷ labels) code own below h =
     record { outs = listed h.0; typed = h.8; again = λ code' own' t. (h.0, h.1, h.2, h.3, h.4, h.5, h.6, h.7, t, h.9) }
 retyped c body results (loop_label height inner rest ∷ labels) code own below h =
     record { outs = listed h.0; typed = h.7; again = λ code' own' t. (h.0, h.1, h.2, h.3, h.4, h.5, h.6, t, h.8, h.9) }
 
-pub placed : (c : Around) (body : Code) (results : List (Option ValType)) (labels : List Label) (code : Code) (own below : List ValType) → Typed c body → Spot c body results labels code own below → Placed c body results labels code own below
+pub placed : (c : Around) (body : Code) (results : List (Option ValType)) (labels : List Label) (code : Code) (own below : List ValType) → Typed c body
+    → Spot c body results labels code own below → Placed c body results labels code own below
 unfolding Types
 placed c body results labels code own below t (at_start e) = (e, refl, subst (λ ls. Types c ls body (listed c.result) []) (sym e) t)
 placed c body results labels code own below t (past p own' last takes s) =

@@ -1,4 +1,5 @@
 use Rattle.run_laws.proofs.Exported.{runtime_exported, rewritten_exported}
+use Rattle.run_laws.proofs.RuntimeTyped.{runtime_typed}
 use Rattle.run_laws.proofs.runtime_parts.runtime_is_exported.Goals as goal
 
 pub returns-clause-runtime : goal.returns-clause-runtime
@@ -6,3 +7,6 @@ returns-clause-runtime c = runtime_exported
 
 pub returns-clause-rewritten : goal.returns-clause-rewritten
 returns-clause-rewritten c = rewritten_exported
+
+pub returns-clause-typed : goal.returns-clause-typed
+returns-clause-typed c = runtime_typed

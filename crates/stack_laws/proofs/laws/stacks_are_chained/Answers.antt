@@ -1,4 +1,4 @@
-use Rattle.stack_laws.proofs.StandingPauses.{stacks_chained, pauses_told}
+use Rattle.stack_laws.proofs.StandingPauses.{stacks_chained, pauses_told, pauses_of_entries}
 use Rattle.stack_laws.proofs.laws.stacks_are_chained.Goals as goal
 
 pub returns-clause-stacks : goal.returns-clause-stacks
@@ -6,3 +6,6 @@ returns-clause-stacks c = stacks_chained
 
 pub returns-clause-pauses : goal.returns-clause-pauses
 returns-clause-pauses c = pauses_told
+
+pub returns-clause-entries : goal.returns-clause-entries
+returns-clause-entries c = pauses_of_entries
