@@ -1,12 +1,13 @@
 -- Runs with blocking imports stay in range.
-use Rattle.std.proofs.Common.{◌≡◌, ℕ, ◌+◌, Bool, true, false, cond, ltb, List, [], ◌∷◌, length, Option, Some, None, All, refl, arith}
+use Rattle.std.proofs.Common.{◌≡◌, ℕ, ◌+◌, Bool, true, false, cond, ltb, List, [], ◌∷◌, length, Option, Some, None, All, refl, sym, subst, arith, ◌*◌}
 use Rattle.std.specs.Option.{option_to_list}
 use Rattle.std.proofs.lemmas.List.Elements.{All-nil, All-cons, All-head, All-tail, All-append}
 use Rattle.wa_types.specs.declared.values.Value.{Value}
 use Rattle.wa_types.specs.Sizes.{CodeFits, FuncFits, SegmentFits}
 use Rattle.wa_types.specs.Syntax.{Func, Segment, Module}
 use Rattle.wa_types.specs.Base.{Base}
-use Rattle.wa_types.specs.Modules.{func_imports, func_type_at, defined_at}
+use Rattle.wa_types.specs.Memory.{page_size}
+use Rattle.wa_types.specs.Modules.{all_memories, func_imports, func_type_at, defined_at}
 use Rattle.wa_model.specs.declared.events.End.{End}
 use Rattle.wa_model.specs.declared.events.End.TheVariants.{Trapped}
 use Rattle.wa_model.specs.Outside.{Answer, answered, returned, ended}
@@ -14,14 +15,14 @@ use Rattle.wa_model.specs.Machine.{Turn, stops}
 use Rattle.wa_model.specs.Store.{Store}
 use Rattle.wa_model.specs.Step.{Next, steps, asks, returns, traps, stuck, step}
 use Rattle.wa_model.specs.Plan.{Entry, Plan, Outcome, given, refused, AnswerFits, OutcomeFits}
-use Rattle.wa_model.specs.Instantiation.{Opening, fails_as, opens, opening}
-use Rattle.wa_model.specs.Blocking.{Note, note, call_note, fault_of, pause_of, poked, done_notes, value_of_results, Task, the_start, an_entry, Left, with_outcomes, Asker, inside, outermost, store_at, stack_at, in_start, State, between, begins, runs, halts, on_to, next_entry, task_back, go_on, ends_at_call, tested, asked, by_step, enters, enter_next, start_called, blocking, no_store, all_left, started, begun, Blocking, store_of}
-use Rattle.range_laws.specs.Ranges.{CodesIn, WellFormedIn, ValuesIn, byte_in, StoreIn, NextIn, EndIn, NoteIn, EntryIn, LeftIn, TaskIn, AskerIn, StateIn, PokeInside, OpeningIn, BlockingIn, BlockingGrows, BlockingLater}
+use Rattle.wa_model.specs.Instantiation.{Opening, fails_as, opens, opening, least_of}
+use Rattle.wa_model.specs.Blocking.{continued, Note, note, call_note, fault_of, pause_of, poked, done_notes, value_of_results, Task, the_start, an_entry, Left, with_outcomes, Asker, inside, outermost, store_at, stack_at, in_start, State, between, begins, runs, halts, on_to, next_entry, task_back, go_on, ends_at_call, tested, asked, by_step, enters, enter_next, start_called, blocking, no_store, all_left, started, begun, Blocking, store_of}
+use Rattle.range_laws.specs.Ranges.{CodesIn, WellFormedIn, ValuesIn, byte_in, StoreIn, NextIn, EndIn, NoteIn, EntryIn, LeftIn, TaskIn, AskerIn, StateIn, PokeInside, OpeningIn, BlockingIn, BlockingHoldsArea, BlockingMemoryGrows, BlockingLater}
 use Rattle.range_laws.proofs.Acts.{none_in}
 use Rattle.range_laws.proofs.Steps.{func_in, entered_in, step_in}
 use Rattle.range_laws.proofs.Openings.{openings_in}
 use Rattle.range_laws.proofs.Host.{store_lower, store_whole, poked_store_in, FaultIn, fault_in, fault_pokes, refusal_in, note_in, call_note_in, one_note, two_notes, done_in, stack_in, asker_store, ticks_in, result_in, optional_in, resumed_in, waits_in}
-use Rattle.wa_model.proofs.Invariants.{TurnKeeps, after_keeps, leads_keeps, later_keeps}
+use Rattle.wa_model.proofs.Invariants.{TurnKeeps, RanKeeps, after_keeps, leads_keeps, later_keeps}
 
 -- a store as an answer leaves it
 pub answered_in : (low : ℕ) (s : Store) (a : Answer) → AnswerFits a → All (PokeInside (length s.memory)) a.pokes → StoreIn low s → StoreIn low (poked s a.pokes)
@@ -62,21 +63,26 @@ module _ (m : Module) (w : CodesIn m) (plan : Plan) (low : ℕ) where
   ends_in : (k : ℕ) (x : Note) (e : End) → NoteIn low x → EndIn e → TurnIn (ends_at_call k x e)
   ends_in k x e nx h = (two_notes low x _ nx (note_in low (ended e) x.store h nx.store), nx.store)
 
-  tested_in : (k import : ℕ) (args : List Value) (who : Asker) (l : Left) (a : Answer) (o : Option End) → ValuesIn args → AskerIn low who → LeftIn l → AnswerFits a → FaultIn o → (o ≡ None → All (PokeInside (length (store_at who).memory)) a.pokes)
+  tested_in : (k import : ℕ) (args : List Value) (who : Asker) (l : Left) (a : Answer) (o : Option End) → ValuesIn args → AskerIn low who → LeftIn l
+      → AnswerFits a → FaultIn o → (o ≡ None → All (PokeInside (length (store_at who).memory)) a.pokes)
       → TurnIn (tested m k import args who l a o)
   tested_in k import args who l a (Some e) va wh h f bad on =
-      ends_in k (call_note import args (store_at who) (stack_at m who) None) e (call_note_in low import args (store_at who) (stack_at m who) None va (asker_store low who wh) (stack_in low m who wh) tt) bad
+      ends_in k (call_note import args (store_at who) (stack_at m who) None) e
+      (call_note_in low import args (store_at who) (stack_at m who) None va (asker_store low who wh) (stack_in low m who wh) tt) bad
   tested_in k import args who l a None va wh h f bad on =
       let ok = asker_store low who wh in
       go_on_in k (call_note import args (store_at who) (stack_at m who) (pause_of a.ticks)) a (poked (store_at who) a.pokes) l who
-      (call_note_in low import args (store_at who) (stack_at m who) (pause_of a.ticks) va ok (stack_in low m who wh) (ticks_in a.ticks f.ticks)) f (answered_in low (store_at who) a f (on refl) ok) h wh
+      (call_note_in low import args (store_at who) (stack_at m who) (pause_of a.ticks) va ok (stack_in low m who wh) (ticks_in a.ticks f.ticks)) f
+      (answered_in low (store_at who) a f (on refl) ok) h wh
 
-  asked_in : (k import : ℕ) (args : List Value) (who : Asker) (l : Left) (os : List Outcome) → ValuesIn args → AskerIn low who → All EntryIn l.entries → All OutcomeFits os → TurnIn (asked m plan k import args who l os)
+  asked_in : (k import : ℕ) (args : List Value) (who : Asker) (l : Left) (os : List Outcome) → ValuesIn args → AskerIn low who
+      → All EntryIn l.entries → All OutcomeFits os → TurnIn (asked m plan k import args who l os)
   asked_in k import args who l [] va wh h fs =
       let ok = asker_store low who wh in
       (one_note low _ (call_note_in low import args (store_at who) (stack_at m who) None va ok (stack_in low m who wh) tt), ok)
   asked_in k import args who l (refused e ∷ os) va wh h fs =
-      ends_in k (call_note import args (store_at who) (stack_at m who) None) e (call_note_in low import args (store_at who) (stack_at m who) None va (asker_store low who wh) (stack_in low m who wh) tt) (refusal_in e (All-head OutcomeFits (refused e) os fs))
+      ends_in k (call_note import args (store_at who) (stack_at m who) None) e
+      (call_note_in low import args (store_at who) (stack_at m who) None va (asker_store low who wh) (stack_in low m who wh) tt) (refusal_in e (All-head OutcomeFits (refused e) os fs))
   asked_in k import args who l (given a ∷ os) va wh h fs =
       let f : AnswerFits a = All-head OutcomeFits (given a) os fs in
       let results = (func_type_at m import).results in
@@ -97,7 +103,8 @@ module _ (m : Module) (w : CodesIn m) (plan : Plan) (low : ℕ) where
 
   next_in : (s : Store) (l : Left) (es : List Entry) → StoreIn low s → All EntryIn es → All OutcomeFits l.outcomes → TurnIn (enter_next m s l es)
   next_in s l [] ok h k = tt
-  next_in s l (e ∷ es) ok h k = enters_in e s (record { number = l.number; entries = es; outcomes = l.outcomes }) (defined_at m e.func) (All-head EntryIn e es h) ok (left_entries l e es h k) (func_in m w e.func)
+  next_in s l (e ∷ es) ok h k =
+      enters_in e s (record { number = l.number; entries = es; outcomes = l.outcomes }) (defined_at m e.func) (All-head EntryIn e es h) ok (left_entries l e es h k) (func_in m w e.func)
 
   start_in : (x : ℕ) (s : Store) (l : Left) (o : Option Func) → StoreIn low s → LeftIn l → ((f : Func) → o ≡ Some f → CodeFits f.body) → TurnIn (start_called m plan x s l o)
   start_in x s l (Some f) ok h ff = (All-nil (NoteIn low), (tt, entered_in low s [] [] x f ok (All-nil _) none_in (ff f refl), h))
@@ -148,25 +155,32 @@ state_whole (begins x s l) h = (store_whole 0 s h.0, h.1)
 state_whole (runs task c l) h = (h.0, record { store = store_whole 0 c.store h.1.store; here = h.1.here; under = h.1.under }, h.2)
 state_whole (halts s) h = store_whole 0 s h
 
+started_in : (low : ℕ) (s : Store) (l : Left) (start : Option ℕ) → StoreIn low s → LeftIn l → All (NoteIn low) (started s l start).events × StateIn low (started s l start).last
+started_in low s l None h k = (done_in low s l.entries h, on_in low s l l.entries h k)
+started_in low s l (Some x) h k = (All-nil (NoteIn low), (h, k))
+
 begun_in : (low : ℕ) (start : Option ℕ) (l : Left) (o : Opening) → OpeningIn low o → LeftIn l → All (NoteIn 0) (begun start l o).events × StateIn 0 (begun start l o).last
 begun_in low start l (fails_as e) h k = (one_note 0 _ (note_in 0 (ended e) no_store h no_store_in), no_store_in)
-begun_in low start l (opens s) h k = by_start start
-  where
-    ok : StoreIn 0 s
-    ok = store_lower 0 low s (omega arith) h
-
-    by_start : (o : Option ℕ) → All (NoteIn 0) (started s l o).events × StateIn 0 (started s l o).last
-    by_start None = (done_in 0 s l.entries (store_lower 0 low s (omega arith) h), on_in 0 s l l.entries (store_lower 0 low s (omega arith) h) k)
-    by_start (Some x) = (All-nil (NoteIn 0), (store_lower 0 low s (omega arith) h, k))
+begun_in low start l (opens s) h k = started_in 0 s l start (store_lower 0 low s (omega arith) h) k
 
 pub blocking_in : BlockingIn
 blocking_in m plan os n w p fs =
     let b = base_codes m w in
     let first = begun_in _ (Base m).start (all_left plan os) (opening (Base m) plan.globals) (openings_in (Base m) plan.globals b p.globals) (record { entries = p.entries; outcomes = fs }) in
-    let r = after_keeps (blocking (Base m) plan) (StateIn 0) (NoteIn 0) (turn_in (Base m) b plan 0) n (begun (Base m).start (all_left plan os) (opening (Base m) plan.globals)) first in
-    (r.0, whole_store 0 (Blocking m plan os n).last r.1)
+    after_keeps (blocking (Base m) plan) (StateIn 0) (NoteIn 0) (turn_in (Base m) b plan 0) n (begun (Base m).start (all_left plan os) (opening (Base m) plan.globals)) first
 
-pub blocking_grows : BlockingGrows
+pub blocking_area : BlockingHoldsArea
+blocking_area m plan os n s w p area fs e =
+    let b = base_codes m w in
+    let low = plan.area.at + plan.area.len in
+    let l = all_left plan os in
+    let size = least_of (all_memories (Base m)) * page_size in
+    let opened : StoreIn size s = subst (OpeningIn size) e (openings_in (Base m) plan.globals b p.globals) in
+    let first = started_in low s l (Base m).start (store_lower low size s area.inside opened) (record { entries = p.entries; outcomes = fs }) in
+    let r = after_keeps (blocking (Base m) plan) (StateIn low) (NoteIn low) (turn_in (Base m) b plan low) n (started s l (Base m).start) first in
+    subst (λ (o : Opening). RanKeeps (blocking (Base m) plan) (StateIn low) (NoteIn low) (continued (Base m) plan n (begun (Base m).start l o))) (sym e) r
+
+pub blocking_grows : BlockingMemoryGrows
 blocking_grows m plan s t n es w h l =
     let low = length (store_of s).memory in
     leads_keeps (blocking m plan) (StateIn low) (NoteIn low) (turn_in m w plan low) s t n es (state_whole s h) l

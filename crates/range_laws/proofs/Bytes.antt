@@ -54,7 +54,9 @@ pages_in bytes h = let b : length bytes ≤ 1024 * 65536 = h.bounded in omega ar
 pub overwritten_in : (low : ℕ) (bytes : List ℕ) (at : ℕ) (piece : List ℕ) → at + length piece ≤ length bytes → All byte_in piece → MemoryIn low bytes → MemoryIn low (overwritten bytes at piece)
 overwritten_in low bytes at piece inside h ok =
     let e = length-overwritten bytes at piece inside in record {
-      each = All-append byte_in (take at bytes ++ piece) (drop (at + length piece) bytes) (All-append byte_in (take at bytes) piece (All-take byte_in at bytes ok.each) h) (All-drop byte_in (at + length piece) bytes ok.each);
+      each =
+          All-append byte_in (take at bytes ++ piece) (drop (at + length piece) bytes) (All-append byte_in (take at bytes) piece (All-take byte_in at bytes ok.each) h)
+          (All-drop byte_in (at + length piece) bytes ok.each);
       pages = same_pages bytes (overwritten bytes at piece) (sym e) ok.pages;
       least = subst (λ (n : ℕ). low ≤ n) (sym e) ok.least;
     }

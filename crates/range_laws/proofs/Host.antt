@@ -11,13 +11,14 @@ use Rattle.wa_types.specs.Syntax.{Module}
 use Rattle.wa_types.specs.Frames.{Suspended}
 use Rattle.wa_model.specs.declared.answers.Area.{Area}
 use Rattle.wa_model.specs.declared.events.End.{End}
-use Rattle.wa_model.specs.declared.events.End.TheVariants.{Done, BadAnswer, BadPoke}
+use Rattle.wa_model.specs.declared.events.End.TheVariants.{Done, BadAnswer, BadPoke, UnwindTrap}
 use Rattle.wa_model.specs.Outside.{Poke, Answer, Event, ended}
 use Rattle.wa_model.specs.Store.{Store}
 use Rattle.wa_model.specs.Configuration.{Activation, Configuration, suspended}
 use Rattle.wa_model.specs.Plan.{Entry, Plan, PokeFits, AnswerFits, ValueFits, IsRefusal}
 use Rattle.wa_model.specs.Blocking.{Note, note, call_note, answers, overlap, poke_fits, bad_poke, is_unlisted, bad_pause, or_else, fault_of, pause_of, poked_memory, poked, resumed, done_notes, value_of_results, Asker, inside, outermost, store_at, stack_at}
-use Rattle.range_laws.specs.Ranges.{ValuesIn, MemoryIn, StoreIn, ActivationIn, ConfigurationIn, EndIn, EventIn, SuspendedIn, TicksIn, NoteIn, AskerIn, PokeInside, WaitsIn}
+use Rattle.wa_model.specs.LawfulStacks.{SuspendedIn}
+use Rattle.range_laws.specs.Ranges.{ValuesIn, MemoryIn, StoreIn, ActivationIn, ConfigurationIn, EndIn, EventIn, TicksIn, NoteIn, AskerIn, PokeInside, WaitsIn}
 use Rattle.range_laws.proofs.Acts.{none_in, more_in, first_in}
 use Rattle.range_laws.proofs.Bytes.{overwritten_in}
 use Rattle.range_laws.proofs.Steps.{joined_in, running_in}
@@ -79,7 +80,8 @@ pokes_inside : (size : ℕ) (area : Area) (ps : List Poke) → bad_poke size are
 pokes_inside size area [] e = All-nil (PokeInside size)
 pokes_inside size area (p ∷ ps) e = by_test (poke_fits size area p) refl e (λ z. pokes_inside size area ps z)
   where
-    by_test : (b : Bool) → poke_fits size area p ≡ b → cond b (bad_poke size area ps) (Some (BadPoke p.at (length p.bytes))) ≡ None → (bad_poke size area ps ≡ None → All (PokeInside size) ps) → All (PokeInside size) (p ∷ ps)
+    by_test : (b : Bool) → poke_fits size area p ≡ b → cond b (bad_poke size area ps) (Some (BadPoke p.at (length p.bytes))) ≡ None
+        → (bad_poke size area ps ≡ None → All (PokeInside size) ps) → All (PokeInside size) (p ∷ ps)
     by_test true z e on = All-cons (PokeInside size) p ps (leb-true _ _ (and_parts (nat_le (p.at + length p.bytes) size) (not (overlap p.at (length p.bytes) area.at area.len)) z).0) (on e)
     by_test false z e on = cc
 
@@ -104,6 +106,7 @@ module _ (results : List ValType) (size : ℕ) (plan : Plan) (in_start : Bool) (
 
 pub refusal_in : (e : End) → IsRefusal e → EndIn e
 refusal_in (BadAnswer import value) h = absurd h
+refusal_in (UnwindTrap trap used len) h = absurd h
 refusal_in _ h = tt
 
 -- ---- notes
@@ -111,7 +114,8 @@ refusal_in _ h = tt
 pub note_in : (low : ℕ) (e : Event) (s : Store) → EventIn e → StoreIn low s → NoteIn low (note e s)
 note_in low e s h ok = record { event = h; store = ok; stack = All-nil SuspendedIn; pause = tt; since = tt }
 
-pub call_note_in : (low import : ℕ) (args : List Value) (s : Store) (stack : List Suspended) (pause : Option ℕ) → ValuesIn args → StoreIn low s → All SuspendedIn stack → TicksIn pause → NoteIn low (call_note import args s stack pause)
+pub call_note_in : (low import : ℕ) (args : List Value) (s : Store) (stack : List Suspended) (pause : Option ℕ) → ValuesIn args → StoreIn low s
+    → All SuspendedIn stack → TicksIn pause → NoteIn low (call_note import args s stack pause)
 call_note_in low import args s stack pause va ok h k = record { event = va; store = ok; stack = h; pause = k; since = tt }
 
 pub one_note : (low : ℕ) (x : Note) → NoteIn low x → All (NoteIn low) (x ∷ [])
@@ -153,7 +157,9 @@ optional_in (Some v) h = more_in v [] h none_in
 
 -- what waited goes on
 pub resumed_in : (low : ℕ) (c : Configuration) (s : Store) (results : List Value) → WaitsIn c → StoreIn low s → ValuesIn results → ConfigurationIn low (resumed c s results)
-resumed_in low c s results h ok vs = running_in low s c.here.func c.under c.here.locals (results ++ c.here.operands) c.here.code c.here.labels ok h.under h.here.locals (joined_in results c.here.operands vs h.here.operands) h.here.code h.here.labels
+resumed_in low c s results h ok vs =
+    running_in low s c.here.func c.under c.here.locals (results ++ c.here.operands) c.here.code c.here.labels ok h.under h.here.locals
+    (joined_in results c.here.operands vs h.here.operands) h.here.code h.here.labels
 
 pub waits_in : (low : ℕ) (c : Configuration) → ConfigurationIn low c → WaitsIn c
 waits_in low c h = record { here = h.here; under = h.under }

@@ -53,7 +53,8 @@ zeros_in pages h =
       least = omega (arith, size);
     }
 
-filled_in : (low : ℕ) (globals : List Value) (memory : List ℕ) (table : List (Option ℕ)) (elems : List (Piece (Option ℕ))) (bytes : List (Piece ℕ)) → ValuesIn globals → MemoryIn low memory → All PieceIn bytes
+filled_in : (low : ℕ) (globals : List Value) (memory : List ℕ) (table : List (Option ℕ)) (elems : List (Piece (Option ℕ))) (bytes : List (Piece ℕ))
+    → ValuesIn globals → MemoryIn low memory → All PieceIn bytes
     → OpeningIn low (filled globals memory table elems bytes)
 filled_in low globals memory table elems bytes vs ok h = by_elems (first_out (length table) 0 elems)
   where
@@ -65,11 +66,13 @@ filled_in low globals memory table elems bytes vs ok h = by_elems (first_out (le
     by_elems (Some i) = tt
     by_elems None = by_bytes (first_out (length memory) 0 bytes) refl
 
-opened_by_in : (m : Module) (globals : List Value) (pages entries : ℕ) (a b : Bool) → CodesIn m → ValuesIn globals → (a ≡ false → pages ≤ 1024) → OpeningIn (pages * page_size) (opened_by m globals pages entries a b)
+opened_by_in : (m : Module) (globals : List Value) (pages entries : ℕ) (a b : Bool) → CodesIn m → ValuesIn globals → (a ≡ false → pages ≤ 1024)
+    → OpeningIn (pages * page_size) (opened_by m globals pages entries a b)
 opened_by_in m globals pages entries true b w vs h = tt
 opened_by_in m globals pages entries false true w vs h = tt
 opened_by_in m globals pages entries false false w vs h =
-    filled_in (pages * page_size) globals (replicate (pages * page_size) 0) (replicate entries None) (map (elem_piece globals) m.elems) (map (byte_piece globals) m.segments) vs (zeros_in pages (h refl)) (pieces_in globals m.segments w.segments)
+    filled_in (pages * page_size) globals (replicate (pages * page_size) 0) (replicate entries None) (map (elem_piece globals) m.elems) (map (byte_piece globals) m.segments) vs
+    (zeros_in pages (h refl)) (pieces_in globals m.segments w.segments)
 
 -- an instance
 pub openings_in : OpeningsIn

@@ -13,8 +13,6 @@ use Rattle.wa_types.specs.declared.syntax.Limits.{Limits}
 use Rattle.wa_types.specs.declared.syntax.Import.{Import}
 use Rattle.wa_types.specs.Base.{Base, added_memories}
 use Rattle.wa_types.specs.Runtime.{zero_global, runtime_globals, with_runtime}
-use Rattle.wa_types.specs.Pausing.{Settings}
-use Rattle.wa_model.specs.Rewrites.{Rewrites}
 use Rattle.wa_types.specs.Memory.{page_size, bytes_of}
 use Rattle.wa_types.specs.Modules.{func_imports, func_type_at, defined_at, imported, imported_memory, all_memories}
 use Rattle.wa_types.proofs.MemoryLemmas.{length-bytes_of}
@@ -25,11 +23,12 @@ use Rattle.wa_model.specs.Outside.{Poke, Answer, answered, paused, returned, end
 use Rattle.wa_model.specs.Machine.{Turn, stops, goes, Ran}
 use Rattle.wa_model.specs.Store.{Store}
 use Rattle.wa_model.specs.Step.{Next, steps, asks, returns, traps, stuck, step, entered}
-use Rattle.wa_model.specs.Plan.{Entry, Plan, EntryFits, first_pages, Outcome, given, refused, AnswerFits, OutcomeFits, ValueFits}
+use Rattle.wa_model.specs.Plan.{Entry, Plan, AreaFits, EntryFits, Outcome, given, refused, AnswerFits, OutcomeFits, ValueFits}
 use Rattle.wa_model.specs.Instantiation.{Opening, fails_as, opens, opening, least_of}
 use Rattle.wa_model.specs.Blocking.{Note, note, call_note, fault_of, pause_of, poked, resumed, done_notes, value_of_results, Task, the_start, an_entry, Left, with_outcomes, Asker, inside, outermost, store_at, stack_at, in_start, next_entry, no_store, all_left}
 use Rattle.wa_model.specs.Protocol.{Exports, exports_of, Phase, is_running, unwinds, rewinds, Then, give_zero, test_unwound, pause_there, call_again, test_rewound, give_answer, Held, free, starting, busy, calling, aside, entering, over, put_word, with_words, used_of, protocol, broken, held_on, held_back, held_given, held_ends, held_pauses, held_tested, held_asked, trap_end, busy_step, is_state, zeros_of, answer_note, aside_back, aside_step, busy_enters, held_next, aside_called, held_start, held_started, held_begun, held_continued, store_held}
-use Rattle.range_laws.specs.Ranges.{byte_in, CodesIn, ValuesIn, MemoryIn, StoreIn, ActivationIn, NextIn, EndIn, SuspendedIn, TicksIn, NoteIn, EntryIn, LeftIn, AskerIn, PokeInside, PhaseIn, ThenIn, HeldIn, HeldFrom, OpeningIn, AreaInside, ProtocolIn, ProtocolGrows, ProtocolLater, FitsIn, FitsAreas, ComparedIn}
+use Rattle.wa_model.specs.LawfulStacks.{SuspendedIn}
+use Rattle.range_laws.specs.Ranges.{byte_in, CodesIn, ValuesIn, MemoryIn, StoreIn, ActivationIn, NextIn, EndIn, TicksIn, NoteIn, EntryIn, LeftIn, AskerIn, PokeInside, PhaseIn, ThenIn, HeldIn, HeldFrom, OpeningIn, ProtocolIn, ProtocolHoldsArea, ProtocolMemoryGrows, ProtocolLater, FitsIn, FitsAreas, ComparedIn}
 use Rattle.range_laws.proofs.Acts.{none_in, more_in}
 use Rattle.range_laws.proofs.Bytes.{bytes_of_in, overwritten_in}
 use Rattle.range_laws.proofs.Steps.{func_in, entered_in, step_in, zeros_in}
@@ -102,7 +101,8 @@ module _ (p : Module) (w : CodesIn p) (x : Exports) (plan : Plan) (base : ℕ) (
     ends_in k n e nx h = (two_notes low n _ nx (note_in low (ended e) n.store h nx.store), same low (over n.store) nx.store)
 
     -- a pause: its pokes lie inside the memory as it is
-    pauses_in : (k : ℕ) (n : Note) (import : ℕ) (a : Answer) (l : Left) (who : Asker) → NoteIn low n → AnswerFits a → LeftIn l → AskerIn low who → All (PokeInside (length (store_at who).memory)) a.pokes → MoveIn low (held_pauses x plan k n import a l who)
+    pauses_in : (k : ℕ) (n : Note) (import : ℕ) (a : Answer) (l : Left) (who : Asker) → NoteIn low n → AnswerFits a → LeftIn l → AskerIn low who
+        → All (PokeInside (length (store_at who).memory)) a.pokes → MoveIn low (held_pauses x plan k n import a l who)
     pauses_in k n import a l (inside (an_entry e) c) nx f h wh pokes =
         let size = length c.store.memory in
         let ok : StoreIn low c.store = wh.1.store in
@@ -125,10 +125,12 @@ module _ (p : Module) (w : CodesIn p) (x : Exports) (plan : Plan) (base : ℕ) (
     pauses_in k n import a l (inside the_start c) nx f h wh pokes = tt
     pauses_in k n import a l (outermost s) nx f h wh pokes = tt
 
-    tested_in : (k import : ℕ) (args : List Value) (who : Asker) (l : Left) (a : Answer) (o : Option End) (pause : Option ℕ) → ValuesIn args → AskerIn low who → LeftIn l → AnswerFits a → FaultIn o → (pause ≡ pause_of a.ticks)
+    tested_in : (k import : ℕ) (args : List Value) (who : Asker) (l : Left) (a : Answer) (o : Option End) (pause : Option ℕ) → ValuesIn args
+        → AskerIn low who → LeftIn l → AnswerFits a → FaultIn o → (pause ≡ pause_of a.ticks)
         → (o ≡ None → All (PokeInside (length (store_at who).memory)) a.pokes) → MoveIn low (held_tested p x plan k import args who l a o pause)
     tested_in k import args who l a (Some e) pause va wh h f bad z on =
-        ends_in k (call_note import args (store_at who) (stack_at p who) None) e (call_note_in low import args (store_at who) (stack_at p who) None va (asker_store low who wh) (stack_in low p who wh) tt) bad
+        ends_in k (call_note import args (store_at who) (stack_at p who) None) e
+        (call_note_in low import args (store_at who) (stack_at p who) None va (asker_store low who wh) (stack_in low p who wh) tt) bad
     tested_in k import args who l a None None va wh h f bad z on =
         let ok = asker_store low who wh in
         given_in k (call_note import args (store_at who) (stack_at p who) None) a (poked (store_at who) a.pokes) l who
@@ -138,12 +140,14 @@ module _ (p : Module) (w : CodesIn p) (x : Exports) (plan : Plan) (base : ℕ) (
         pauses_in k (call_note import args (store_at who) (stack_at p who) (Some ticks)) import a l who
         (call_note_in low import args (store_at who) (stack_at p who) (Some ticks) va ok (stack_in low p who wh) (subst TicksIn (sym z) (ticks_in a.ticks f.ticks))) f h wh (on refl)
 
-    asked_in : (k import : ℕ) (args : List Value) (who : Asker) (l : Left) (os : List Outcome) → ValuesIn args → AskerIn low who → All EntryIn l.entries → All OutcomeFits os → MoveIn low (held_asked p x plan k import args who l os)
+    asked_in : (k import : ℕ) (args : List Value) (who : Asker) (l : Left) (os : List Outcome) → ValuesIn args → AskerIn low who
+        → All EntryIn l.entries → All OutcomeFits os → MoveIn low (held_asked p x plan k import args who l os)
     asked_in k import args who l [] va wh h fs =
         let ok = asker_store low who wh in
         (one_note low _ (call_note_in low import args (store_at who) (stack_at p who) None va ok (stack_in low p who wh) tt), same low (over (store_at who)) ok)
     asked_in k import args who l (refused e ∷ os) va wh h fs =
-        ends_in k (call_note import args (store_at who) (stack_at p who) None) e (call_note_in low import args (store_at who) (stack_at p who) None va (asker_store low who wh) (stack_in low p who wh) tt) (refusal_in e (All-head OutcomeFits (refused e) os fs))
+        ends_in k (call_note import args (store_at who) (stack_at p who) None) e
+        (call_note_in low import args (store_at who) (stack_at p who) None va (asker_store low who wh) (stack_in low p who wh) tt) (refusal_in e (All-head OutcomeFits (refused e) os fs))
     asked_in k import args who l (given a ∷ os) va wh h fs =
         let f : AnswerFits a = All-head OutcomeFits (given a) os fs in
         let results = (func_type_at p import).results in
@@ -153,7 +157,7 @@ module _ (p : Module) (w : CodesIn p) (x : Exports) (plan : Plan) (base : ℕ) (
 
     trap_in : (area : Area) (ph : Phase) (trap : Trap) (s : Store) → EndIn (trap_end area ph trap s)
     trap_in area (is_running task) trap s = tt
-    trap_in area (unwinds e i a) trap s = tt
+    trap_in area (unwinds e i a) trap s = used_in s area
     trap_in area (rewinds e i a at_pause) trap s = tt
 
     trapped_in : (k : ℕ) (ph : Phase) (trap : Trap) (s : Store) → StoreIn low s → MoveIn low (goes k (note (ended (trap_end plan.area ph trap s)) s ∷ []) (over s))
@@ -177,7 +181,8 @@ module _ (p : Module) (w : CodesIn p) (x : Exports) (plan : Plan) (base : ℕ) (
     answer_in : (value : Option Value) (s at_pause : Store) → ValueFits value → StoreIn low s → StoreIn 0 at_pause → NoteIn low (answer_note value s at_pause)
     answer_in value s at_pause vf ok since = record { event = vf; store = ok; stack = All-nil SuspendedIn; pause = tt; since = since }
 
-    aside_back_in : (k : ℕ) (ph : Phase) (th : Then) (l : Left) (results : List Value) (s : Store) → PhaseIn low ph → ThenIn th → LeftIn l → StoreIn low s → MoveIn low (aside_back p x plan k ph th l results s)
+    aside_back_in : (k : ℕ) (ph : Phase) (th : Then) (l : Left) (results : List Value) (s : Store) → PhaseIn low ph → ThenIn th
+        → LeftIn l → StoreIn low s → MoveIn low (aside_back p x plan k ph th l results s)
     aside_back_in k (unwinds e i a) (give_zero c) l results s ph th h ok =
         (quiet low, same low (busy (unwinds e i a) (resumed c s (zeros_of p i)) l) (ph, resumed_in low c s (zeros_of p i) th ok (zeros_in (func_type_at p i).results), h))
     aside_back_in k (unwinds e i a) test_unwound l results s ph th h ok = by_state (is_state 1 results)
@@ -201,7 +206,8 @@ module _ (p : Module) (w : CodesIn p) (x : Exports) (plan : Plan) (base : ℕ) (
         let f : AnswerFits a = ph.0.fits in
         let there : StoreIn low (poked s a.pokes) = poked_store_in low s a f ph.0.inside ok in (
           one_note low _ (answer_in a.value (poked s a.pokes) at_pause f.value there ph.1),
-          same low (busy (is_running (an_entry e)) (resumed c (poked s a.pokes) (option_to_list a.value)) l) (ph.0.entry, resumed_in low c (poked s a.pokes) (option_to_list a.value) th there (optional_in a.value f.value), h),
+          same low (busy (is_running (an_entry e)) (resumed c (poked s a.pokes) (option_to_list a.value)) l)
+              (ph.0.entry, resumed_in low c (poked s a.pokes) (option_to_list a.value) th there (optional_in a.value f.value), h),
         )
     aside_back_in k _ _ l results s ph th h ok = tt
 
@@ -212,7 +218,8 @@ module _ (p : Module) (w : CodesIn p) (x : Exports) (plan : Plan) (base : ℕ) (
     aside_in ph th l (traps k trap s) a b h ok = trapped_in k ph trap s ok
     aside_in ph th l stuck a b h ok = tt
 
-    enters_in : (ph : Phase) (e : Entry) (s : Store) (l : Left) (o : Option Func) → PhaseIn low ph → EntryIn e → StoreIn low s → LeftIn l → ((f : Func) → o ≡ Some f → CodeFits f.body) → MoveIn low (busy_enters ph e s l o)
+    enters_in : (ph : Phase) (e : Entry) (s : Store) (l : Left) (o : Option Func) → PhaseIn low ph → EntryIn e → StoreIn low s → LeftIn l
+        → ((f : Func) → o ≡ Some f → CodeFits f.body) → MoveIn low (busy_enters ph e s l o)
     enters_in ph e s l None a eh ok h ff = tt
     enters_in ph e s l (Some f) a eh ok h ff = (quiet low, same low (busy ph (entered s [] e.args e.func f) l) (a, entered_in low s [] e.args e.func f ok (All-nil ActivationIn) eh (ff f refl), h))
 
@@ -222,7 +229,8 @@ module _ (p : Module) (w : CodesIn p) (x : Exports) (plan : Plan) (base : ℕ) (
         let eh = All-head EntryIn e es h in
         enters_in (is_running (an_entry e)) e s (record { number = l.number; entries = es; outcomes = l.outcomes }) (defined_at p e.func) eh eh ok (left_entries l e es h k) (func_in p w e.func)
 
-    called_in : (ph : Phase) (s : Store) (f : ℕ) (args : List Value) (th : Then) (l : Left) (o : Option Func) → PhaseIn low ph → StoreIn low s → ValuesIn args → ThenIn th → LeftIn l → ((g : Func) → o ≡ Some g → CodeFits g.body) → MoveIn low (aside_called ph s f args th l o)
+    called_in : (ph : Phase) (s : Store) (f : ℕ) (args : List Value) (th : Then) (l : Left) (o : Option Func) → PhaseIn low ph → StoreIn low s → ValuesIn args → ThenIn th
+        → LeftIn l → ((g : Func) → o ≡ Some g → CodeFits g.body) → MoveIn low (aside_called ph s f args th l o)
     called_in ph s f args th l None a ok va b h ff = tt
     called_in ph s f args th l (Some g) a ok va b h ff = (quiet low, same low (aside ph (entered s [] args f g) th l) (a, entered_in low s [] args f g ok (All-nil ActivationIn) va (ff g refl), b, h))
 
@@ -281,11 +289,12 @@ held_whole low (free s l) h = (store_whole low s h.0, h.1)
 held_whole low (starting f s l) h = (store_whole low s h.0, h.1)
 held_whole low (busy ph c l) h = (phase_raise low (length c.store.memory) ph h.1.store.memory.least h.0, record { store = store_whole low c.store h.1.store; here = h.1.here; under = h.1.under }, h.2)
 held_whole low (calling ph s f args th l) h = (phase_raise low (length s.memory) ph h.1.memory.least h.0, store_whole low s h.1, h.2, h.3, h.4)
-held_whole low (aside ph c th l) h = (phase_raise low (length c.store.memory) ph h.1.store.memory.least h.0, record { store = store_whole low c.store h.1.store; here = h.1.here; under = h.1.under }, h.2, h.3)
+held_whole low (aside ph c th l) h =
+    (phase_raise low (length c.store.memory) ph h.1.store.memory.least h.0, record { store = store_whole low c.store h.1.store; here = h.1.here; under = h.1.under }, h.2, h.3)
 held_whole low (entering ph e s l) h = (phase_raise low (length s.memory) ph h.2.memory.least h.0, h.1, store_whole low s h.2, h.3)
 held_whole low (over s) h = store_whole low s h
 
-pub protocol_grows : ProtocolGrows
+pub protocol_grows : ProtocolMemoryGrows
 protocol_grows p plan s t n es w wide h l =
     let base = plan.area.at + plan.area.len in
     let low = length (store_held s).memory in
@@ -299,35 +308,55 @@ held_on_from : (low : ℕ) (s : Store) (l : Left) (es : List Entry) → StoreIn 
 held_on_from low s l [] ok h = ok
 held_on_from low s l (e ∷ es) ok h = (ok, h)
 
-module _ (p : Module) (w : CodesIn p) (plan : Plan) (n : ℕ) (area : AreaInside p plan.area) where
-  ran_in : (start : Option ℕ) (l : Left) (o : Opening) → OpeningIn (least_of (all_memories p) * page_size) o → LeftIn l
-      → All (NoteIn 0) (held_continued p plan n (held_begun start l o)).events × StoreIn 0 (store_held (held_continued p plan n (held_begun start l o)).last)
+module _ (p : Module) (w : CodesIn p) (plan : Plan) (n : ℕ) (area : AreaFits p plan.area) where
+  abbrev declared : ℕ
+  declared = least_of (all_memories p) * page_size
+
+  abbrev RunsFrom : ℕ → Ran Held Note → Type 0
+  RunsFrom low r = All (NoteIn low) (held_continued p plan n r).events × HeldFrom low (held_continued p plan n r).last
+
+  -- where it opens the memory is as declared
+  opened_in : (start : Option ℕ) (l : Left) (s : Store) → StoreIn declared s → LeftIn l → RunsFrom declared (held_started s l start)
+  opened_in start l s h k =
+      let same : declared ≤ declared = omega arith in
+      after_keeps (protocol p (exports_of p) plan) (HeldFrom declared) (NoteIn declared)
+      (λ u c. turn_in p w (exports_of p) plan declared area.least area.inside declared u same c) n (held_started s l start) (begins_in start)
+    where
+      begins_in : (o : Option ℕ) → All (NoteIn declared) (held_started s l o).events × HeldFrom declared (held_started s l o).last
+      begins_in None = (done_in _ s l.entries h, (_, omega arith, held_on_from _ s l l.entries h k))
+      begins_in (Some f) = (All-nil (NoteIn _), (_, omega arith, (h, k)))
+
+  runs_lower : (low size : ℕ) (r : Ran Held Note) → low ≤ size → RunsFrom size r → RunsFrom low r
+  runs_lower low size r le h =
+      let far : size ≤ (h.1).0 = (h.1).1 in
+      (notes_lower low size _ le h.0, ((h.1).0, omega arith, (h.1).2))
+
+  ran_in : (start : Option ℕ) (l : Left) (o : Opening) → OpeningIn declared o → LeftIn l → RunsFrom 0 (held_begun start l o)
   ran_in start l (fails_as e) h k = by_count n
     where
-      by_count : (n : ℕ) → All (NoteIn 0) (held_continued p plan n (held_begun start l (fails_as e))).events × StoreIn 0 (store_held (held_continued p plan n (held_begun start l (fails_as e))).last)
-      by_count zero = (one_note 0 _ (note_in 0 (ended e) no_store h no_store_in), no_store_in)
-      by_count (suc n) = (one_note 0 _ (note_in 0 (ended e) no_store h no_store_in), no_store_in)
-  ran_in start l (opens s) h k = by_start start
-    where
-      by_start : (o : Option ℕ) → All (NoteIn 0) (held_continued p plan n (held_started s l o)).events × StoreIn 0 (store_held (held_continued p plan n (held_started s l o)).last)
-      by_start o =
-          let low = least_of (all_memories p) * page_size in
-          let same : low ≤ low = omega arith in
-          let first : All (NoteIn low) (held_started s l o).events × HeldFrom low (held_started s l o).last = begins_in o in
-          let r = after_keeps (protocol p (exports_of p) plan) (HeldFrom low) (NoteIn low) (λ u c. turn_in p w (exports_of p) plan low area.least area.inside low u same c) n (held_started s l o) first in
-          (notes_lower 0 low _ (omega arith) r.0, store_lower 0 (r.1).0 _ (omega arith) (held_store (r.1).0 _ (r.1).2))
-        where
-          begins_in : (o : Option ℕ) → All (NoteIn (least_of (all_memories p) * page_size)) (held_started s l o).events × HeldFrom (least_of (all_memories p) * page_size) (held_started s l o).last
-          begins_in None = (done_in _ s l.entries h, (_, omega arith, held_on_from _ s l l.entries h k))
-          begins_in (Some f) = (All-nil (NoteIn _), (_, omega arith, (h, k)))
+      by_count : (n : ℕ) → All (NoteIn 0) (held_continued p plan n (held_begun start l (fails_as e))).events × HeldFrom 0 (held_continued p plan n (held_begun start l (fails_as e))).last
+      by_count zero = (one_note 0 _ (note_in 0 (ended e) no_store h no_store_in), (0, omega arith, no_store_in))
+      by_count (suc n) = (one_note 0 _ (note_in 0 (ended e) no_store h no_store_in), (0, omega arith, no_store_in))
+  ran_in start l (opens s) h k = runs_lower 0 declared (held_started s l start) (omega arith) (opened_in start l s h k)
 
 pub protocol_in : ProtocolIn
-protocol_in p plan os n w v area fs = ran_in p w plan n area p.start (all_left plan os) (opening p plan.globals) (openings_in p plan.globals w v.globals) (record { entries = v.entries; outcomes = fs })
+protocol_in p plan os n w v area fs =
+    ran_in p w plan n area p.start (all_left plan os) (opening p plan.globals) (openings_in p plan.globals w v.globals) (record { entries = v.entries; outcomes = fs })
+
+pub protocol_area : ProtocolHoldsArea
+protocol_area p plan os n s w v area fs e =
+    let low = plan.area.at + plan.area.len in
+    let l = all_left plan os in
+    let size = least_of (all_memories p) * page_size in
+    let opened : StoreIn size s = subst (OpeningIn size) e (openings_in p plan.globals w v.globals) in
+    let r = runs_lower p w plan n area low size (held_started s l p.start) area.inside (opened_in p w plan n area p.start l s opened (record { entries = v.entries; outcomes = fs })) in
+    subst (λ (o : Opening). RunsFrom p w plan n area low (held_begun p.start l o)) (sym e) r
 
 -- ---- longer runs
 
 -- a run that is over before it begins stays so
-none_moves : (p : Module) (plan : Plan) (low : ℕ) (t : Held) → t ≡ over no_store → TurnKeeps (protocol p (exports_of p) plan) (λ (u : Held). u ≡ over no_store) (NoteIn low) (protocol p (exports_of p) plan t)
+none_moves : (p : Module) (plan : Plan) (low : ℕ) (t : Held) → t ≡ over no_store
+    → TurnKeeps (protocol p (exports_of p) plan) (λ (u : Held). u ≡ over no_store) (NoteIn low) (protocol p (exports_of p) plan t)
 none_moves p plan low t e = subst (λ (u : Held). TurnKeeps (protocol p (exports_of p) plan) (λ (u : Held). u ≡ over no_store) (NoteIn low) (protocol p (exports_of p) plan u)) (sym e) tt
 
 -- what is made later than so much of a run
@@ -337,7 +366,7 @@ Later p plan n more r =
     × All (NoteIn (length (store_held (held_continued p plan n r).last).memory)) later
     × StoreIn (length (store_held (held_continued p plan n r).last).memory) (store_held (held_continued p plan (n + more) r).last)
 
-module _ (p : Module) (w : CodesIn p) (plan : Plan) (n more : ℕ) (area : AreaInside p plan.area) where
+module _ (p : Module) (w : CodesIn p) (plan : Plan) (n more : ℕ) (area : AreaFits p plan.area) where
   over_later : (r : Ran Held Note) → r.last ≡ over no_store → Later p plan n more r
   over_later r e =
       let next = protocol p (exports_of p) plan in
@@ -376,7 +405,8 @@ module _ (p : Module) (w : CodesIn p) (plan : Plan) (n more : ℕ) (area : AreaI
       by_start (Some f) = held_later (held_started s l (Some f)) (_, omega arith, (h, k))
 
 pub protocol_later : ProtocolLater
-protocol_later p plan os n more w v area fs = ran_later p w plan n more area p.start (all_left plan os) (opening p plan.globals) (openings_in p plan.globals w v.globals) (record { entries = v.entries; outcomes = fs })
+protocol_later p plan os n more w v area fs =
+    ran_later p w plan n more area p.start (all_left plan os) (opening p plan.globals) (openings_in p plan.globals w v.globals) (record { entries = v.entries; outcomes = fs })
 
 -- ---- plans that fit
 
@@ -387,18 +417,14 @@ entries_in m (e ∷ es) h = All-cons EntryIn e es (All-head (EntryFits m) e es h
 pub fits_in : FitsIn
 fits_in m plan h = record { globals = h.globals.ranges; entries = entries_in m plan.entries h.entries }
 
-first_least : (ls : List Limits) → first_pages ls ≡ least_of ls
-first_least [] = refl
-first_least (l ∷ ls) = refl
-
 pub fits_areas : FitsAreas
 unfolding Base with_runtime
 fits_areas m p plan imports memories h =
     let same : all_memories (Base m) ≡ all_memories p =
     ap (λ (is : List Import). filter_map (λ (i : Import). imported_memory i.kind) is ++ (m.memories ++ added_memories (all_memories m))) (sym imports)
     ∙ ap (λ (ls : List Limits). imported imported_memory p ++ ls) (sym memories) in
-    let size : first_pages (all_memories (Base m)) ≡ least_of (all_memories p) = first_least (all_memories (Base m)) ∙ ap least_of same in
-    record { least = h.area.least; inside = subst (λ (k : ℕ). plan.area.at + plan.area.len ≤ k * page_size) size h.area.inside }
+    let size : least_of (all_memories (Base m)) ≡ least_of (all_memories p) = ap least_of same in
+    record { aligned = h.area.aligned; least = h.area.least; inside = subst (λ (k : ℕ). plan.area.at + plan.area.len ≤ k * page_size) size h.area.inside }
 
 -- the runtime's globals begin with a zero
 runtime_in : All (λ (g : GlobalDef). CodeFits g.init) runtime_globals
@@ -406,18 +432,18 @@ runtime_in =
     let fits : CodeFits zero_global.init = (omega arith, tt) in
     All-cons (λ (g : GlobalDef). CodeFits g.init) zero_global (zero_global ∷ []) fits (All-cons (λ (g : GlobalDef). CodeFits g.init) zero_global [] fits (All-nil (λ (g : GlobalDef). CodeFits g.init)))
 
--- a rewritten module holds constants in range, where its bodies do
-rewritten_in : (m : Module) (s : Settings) (p : Module) → CodesIn m → All (λ (f : Func). CodeFits f.body) p.funcs → Rewrites m s p → CodesIn p
+-- a module with the runtime's globals holds constants in range, where its bodies do
+rewritten_in : (m p : Module) → CodesIn m → All (λ (f : Func). CodeFits f.body) p.funcs → p.globals ≡ (with_runtime m).globals → p.segments ≡ m.segments → CodesIn p
 unfolding with_runtime
-rewritten_in m s p w fs r = record {
+rewritten_in m p w fs globals segments = record {
   funcs = fs;
-  globals = subst (All (λ (g : GlobalDef). CodeFits g.init)) (sym r.globals) (All-append (λ (g : GlobalDef). CodeFits g.init) m.globals runtime_globals w.globals runtime_in);
-  segments = subst (All (λ (s : Segment). All byte_in s.bytes)) (sym r.segments) w.segments;
+  globals = subst (All (λ (g : GlobalDef). CodeFits g.init)) (sym globals) (All-append (λ (g : GlobalDef). CodeFits g.init) m.globals runtime_globals w.globals runtime_in);
+  segments = subst (All (λ (s : Segment). All byte_in s.bytes)) (sym segments) w.segments;
 }
 
 pub compared_in : ComparedIn
-compared_in m s p plan os n k wm bodies r h fs =
-    let codes = well_formed_in m wm in (
-      (blocking_in m plan os n codes (fits_in m plan h) fs).0,
-      (protocol_in p plan os k (rewritten_in m s p codes bodies r) (fits_in m plan h) (fits_areas m p plan r.imports r.memories h) fs).0,
-    )
+compared_in m p plan os n k wm bodies imports memories globals segments h fs =
+    let codes = well_formed_in m wm in
+    let first = blocking_in m plan os n codes (fits_in m plan h) fs in
+    let second = protocol_in p plan os k (rewritten_in m p codes bodies globals segments) (fits_in m plan h) (fits_areas m p plan imports memories h) fs in
+    (first.0, first.1, second.0, second.1)

@@ -1,6 +1,6 @@
 //! Laws of ranges and of memories. Each is the contract of a function that does nothing.
 
-ghost use Rattle.range_laws.specs.Ranges.{AnswersIn, BlockingGrows, BlockingIn, BlockingLater, CallsIn, ComparedIn, EndsIn, FitsAreas, FitsIn, OpeningsIn, OperatorsIn, ProtocolGrows, ProtocolIn, ProtocolLater, StepsIn, StretchesIn, WellFormedIn};
+ghost use Rattle.range_laws.specs.Ranges.{AnswersIn, BlockingHoldsArea, BlockingIn, BlockingLater, BlockingMemoryGrows, CallsIn, ComparedIn, EndsIn, FitsAreas, FitsIn, OpeningsIn, OperatorsIn, ProtocolHoldsArea, ProtocolIn, ProtocolLater, ProtocolMemoryGrows, StepsIn, StretchesIn, WellFormedIn};
 
 /// What an operator makes of operands in range is in range (standard, section 4.4.1).
 pub fn operators_in_range()
@@ -32,10 +32,16 @@ pub fn runs_in_range()
     ensures compared { ComparedIn }
 {}
 
+/// Where there is an instance, the area of a plan that fits lies inside the memory all along a run.
+pub fn area_stays_inside()
+    ensures blocking { BlockingHoldsArea }
+    ensures protocol { ProtocolHoldsArea }
+{}
+
 /// No move makes the memory shorter, and it stays whole pages, 1,024 of them at most.
 pub fn memory_never_shrinks()
-    ensures blocking_moves { BlockingGrows }
-    ensures protocol_moves { ProtocolGrows }
+    ensures blocking_moves { BlockingMemoryGrows }
+    ensures protocol_moves { ProtocolMemoryGrows }
     ensures blocking { BlockingLater }
     ensures protocol { ProtocolLater }
 {}

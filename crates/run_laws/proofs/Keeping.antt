@@ -97,8 +97,14 @@ module _ (g : ℕ) (area : Area) where
           record {
             globals_same = λ x h. refl;
             size = sym (length-overwritten s.memory place (bytes_of w n) fits);
-            below = λ x h. got_of s.memory x ∙ ap head (sym (bytes_at-overwritten_below s.memory place (bytes_of w n) x 1 (omega arith) fits)) ∙ sym (got_of (overwritten s.memory place (bytes_of w n)) x);
-            above = λ x h. got_of s.memory x ∙ ap head (sym (bytes_at-overwritten_behind s.memory place (bytes_of w n) x 1 (omega arith) fits)) ∙ sym (got_of (overwritten s.memory place (bytes_of w n)) x);
+            below =
+                λ x h. got_of s.memory x
+                ∙ ap head (sym (bytes_at-overwritten_below s.memory place (bytes_of w n) x 1 (omega arith) fits))
+                ∙ sym (got_of (overwritten s.memory place (bytes_of w n)) x);
+            above =
+                λ x h. got_of s.memory x
+                ∙ ap head (sym (bytes_at-overwritten_behind s.memory place (bytes_of w n) x 1 (omega arith) fits))
+                ∙ sym (got_of (overwritten s.memory place (bytes_of w n)) x);
           }
       by_room false e = tt
 
@@ -128,11 +134,29 @@ module _ (g : ℕ) (area : Area) where
   act_keeps most memory_grow s (V.I32 k ∷ []) h = cc
   act_keeps most _ s _ h = tt
 
+  -- the operands below those that it takes make no difference
+  cut_keeps : (b : Basic) (ops : List Value) → keeps_basic g area b ops ≡ true → keeps_basic g area b (take (takes b) ops) ≡ true
+  cut_keeps nop ops h = refl
+  cut_keeps a_drop ops h = refl
+  cut_keeps select ops h = refl
+  cut_keeps (const v) ops h = refl
+  cut_keeps (num op) ops h = refl
+  cut_keeps (global_get x) ops h = refl
+  cut_keeps (global_set x) ops h = h
+  cut_keeps (load op align offset) ops h = refl
+  cut_keeps (store op align offset) [] h = h
+  cut_keeps (store op align offset) (v ∷ []) h = h
+  cut_keeps (store op align offset) (v ∷ V.I32 a ∷ ops) h = h
+  cut_keeps (store op align offset) (v ∷ V.I64 a ∷ ops) h = h
+  cut_keeps memory_size ops h = refl
+  cut_keeps memory_grow ops h = h
+
   leaves_keep : (k : ℕ) (s : Store) (ops : List Value) (arity : ℕ) (under : List Activation) → NextKeeps s (leave k s ops arity under)
   leaves_keep k s ops arity [] = tt
   leaves_keep k s ops arity (a ∷ under) = same_refl g area s
 
-  did_keeps : (fn : ℕ) (under : List Activation) (ls : List Value) (labels : List Label) (rest : Code) (ops : List Value) (s : Store) (d : Did) → DidKeeps s d → NextKeeps s (did fn under ls labels rest s ops d)
+  did_keeps : (fn : ℕ) (under : List Activation) (ls : List Value) (labels : List Label) (rest : Code) (ops : List Value) (s : Store) (d : Did)
+      → DidKeeps s d → NextKeeps s (did fn under ls labels rest s ops d)
   did_keeps fn under ls labels rest ops s (works s' results) h = h
   did_keeps fn under ls labels rest ops s (fails trap) h = tt
   did_keeps fn under ls labels rest ops s lacks h = tt
@@ -186,14 +210,15 @@ module _ (g : ℕ) (area : Area) where
     through_keeps ls own ops rest labels sort (Some None) = tt
     through_keeps ls own ops rest labels sort (Some (Some x)) = by_type (same_func_type (func_type_at p x) (type_at p sort))
       where
-        by_type : (b : Bool) → NextKeeps s (if b then invoke p s fn under ls own ops rest labels (param_count (type_at p sort)) x (defined_at p x) else traps (param_count (type_at p sort)) TypeMismatch s)
+        by_type : (b : Bool) → NextKeeps s
+            (if b then invoke p s fn under ls own ops rest labels (param_count (type_at p sort)) x (defined_at p x) else traps (param_count (type_at p sort)) TypeMismatch s)
         by_type true = invokes_keep ls own ops rest labels (param_count (type_at p sort)) x (defined_at p x)
         by_type false = tt
 
     step_keeps : (ls ops : List Value) (labels : List Label) (code : Code) → keeps_code g area ops code ≡ true → NextKeeps s (step_at p s fn under ls ops labels code)
     step_keeps ls ops labels done h = finishes_keep ls ops labels
     step_keeps ls ops labels (plain (basic b) rest) h =
-        did_keeps fn under ls labels rest (drop (takes b) ops) s (act (memory_max p) b s (take (takes b) ops)) (act_keeps (memory_max p) b s (take (takes b) ops) h)
+        did_keeps fn under ls labels rest (drop (takes b) ops) s (act (memory_max p) b s (take (takes b) ops)) (act_keeps (memory_max p) b s (take (takes b) ops) (cut_keeps b ops h))
     step_keeps ls ops labels (plain (local_get x) rest) h = same_refl g area s
     step_keeps ls ops labels (plain (local_set x) rest) h = top_keeps s ops _ (λ v below. same_refl g area s)
     step_keeps ls ops labels (plain (local_tee x) rest) h = top_keeps s ops _ (λ v below. same_refl g area s)
@@ -217,7 +242,8 @@ module _ (g : ℕ) (area : Area) where
         by_arm (suc v) below = same_refl g area s
 
   -- one move of the checked machine
-  checked : (p : Module) (c : Configuration) (b : Bool) (o : Next) (k : ℕ) (es : List Note) (d : Configuration) → alone_next b o ≡ goes k es d → (b ≡ true → NextKeeps c.store o) → (o ≡ steps k d) × SameEnd g area c.store d.store
+  checked : (p : Module) (c : Configuration) (b : Bool) (o : Next) (k : ℕ) (es : List Note) (d : Configuration) → alone_next b o ≡ goes k es d
+      → (b ≡ true → NextKeeps c.store o) → (o ≡ steps k d) × SameEnd g area c.store d.store
   checked p c true (steps j e) k es d q h =
       let k' : j ≡ k = cc in
       let d' : e ≡ d = cc in
@@ -230,7 +256,8 @@ module _ (g : ℕ) (area : Area) where
 
   -- Reductions by which a machine goes on and that show their store: at each cost within them it has made nothing, and shows
   -- the first store but for the area.
-  module _ (p : Module) (S : Type 0) (next : S → Turn S Note) (hold : Configuration → S) (seen : S → Store) (on_by : (c d : Configuration) (k : ℕ) → step p c ≡ steps k d → next (hold c) ≡ goes k [] (hold d)) (shows : (c : Configuration) → seen (hold c) ≡ c.store) where
+  module _ (p : Module) (S : Type 0) (next : S → Turn S Note) (hold : Configuration → S) (seen : S → Store)
+      (on_by : (c d : Configuration) (k : ℕ) → step p c ≡ steps k d → next (hold c) ≡ goes k [] (hold d)) (shows : (c : Configuration) → seen (hold c) ≡ c.store) where
     abbrev Kept : Configuration → ℕ → Type 0
     Kept c j = ((run next j (hold c)).events ≡ []) × SameEnd g area c.store (seen (run next j (hold c)).last)
 

@@ -18,7 +18,7 @@ use Rattle.wa_model.specs.Alone.{alone_next}
 use Rattle.wa_model.specs.Blocking.{Note, overlap}
 use Rattle.wa_model.specs.Untouched.{StaysOff, next_access}
 use Rattle.wa_model.specs.Keeping.{keeps_basic, keeps_code, silent_basic, silent_code, silent, stays_off}
-use Rattle.run_laws.specs.Stretches.{SilentIsKept, SilentStoresStay, CalmStaysOff}
+use Rattle.run_laws.specs.Stretches.{SilentIsKept, SilentStoresStay, CalmIsCalm}
 
 -- ---- silence is kept
 
@@ -37,7 +37,7 @@ basic_kept g area memory_grow ops h = cc
 
 code_kept : (g : ℕ) (area : Area) (ops : List Value) (code : Code) → silent_code code ≡ true → keeps_code g area ops code ≡ true
 code_kept g area ops done h = refl
-code_kept g area ops (plain (basic b) rest) h = basic_kept g area b (take (takes b) ops) h
+code_kept g area ops (plain (basic b) rest) h = basic_kept g area b ops h
 code_kept g area ops (plain (local_get x) rest) h = refl
 code_kept g area ops (plain (local_set x) rest) h = refl
 code_kept g area ops (plain (local_tee x) rest) h = refl
@@ -121,7 +121,8 @@ module _ (s : Store) where
 
     step_stays : (ls ops : List Value) (labels : List Label) (code : Code) → silent_code code ≡ true → NextStays s (step_at m s fn under ls ops labels code)
     step_stays ls ops labels done h = finish_stays ls ops labels
-    step_stays ls ops labels (plain (basic b) rest) h = did_stays fn under ls labels rest (drop (takes b) ops) (act (memory_max m) b s (take (takes b) ops)) (act_stays (memory_max m) b (take (takes b) ops) h)
+    step_stays ls ops labels (plain (basic b) rest) h =
+        did_stays fn under ls labels rest (drop (takes b) ops) (act (memory_max m) b s (take (takes b) ops)) (act_stays (memory_max m) b (take (takes b) ops) h)
     step_stays ls ops labels (plain (local_get x) rest) h = refl
     step_stays ls ops labels (plain (local_set x) rest) h = top_stays ops _ (λ v below. refl)
     step_stays ls ops labels (plain (local_tee x) rest) h = top_stays ops _ (λ v below. refl)
@@ -181,5 +182,5 @@ access_calm area size (Some x) = (to, by_size (nat_lt size (x.at + x.width)) ref
     by_size true e h = refl
     by_size false e h = ap not (h (ltb-false size (x.at + x.width) e))
 
-pub calm_stays_off : CalmStaysOff
-calm_stays_off area c = access_calm area (length c.store.memory) (next_access c)
+pub calm_is_calm : CalmIsCalm
+calm_is_calm area task c l = access_calm area (length c.store.memory) (next_access c)

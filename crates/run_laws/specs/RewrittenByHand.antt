@@ -58,9 +58,6 @@ module_with f = record {
   customs = [];
 }
 
-abbrev pub plan_of : ℕ → List Entry → Plan
-plan_of len entries = record { globals = []; entries = entries; area = record { at = 0; len = len }; listed = Some (true ∷ []) }
-
 abbrev pub entry : ℕ → List Value → Entry
 entry x args = record { func = x; args = args }
 

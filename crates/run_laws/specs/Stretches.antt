@@ -1,5 +1,5 @@
 -- What is seen along stretches of a module's own reductions that leave the original's store alone.
-use Rattle.std.specs.Prelude.{◌≡◌, ◌↔◌, ◌≤◌, ℕ, List, [], length, true}
+use Rattle.std.specs.Prelude.{◌≡◌, ◌↔◌, ◌≤◌, ℕ, List, [], true}
 use Rattle.wa_types.specs.Syntax.{Module}
 use Rattle.wa_model.specs.declared.answers.Area.{Area}
 use Rattle.wa_model.specs.Machine.{run, Leads}
@@ -7,7 +7,7 @@ use Rattle.wa_model.specs.Configuration.{Configuration}
 use Rattle.wa_model.specs.Alone.{alone}
 use Rattle.wa_model.specs.Plan.{Plan}
 use Rattle.wa_model.specs.Blocking.{Note, Left, Task, runs, blocking, store_of}
-use Rattle.wa_model.specs.Untouched.{StaysOff, next_access}
+use Rattle.wa_model.specs.Untouched.{IsCalm}
 use Rattle.wa_model.specs.Protocol.{Exports, Phase, Then, busy, aside, protocol, store_held}
 use Rattle.wa_model.specs.Expected.{SameEnd}
 use Rattle.wa_model.specs.Keeping.{keeps, silent, calm}
@@ -42,6 +42,6 @@ SilentIsKept = (globals : ℕ) (area : Area) (c : Configuration) → silent c �
 abbrev pub SilentStoresStay : Type 0
 SilentStoresStay = (m : Module) (c d : Configuration) (n : ℕ) (es : List Note) → Leads (alone silent m) c n es d → (es ≡ []) × (d.store ≡ c.store)
 
--- The test is that of a run that leaves the area alone.
-abbrev pub CalmStaysOff : Type 0
-CalmStaysOff = (area : Area) (c : Configuration) → (calm area c ≡ true) ↔ StaysOff area (length c.store.memory) (next_access c)
+-- The test of a configuration says what a run that doesn't touch the area says where it stands.
+abbrev pub CalmIsCalm : Type 0
+CalmIsCalm = (area : Area) (task : Task) (c : Configuration) (l : Left) → (calm area c ≡ true) ↔ IsCalm area (runs task c l)

@@ -25,7 +25,8 @@ is_least m s member closed _ (by_member x f place y is at may) = closed.calls_me
 
 -- ---- lists of truth values
 
-same_lists : (xs ys : List Bool) → length xs ≡ length ys → ((x : ℕ) → slice_get xs x ≡ Some true → slice_get ys x ≡ Some true) → ((x : ℕ) → slice_get ys x ≡ Some true → slice_get xs x ≡ Some true) → xs ≡ ys
+same_lists : (xs ys : List Bool) → length xs ≡ length ys → ((x : ℕ) → slice_get xs x ≡ Some true → slice_get ys x ≡ Some true)
+    → ((x : ℕ) → slice_get ys x ≡ Some true → slice_get xs x ≡ Some true) → xs ≡ ys
 same_lists [] [] e to from = refl
 same_lists [] (y ∷ ys) e to from = absurd (omega (arith, e))
 same_lists (x ∷ xs) [] e to from = absurd (omega (arith, e))
@@ -88,7 +89,9 @@ told_at test x (suc k) (suc i) lt = let z : suc x + i ≡ x + suc i = omega arit
 
 told_grows : (test : ℕ → Bool) (x : ℕ) (told : List Bool) → ((i : ℕ) → slice_get told i ≡ Some true → test (x + i) ≡ true) → Grows told (told_from test x (length told))
 told_grows test x [] h = tt
-told_grows test x (b ∷ told) h = by_first b (test x) (λ e. let z : x + 0 ≡ x = omega arith in ap test (sym z) ∙ h 0 (ap Some e)) (told_grows test (suc x) told (λ i e. let z : suc x + i ≡ x + suc i = omega arith in ap test z ∙ h (suc i) e))
+told_grows test x (b ∷ told) h =
+    by_first b (test x) (λ e. let z : x + 0 ≡ x = omega arith in ap test (sym z) ∙ h 0 (ap Some e))
+    (told_grows test (suc x) told (λ i e. let z : suc x + i ≡ x + suc i = omega arith in ap test z ∙ h (suc i) e))
   where
     by_first : (b c : Bool) → (b ≡ true → c ≡ true) → Grows told (told_from test (suc x) (length told)) → Grows (b ∷ told) (c ∷ told_from test (suc x) (length told))
     by_first true true f g = g
@@ -166,7 +169,8 @@ module _ (m : Module) (s : Settings) where
   round_grows : (told : List Bool) → length told ≡ count → Grows told (round told)
   round_grows told e =
       subst (λ n. Grows told (told_from (turn told) 0 n)) e
-      (told_grows (turn told) 0 told (λ i h. let z : i ≡ 0 + i = omega arith in ap (turn told) (sym z) ∙ or_left (is_told (slice_get told i)) (list_any (has_number m s told) (calls_found (defined_at m i))) (ap is_told h)))
+      (told_grows (turn told) 0 told
+      (λ i h. let z : i ≡ 0 + i = omega arith in ap (turn told) (sym z) ∙ or_left (is_told (slice_get told i)) (list_any (has_number m s told) (calls_found (defined_at m i))) (ap is_told h)))
 
   -- a sound list that a round doesn't change
   record Settled : Type 0 where
@@ -205,7 +209,8 @@ module _ (m : Module) (s : Settings) where
     where
       joins : (x : ℕ) (f : Func) (place : ℕ) (c : Callee) → defined_at m x ≡ Some f → slice_get (calls_in f) place ≡ Some c → has_number m s t.told c ≡ true → is_told (slice_get t.told x) ≡ true
       joins x f place c is at h =
-          let any : list_any (has_number m s t.told) (calls_found (defined_at m x)) ≡ true = ap (λ o. list_any (has_number m s t.told) (calls_found o)) is ∙ at_any (has_number m s t.told) (calls_in f) place c at h in
+          let any : list_any (has_number m s t.told) (calls_found (defined_at m x)) ≡ true =
+          ap (λ o. list_any (has_number m s t.told) (calls_found o)) is ∙ at_any (has_number m s t.told) (calls_in f) place c at h in
           let turned : turn t.told x ≡ true = or_right (is_told (slice_get t.told x)) (list_any (has_number m s t.told) (calls_found (defined_at m x))) any in
           let z : 0 + x ≡ x = omega arith in
           let there = told_at (turn t.told) 0 count x (defined_within x f is) in

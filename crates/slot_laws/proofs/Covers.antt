@@ -69,7 +69,8 @@ abbrev pub PutsOne : Sig → Type 0
 PutsOne (moves ps rs) = length rs ≤ 1
 PutsOne _ = Unit {0}
 
-by_results : (h : ℕ) (t : ValType) (n : ℕ) (rs ops under : List ValType) → length rs ≤ 1 → stands_at h t ((rs ++ drop n ops) ++ under) ≡ true → Stands h t (ops ++ under) (top_pair (rs ++ drop n ops) under)
+by_results : (h : ℕ) (t : ValType) (n : ℕ) (rs ops under : List ValType) → length rs ≤ 1 → stands_at h t ((rs ++ drop n ops) ++ under) ≡ true
+    → Stands h t (ops ++ under) (top_pair (rs ++ drop n ops) under)
 by_results h t n [] ops under le s = inl (stands_dropped h t n ops under s)
 by_results h t n (r ∷ []) ops under le s = elim (stands_top_or h t r (drop n ops ++ under) s) [
   | inl g ↦ inl (stands_dropped h t n ops under g)
@@ -226,7 +227,8 @@ unfolding points Types
 end_is_point c ls done outs under ops t e = inl (ap (λ xs. xs ++ under) (sym t))
 end_is_point c ls (plain p rest) outs under ops t e = by_last (λ h. end_is_point c ls rest outs under t.0 t.2 h) (is_last p) refl e
   where
-    by_last : (ends rest ≡ true → In (outs ++ under) (points c ls rest under t.0)) → (b : Bool) → is_last p ≡ b → (if b then false else ends rest) ≡ true → In (outs ++ under) ((ops ++ under) ∷ unless_last b (points c ls rest under (after (sig c ls p) ops)))
+    by_last : (ends rest ≡ true → In (outs ++ under) (points c ls rest under t.0)) → (b : Bool) → is_last p ≡ b → (if b then false else ends rest) ≡ true
+        → In (outs ++ under) ((ops ++ under) ∷ unless_last b (points c ls rest under (after (sig c ls p) ops)))
     by_last go true f h = cc
     by_last go false f h =
         inr (subst (λ xs. In (outs ++ under) (points c ls rest under xs)) (takes_after (sig c ls p) ops t.0 (passes c ls p f) t.1) (go h))

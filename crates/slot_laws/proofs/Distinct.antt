@@ -24,7 +24,8 @@ one_fewer : (n : ℕ) (t : ValType) (qs : List Pair) → list_any (same_pair n t
 one_fewer n t [] e = cc
 one_fewer n t (q ∷ qs) e = by_first (same_pair n t q) refl (λ h. one_fewer n t qs h)
   where
-    by_first : (b : Bool) → same_pair n t q ≡ b → (list_any (same_pair n t) qs ≡ true → length qs ≡ suc (length (without n t qs))) → suc (length qs) ≡ suc (length (keep_if_not b q qs (without n t qs)))
+    by_first : (b : Bool) → same_pair n t q ≡ b → (list_any (same_pair n t) qs ≡ true → length qs ≡ suc (length (without n t qs)))
+        → suc (length qs) ≡ suc (length (keep_if_not b q qs (without n t qs)))
     by_first true f go = refl
     by_first false f go =
         elim (either_true (same_pair n t q) (list_any (same_pair n t) qs) e) [
@@ -36,7 +37,8 @@ still_in : (n h : ℕ) (t u : ValType) (qs : List Pair) → list_any (same_pair 
 still_in n h t u [] e differ = cc
 still_in n h t u (q ∷ qs) e differ = by_first (same_pair n t q) refl (λ k. still_in n h t u qs k differ)
   where
-    by_first : (b : Bool) → same_pair n t q ≡ b → (list_any (same_pair h u) qs ≡ true → list_any (same_pair h u) (without n t qs) ≡ true) → list_any (same_pair h u) (keep_if_not b q qs (without n t qs)) ≡ true
+    by_first : (b : Bool) → same_pair n t q ≡ b → (list_any (same_pair h u) qs ≡ true → list_any (same_pair h u) (without n t qs) ≡ true)
+        → list_any (same_pair h u) (keep_if_not b q qs (without n t qs)) ≡ true
     by_first true f go =
         elim (either_true (same_pair h u q) (list_any (same_pair h u) qs) e) [
           | inl k ↦ let w = own_pair h q.number u q.ty k in let v = own_pair n q.number t q.ty f in absurd (differ (w.0 ∙ sym v.0) (w.1 ∙ sym v.1))
@@ -64,8 +66,10 @@ apart p (q ∷ ps) h u a e f g = elim (either_true (same_pair h u q) (list_any (
 pub few_of : (ps qs : List Pair) → Ascend ps → ((h : ℕ) (t : ValType) → list_any (same_pair h t) ps ≡ true → list_any (same_pair h t) qs ≡ true) → length ps ≤ length qs
 few_of [] qs a h = omega arith
 few_of (p ∷ ps) qs a h =
-    let own : list_any (same_pair p.number p.ty) (p ∷ ps) ≡ true = or_left (same_pair p.number p.ty p) (list_any (same_pair p.number p.ty) ps) (and_both (nat_eq p.number p.number) (same_type p.ty p.ty) (eq-eqb p.number p.number refl) (same_self p.ty)) in
+    let own : list_any (same_pair p.number p.ty) (p ∷ ps) ≡ true =
+    or_left (same_pair p.number p.ty p) (list_any (same_pair p.number p.ty) ps) (and_both (nat_eq p.number p.number) (same_type p.ty p.ty) (eq-eqb p.number p.number refl) (same_self p.ty)) in
     let there = h p.number p.ty own in
     let fewer = one_fewer p.number p.ty qs there in
-    let rest = few_of ps (without p.number p.ty qs) a.1 (λ k u e. still_in p.number k p.ty u qs (h k u (or_right (same_pair k u p) (list_any (same_pair k u) ps) e)) (λ f g. apart p ps k u a.0 e f g)) in
+    let rest =
+    few_of ps (without p.number p.ty qs) a.1 (λ k u e. still_in p.number k p.ty u qs (h k u (or_right (same_pair k u p) (list_any (same_pair k u) ps) e)) (λ f g. apart p ps k u a.0 e f g)) in
     omega (arith, fewer, rest)

@@ -43,7 +43,8 @@ module _ (c : Around) (few : FewResults c) (h : ℕ) (t : ValType) where
     | inr (e, f) ↦ inr (any_left (same_pair h t) (pair_of (length ops) (Some u)) ps (is_pair (length ops) h t (Some u) e (ap Some f)))
   ]
 
-  stands_made : (ls : List (Option ValType)) (k : Code) (outs under ops all : List ValType) → Types c ls k outs ops → In all (points c ls k under ops) → stands_at h t all ≡ true → Stands h t (ops ++ under) (made c ls k under ops)
+  stands_made : (ls : List (Option ValType)) (k : Code) (outs under ops all : List ValType) → Types c ls k outs ops → In all (points c ls k under ops)
+      → stands_at h t all ≡ true → Stands h t (ops ++ under) (made c ls k under ops)
   unfolding points Types made
   stands_made ls done outs under ops all ty (inl e) s = inl (ap (stands_at h t) (sym e) ∙ s)
   stands_made ls done outs under ops all ty (inr i) s = absurd i
@@ -61,7 +62,8 @@ module _ (c : Around) (few : FewResults c) (h : ℕ) (t : ValType) where
       by_last false f j go =
           let e : ty.0 ≡ after (sig c ls p) ops = takes_after (sig c ls p) ops ty.0 (passes c ls p f) ty.1 in
           let later = go (after (sig c ls p) ops) (subst (Types c ls rest outs) e ty.2) j in
-          after_that (ops ++ under) (after (sig c ls p) ops ++ under) (top_pair (after (sig c ls p) ops) under) (made c ls rest under (after (sig c ls p) ops)) (λ g. stands_after h t (sig c ls p) ops under (puts_one c few ls p) g) later
+          after_that (ops ++ under) (after (sig c ls p) ops ++ under) (top_pair (after (sig c ls p) ops) under) (made c ls rest under (after (sig c ls p) ops))
+          (λ g. stands_after h t (sig c ls p) ops under (puts_one c few ls p) g) later
   stands_made ls (nest s r body rest) outs under ops all ty (inl e) w = inl (ap (stands_at h t) (sym e) ∙ w)
   stands_made ls (nest s r body rest) outs under ops all ty (inr i) w =
       let inside : List ValType = ops ++ under in
@@ -72,10 +74,12 @@ module _ (c : Around) (few : FewResults c) (h : ℕ) (t : ValType) where
         | inl j ↦ stands_right h t inside lone (first ++ second) (stands_left h t inside first second (stands_made (label s r ∷ ls) body (listed r) inside [] all ty.0 j w))
         | inr j ↦ (
             let ended = λ (b : ends body ≡ true) (u : ValType) (e : r ≡ Some u) (g : stands_at h t (u ∷ inside) ≡ true).
-            stands_made (label s r ∷ ls) body (listed r) inside [] (listed r ++ inside) ty.0 (end_is_point c (label s r ∷ ls) body (listed r) inside [] ty.0 b) (ap (λ o. stands_at h t (listed o ++ inside)) e ∙ g) in
+            stands_made (label s r ∷ ls) body (listed r) inside [] (listed r ++ inside) ty.0 (end_is_point c (label s r ∷ ls) body (listed r) inside [] ty.0 b)
+            (ap (λ o. stands_at h t (listed o ++ inside)) e ∙ g) in
             let later = stands_made ls rest outs under (listed r ++ ops) all ty.1 j w in
             subst (Stands h t inside) (append_assoc lone first second)
-            (after_that inside ((listed r ++ ops) ++ under) (lone ++ first) second (λ g. result_stands (ends body) r inside first ended (subst (λ xs. stands_at h t xs ≡ true) (append_assoc (listed r) ops under) g)) later))
+            (after_that inside ((listed r ++ ops) ++ under) (lone ++ first) second
+            (λ g. result_stands (ends body) r inside first ended (subst (λ xs. stands_at h t xs ≡ true) (append_assoc (listed r) ops under) g)) later))
       ]
   stands_made ls (branch r a b rest) outs under ops all ty (inl e) w = inl (ap (stands_at h t) (sym e) ∙ w)
   stands_made ls (branch r a b rest) outs under ops all ty (inr i) w =
@@ -90,12 +94,15 @@ module _ (c : Around) (few : FewResults c) (h : ℕ) (t : ValType) where
       (elim (in_either all (points c (r ∷ ls) a inside []) (points c (r ∷ ls) b inside [] ++ points c ls rest under (listed r ++ drop 1 ops)) i) [
         | inl j ↦ stands_right h t inside lone (first ++ (second ++ third)) (stands_left h t inside first (second ++ third) (stands_made (r ∷ ls) a (listed r) inside [] all ty.2 j w))
         | inr v ↦ elim (in_either all (points c (r ∷ ls) b inside []) (points c ls rest under (listed r ++ drop 1 ops)) v) [
-          | inl j ↦ stands_right h t inside lone (first ++ (second ++ third)) (stands_right h t inside first (second ++ third) (stands_left h t inside second third (stands_made (r ∷ ls) b (listed r) inside [] all ty.3 j w)))
+          | inl j ↦ stands_right h t inside lone (first ++ (second ++ third))
+              (stands_right h t inside first (second ++ third) (stands_left h t inside second third (stands_made (r ∷ ls) b (listed r) inside [] all ty.3 j w)))
           | inr j ↦ (
               let ended = λ (y : ends a ≡ true) (u : ValType) (x : r ≡ Some u) (g : stands_at h t (u ∷ inside) ≡ true).
               stands_made (r ∷ ls) a (listed r) inside [] (listed r ++ inside) ty.2 (end_is_point c (r ∷ ls) a (listed r) inside [] ty.2 y) (ap (λ o. stands_at h t (listed o ++ inside)) x ∙ g) in
               let later = stands_made ls rest outs under (listed r ++ drop 1 ops) all behind_is j w in
-              let own = λ (g : stands_at h t ((listed r ++ drop 1 ops) ++ under) ≡ true). result_stands (ends a) r inside first ended (subst (λ xs. stands_at h t xs ≡ true) (append_assoc (listed r) (drop 1 ops) under) g) in
+              let own =
+              λ (g : stands_at h t ((listed r ++ drop 1 ops) ++ under) ≡ true).
+              result_stands (ends a) r inside first ended (subst (λ xs. stands_at h t xs ≡ true) (append_assoc (listed r) (drop 1 ops) under) g) in
               let joined = after_that inside ((listed r ++ drop 1 ops) ++ under) (lone ++ first) (second ++ third) own (stands_right h t ((listed r ++ drop 1 ops) ++ under) second third later) in
               subst (Stands h t inside) (append_assoc lone first (second ++ third)) joined)
         ]
@@ -156,7 +163,8 @@ module _ (c : Around) where
   made_few d ls (plain p rest) under ops = by_last (is_last p) (made_few d ls rest under (after (sig c ls p) ops))
     where
       by_last : (b : Bool) → length (made c ls rest under (after (sig c ls p) ops)) + length (results_in d rest) + missed (ends rest) ≤ count_of rest
-          → length (unless_last_pairs b (top_pair (after (sig c ls p) ops) under ++ made c ls rest under (after (sig c ls p) ops))) + length (results_in d rest) + missed (if b then false else ends rest) ≤ 1 + count_of rest
+          → length (unless_last_pairs b (top_pair (after (sig c ls p) ops) under ++ made c ls rest under (after (sig c ls p) ops))) + length (results_in d rest) + missed
+          (if b then false else ends rest) ≤ 1 + count_of rest
       by_last true h = let a = results_few d rest in omega (arith, a)
       by_last false h =
           let a = top_length (after (sig c ls p) ops) under in
@@ -313,10 +321,12 @@ count_fits m i f v sizes is =
     let params = params_are m.types f.sort in
     let declared = declared_are f.locals in
     let locals = length-append (type_at m f.sort).params (declared_locals f.locals) in
-    bound (length (SlotPairs m f)) (length (ResultPairs m f)) (count_of (pruned f.body)) (code_items f.body) (code_params m f.body) (params_of_type m.types f.sort) (sum_by (λ (r : Run). r.count) f.locals) (length (locals_of m f)) few items total (locals ∙ sums params declared)
+    bound (length (SlotPairs m f)) (length (ResultPairs m f)) (count_of (pruned f.body)) (code_items f.body) (code_params m f.body) (params_of_type m.types f.sort)
+    (sum_by (λ (r : Run). r.count) f.locals) (length (locals_of m f)) few items total (locals ∙ sums params declared)
   where
     sums : {a b c d : ℕ} → a ≡ b → c ≡ d → a + c ≡ b + d
     sums e g = cc
 
-    bound : (slots results count items calls params runs locals : ℕ) → slots + results ≤ count + 1 → count ≤ items → items + 1 + calls + params + runs < 2 ^ 31 → locals ≡ params + runs → locals + slots + results + 3 < 2 ^ 32
+    bound : (slots results count items calls params runs locals : ℕ) → slots + results ≤ count + 1 → count ≤ items
+        → items + 1 + calls + params + runs < 2 ^ 31 → locals ≡ params + runs → locals + slots + results + 3 < 2 ^ 32
     bound slots results count items calls params runs locals a b c d = omega (arith, a, b, c, d)

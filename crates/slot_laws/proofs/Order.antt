@@ -38,7 +38,8 @@ pairs_ascend test n zero = tt
 pairs_ascend test n (suc k) =
     let rest : List Pair = pairs_from test (suc n) k in
     let behind = λ (t : ValType). All-weaker (FromNumber (suc n)) (Precedes (record { number = n; ty = t })) (λ p h. inl (omega (arith, h))) rest (numbers_from test (suc n) k) in
-    onto_ascends (test n I32) n I32 (pair_onto (test n I64) n I64 rest) (onto_precedes (test n I64) n rest (behind I32)) (onto_ascends (test n I64) n I64 rest (behind I64) (pairs_ascend test (suc n) k))
+    onto_ascends (test n I32) n I32 (pair_onto (test n I64) n I64 rest) (onto_precedes (test n I64) n rest (behind I32))
+    (onto_ascends (test n I64) n I64 rest (behind I64) (pairs_ascend test (suc n) k))
 
 pub all_there : {X : Type 0} (P : X → Type 0) (xs : List X) (i : ℕ) (x : X) → All P xs → slice_get xs i ≡ Some x → P x
 all_there P [] i x h e = cc

@@ -44,7 +44,8 @@ pair_is n d t (Some u) e = elim (either_true (same_pair d t (record { number = n
 
 pub is_pair : (n d : ℕ) (t : ValType) (r : Option ValType) → d ≡ n → r ≡ Some t → list_any (same_pair d t) (pair_of n r) ≡ true
 is_pair n d t r e f =
-    let own : list_any (same_pair d t) (pair_of d (Some t)) ≡ true = or_left (same_pair d t (record { number = d; ty = t })) false (and_both (nat_eq d d) (same_type t t) (eq-eqb d d refl) (same_self t)) in
+    let own : list_any (same_pair d t) (pair_of d (Some t)) ≡ true =
+    or_left (same_pair d t (record { number = d; ty = t })) false (and_both (nat_eq d d) (same_type t t) (eq-eqb d d refl) (same_self t)) in
     ap (λ k. list_any (same_pair d t) (pair_of k r)) (sym e) ∙ ap (λ o. list_any (same_pair d t) (pair_of d o)) f ∙ own
 
 result_found : (k d : ℕ) (t : ValType) (code : Code) → list_any (same_pair d t) (results_in k code) ≡ true → ResultIn k code d t
@@ -132,7 +133,8 @@ module _ (m : Module) (f : Func) where
       pass_pairs test 0 (suc (depth_of (pruned f.body))) d t (omega arith) (omega (arith, e)) (any_left (same_pair d t) (pair_of 0 own) (results_in 1 (pruned f.body)) (is_pair 0 d t own e g))
   of_pair d t (inr h) =
       let deep = depth_bounds 1 d t (pruned f.body) h in
-      pass_pairs test 0 (suc (depth_of (pruned f.body))) d t (omega arith) (omega (arith, deep)) (any_right (same_pair d t) (pair_of 0 own) (results_in 1 (pruned f.body)) (found_result 1 d t (pruned f.body) h))
+      pass_pairs test 0 (suc (depth_of (pruned f.body))) d t (omega arith) (omega (arith, deep))
+      (any_right (same_pair d t) (pair_of 0 own) (results_in 1 (pruned f.body)) (found_result 1 d t (pruned f.body) h))
 
 pub results_pairs : ResultsArePairs
 results_pairs m f d t = (to_pair m f d t, of_pair m f d t)

@@ -11,9 +11,10 @@ use Rattle.wa_types.specs.Pausing.{Callee, callee, Policy, save_all, save_live}
 use Rattle.wa_types.specs.Points.{after, unless_last, points, if_call, call_points, func_points, func_call_points}
 use Rattle.wa_types.specs.Liveness.{is_live_after}
 use Rattle.wa_types.specs.Frames.{Pair, stands_at, is_type, greatest, same_pair, SlotPairs, Place, place_onto, named_places, slot_places, places, is_on_stack, Saved}
-use Rattle.wa_types.proofs.PointLemmas.{In, in_left, in_right}
+use Rattle.wa_types.proofs.PointLemmas.{In, in_left, in_right, is_visited}
+use Rattle.wa_types.proofs.TypingLemmas.{pruned_types}
 use Rattle.wa_types.proofs.SlotLemmas.{same_self, either_true, own_pair, stands_below, in_any, in_greatest, pass_pairs}
-use Rattle.slot_laws.specs.SlotBounds.{RiseFrom, OperandsAreSaved, SlotsStandOnce}
+use Rattle.slot_laws.specs.SlotBounds.{CallsAreAtPoints, RiseFrom, OperandsAreSaved, SlotsStandOnce}
 use Rattle.slot_laws.proofs.Order.{pairs_ascend, stand_once, slots_rise, named_rise, rise_once}
 
 -- ---- what stands at a call stands at a point
@@ -23,17 +24,20 @@ get_append [] ys i x e = inr (i, e)
 get_append (z ∷ xs) ys zero x e = inl (0, e)
 get_append (z ∷ xs) ys (suc i) x e = elim (get_append xs ys i x e) [ inl (j, f) ↦ inl (suc j, f) | inr h ↦ inr h ]
 
-unless_in : (b : Bool) (i : ℕ) (ops : List ValType) (cs ps : List (List ValType)) → ((j : ℕ) → slice_get cs j ≡ Some ops → In ops ps) → slice_get (unless_last b cs) i ≡ Some ops → In ops (unless_last b ps)
+unless_in : (b : Bool) (i : ℕ) (ops : List ValType) (cs ps : List (List ValType)) → ((j : ℕ) → slice_get cs j ≡ Some ops → In ops ps)
+    → slice_get (unless_last b cs) i ≡ Some ops → In ops (unless_last b ps)
 unless_in true i ops cs ps go e = cc
 unless_in false i ops cs ps go e = go i e
 
 -- the operands of a call are those of the point before it
-call_in : (o : Option Callee) (here ops : List ValType) (i : ℕ) (cs ps : List (List ValType)) → ((j : ℕ) → slice_get cs j ≡ Some ops → In ops ps) → slice_get (if_call o here ++ cs) i ≡ Some ops → In ops (here ∷ ps)
+call_in : (o : Option Callee) (here ops : List ValType) (i : ℕ) (cs ps : List (List ValType)) → ((j : ℕ) → slice_get cs j ≡ Some ops → In ops ps)
+    → slice_get (if_call o here ++ cs) i ≡ Some ops → In ops (here ∷ ps)
 call_in None here ops i cs ps go e = inr (go i e)
 call_in (Some x) here ops zero cs ps go e = let z : here ≡ ops = cc in inl (sym z)
 call_in (Some x) here ops (suc i) cs ps go e = inr (go i e)
 
-pub call_is_point : (c : Around) (ls : List (Option ValType)) (k : Code) (under ops all : List ValType) (i : ℕ) → slice_get (call_points c ls k under ops) i ≡ Some all → In all (points c ls k under ops)
+pub call_is_point : (c : Around) (ls : List (Option ValType)) (k : Code) (under ops all : List ValType) (i : ℕ)
+    → slice_get (call_points c ls k under ops) i ≡ Some all → In all (points c ls k under ops)
 unfolding call_points points
 call_is_point c ls done under ops all i e = cc
 call_is_point c ls (plain p rest) under ops all i e =
@@ -77,7 +81,8 @@ onto_place true x t ps i p e = (suc i, e)
 onto_place false x t ps i p e = (i, e)
 
 -- a slot that is kept has a place
-slot_placed : (keep : Pair → Bool) (x : ℕ) (ps : List Pair) (k : ℕ) (p : Pair) → slice_get ps k ≡ Some p → keep p ≡ true → (i : ℕ) × (slice_get (slot_places keep x ps) i ≡ Some (record { local = x + k; ty = p.ty }))
+slot_placed : (keep : Pair → Bool) (x : ℕ) (ps : List Pair) (k : ℕ) (p : Pair) → slice_get ps k ≡ Some p → keep p ≡ true
+    → (i : ℕ) × (slice_get (slot_places keep x ps) i ≡ Some (record { local = x + k; ty = p.ty }))
 slot_placed keep x [] k p e h = cc
 slot_placed keep x (q ∷ ps) zero p e h = by_first (keep q) (let z : q ≡ p = cc in ap keep z ∙ h)
   where
@@ -111,7 +116,8 @@ module _ (m : Module) (f : Func) where
   saved_rise save_live place = places_rise (is_live_after f place) (is_on_stack (slice_get (func_call_points m f) place))
 
   -- an operand at a call has a slot
-  slot_of : (place h : ℕ) (t : ValType) (ops : List ValType) → slice_get (func_call_points m f) place ≡ Some ops → stands_at h t ops ≡ true → (k : ℕ) × (slice_get (SlotPairs m f) k ≡ Some (record { number = h; ty = t }))
+  slot_of : (place h : ℕ) (t : ValType) (ops : List ValType) → slice_get (func_call_points m f) place ≡ Some ops → stands_at h t ops ≡ true
+      → (k : ℕ) × (slice_get (SlotPairs m f) k ≡ Some (record { number = h; ty = t }))
   slot_of place h t ops e stands =
       let seen = call_is_point (around m f) ((around m f).result ∷ []) (pruned f.body) [] [] ops place e in
       let few = in_greatest (func_points m f) ops seen in
@@ -119,12 +125,14 @@ module _ (m : Module) (f : Func) where
       let passes = in_any (stands_at h t) (func_points m f) ops seen stands in
       pair_found h t (SlotPairs m f) (pass_pairs (λ k u. list_any (stands_at k u) (func_points m f)) 0 (greatest (func_points m f)) h t (omega arith) (omega (arith, few, low)) passes)
 
-  placed : (keep : ℕ → Bool) (keep_slot : Pair → Bool) (k : ℕ) (p : Pair) → slice_get (SlotPairs m f) k ≡ Some p → keep_slot p ≡ true → (i : ℕ) × (slice_get (places m f keep keep_slot) i ≡ Some (record { local = count + k; ty = p.ty }))
+  placed : (keep : ℕ → Bool) (keep_slot : Pair → Bool) (k : ℕ) (p : Pair) → slice_get (SlotPairs m f) k ≡ Some p → keep_slot p ≡ true
+      → (i : ℕ) × (slice_get (places m f keep keep_slot) i ≡ Some (record { local = count + k; ty = p.ty }))
   placed keep keep_slot k p e h =
       let w = slot_placed keep_slot count (SlotPairs m f) k p e h in
       behind_named (named_places keep 0 (locals_of m f)) (slot_places keep_slot count (SlotPairs m f)) w.0 (record { local = count + k; ty = p.ty }) w.1
 
-  saved_place : (policy : Policy) (place h k : ℕ) (t : ValType) (ops : List ValType) → slice_get (func_call_points m f) place ≡ Some ops → stands_at h t ops ≡ true → slice_get (SlotPairs m f) k ≡ Some (record { number = h; ty = t })
+  saved_place : (policy : Policy) (place h k : ℕ) (t : ValType) (ops : List ValType) → slice_get (func_call_points m f) place ≡ Some ops
+      → stands_at h t ops ≡ true → slice_get (SlotPairs m f) k ≡ Some (record { number = h; ty = t })
       → (i : ℕ) × (slice_get (Saved m policy f place) i ≡ Some (record { local = count + k; ty = t }))
   saved_place save_all place h k t ops e stands s = placed (λ x. true) (λ p. true) k (record { number = h; ty = t }) s refl
   saved_place save_live place h k t ops e stands s =
@@ -147,3 +155,9 @@ operands_saved m policy f place h t (ops, e, top) =
           let is : q ≡ here = slot.2 ∙ ap (λ (n : ℕ). record { local = length (locals_of m f) + n; ty = t }) same in
           rise_once 0 (Saved m policy f place) j i.0 here (saved_rise m f policy place) (there ∙ ap Some is) i.1,
     )
+
+pub calls_at_points : CallsAreAtPoints
+calls_at_points m i f place ops v is e =
+    let c : Around = around m f in
+    let seen = call_is_point c (c.result ∷ []) (pruned f.body) [] [] ops place e in
+    is_visited c (c.result ∷ []) (pruned f.body) (listed c.result) [] [] ops (pruned_types c (c.result ∷ []) f.body (listed c.result) [] (v.bodies i f is)) seen

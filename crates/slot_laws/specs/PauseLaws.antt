@@ -15,7 +15,7 @@ pub record IsClosed (m : Module) (s : Settings) (Member : ℕ → Type 0) : Type
 abbrev pub MayPauseIsClosed : Type 0
 MayPauseIsClosed = (m : Module) (s : Settings) → IsClosed m s (MayPause m s)
 
--- and every closed set contains them.
+-- and every closed set contains them, here each one that a test tells: a clause can't range over all facts of numbers.
 abbrev pub MayPauseIsLeast : Type 0
 MayPauseIsLeast = (m : Module) (s : Settings) (member : ℕ → Bool) → IsClosed m s (λ x. member x ≡ true) → (x : ℕ) → MayPause m s x → member x ≡ true
 

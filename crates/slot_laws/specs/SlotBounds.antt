@@ -10,7 +10,7 @@ use Rattle.wa_types.specs.Counts.{count_of}
 use Rattle.wa_types.specs.Validity.{Valid}
 use Rattle.wa_types.specs.Sizes.{StrictSizeRule}
 use Rattle.wa_types.specs.Pausing.{Policy}
-use Rattle.wa_types.specs.Points.{func_call_points}
+use Rattle.wa_types.specs.Points.{AtPoint, func_call_points}
 use Rattle.wa_types.specs.Frames.{Pair, same_pair, SlotPairs, ResultPairs, Count, Place, Saved}
 
 -- ---- order
@@ -71,6 +71,14 @@ SlotsAreFew =
 -- So the locals of a rewritten function can be numbered by a u32, where the original keeps the size rule.
 abbrev pub CountFits : Type 0
 CountFits = (m : Module) (i : ℕ) (f : Func) → Valid m → StrictSizeRule m → slice_get m.funcs i ≡ Some f → Count m f < 2 ^ 32
+
+-- ---- calls
+
+-- The operands that are found just before a call of a valid module are those of a point of the pruned body.
+abbrev pub CallsAreAtPoints : Type 0
+CallsAreAtPoints =
+    (m : Module) (i : ℕ) (f : Func) (place : ℕ) (ops : List ValType) → Valid m → slice_get m.funcs i ≡ Some f → slice_get (func_call_points m f) place ≡ Some ops
+    → AtPoint (around m f) ((around m f).result ∷ []) (pruned f.body) [] [] ops
 
 -- ---- what a frame saves
 

@@ -8,9 +8,10 @@
 #![tactic(auto)]
 
 mod pause_laws;
-mod slot_laws;
+mod slots;
 
 pub use pause_laws::{functions_that_may_pause_are_least, one_list_tells};
-pub use slot_laws::{
-    operands_are_saved_once, results_are_pairs, slots_are_few, slots_stand_in_order,
+pub use slots::{
+    calls_are_at_points, operands_are_saved_once, results_are_pairs, slots_are_few,
+    slots_stand_in_order,
 };

@@ -1,9 +1,9 @@
 -- A spot just before a call is at that call's place among all calls of the body.
-use Rattle.std.proofs.Common.{arith, ◌≡◌, ℕ, zero, suc, ◌+◌, ◌-◌, ◌++◌, List, [], ◌∷◌, map, length, drop, Option, Some, None, Bool, true, false, refl, sym, ap, ◌∙◌, subst, append_assoc, append-nil}
+use Rattle.std.proofs.Common.{arith, ◌≡◌, ℕ, suc, ◌+◌, ◌-◌, ◌++◌, List, [], ◌∷◌, map, length, drop, Option, Some, None, Bool, true, false, refl, sym, ap, ◌∙◌, append_assoc, append-nil}
 use Rattle.std.specs.Prelude.{slice_get}
 use Rattle.std.specs.Option.{option_map}
 use Rattle.std.proofs.lemmas.Option.{slice_get-map}
-use Rattle.std.proofs.lemmas.List.{length-append, length-map}
+use Rattle.std.proofs.lemmas.List.{length-append}
 use Rattle.wa_types.specs.declared.values.ValType.{ValType}
 use Rattle.wa_types.specs.Syntax.{Plain, a_block, a_loop, Code, done, plain, nest, branch, Func, Module}
 use Rattle.wa_types.specs.Pruned.{is_last, pruned}
@@ -14,7 +14,7 @@ use Rattle.wa_types.specs.Points.{after, unless_last, func_call_points}
 use Rattle.wa_types.specs.Liveness.{Label as Continuation, goes_behind, goes_again, label_of, Position, position, behind_calls}
 use Rattle.wa_types.proofs.PointLemmas.{takes_after, passes}
 use Rattle.wa_types.proofs.PlaceLemmas.{last_no_call}
-use Rattle.wa_model.specs.Configuration.{Label, block_label, loop_label, call_count, calls_outside, place_of}
+use Rattle.wa_model.specs.Configuration.{Label, call_count, calls_behind, calls_outside, place_of}
 use Rattle.stack_laws.specs.Sites.{Site, site_of, sites, continuation}
 use Rattle.stack_laws.proofs.Spots.{callees_of, places_of, points_of, sites_length, Spot, at_start, past, in_block, in_loop, behind_nest, in_arm, in_else, behind_branch}
 
@@ -38,11 +38,20 @@ second_of all before xs ys zs e = first_of all before xs ys zs e ∙ sym (append
 no_sites : (xs : List Site) → xs ≡ xs ++ []
 no_sites xs = sym (append-nil xs)
 
+-- what a label adds to the calls behind
+block_count : (rest skipped : Code) (labels : List Label)
+    → length (calls_of (pruned skipped) ++ (calls_of (pruned rest) ++ calls_behind labels)) ≡ call_count skipped + call_count rest + calls_outside labels
+block_count rest skipped labels =
+    let first = length-append (calls_of (pruned skipped)) (calls_of (pruned rest) ++ calls_behind labels) in
+    let second = length-append (calls_of (pruned rest)) (calls_behind labels) in
+    omega (arith, first, second)
+
 done_count : call_count done ≡ 0
 unfolding calls_of pruned
 done_count = refl
 
-found : (c : Around) (body : Code) (results : List (Option ValType)) (labels : List Label) (code : Code) (own below : List ValType) → Spot c body results labels code own below → Found c body results labels code own below
+found : (c : Around) (body : Code) (results : List (Option ValType)) (labels : List Label) (code : Code) (own below : List ValType)
+    → Spot c body results labels code own below → Found c body results labels code own below
 unfolding sites
 found c body results labels code own below (at_start e) =
     record { before = []; outside = []; all = ap (λ ls. sites c ls [] body [] []) (sym e) ∙ no_sites (sites c results [] body [] []); count = refl }
@@ -68,8 +77,13 @@ found c body _ _ code own below (in_block {results} {labels} {r} {inner} {rest} 
     record {
       before = k.before;
       outside = behind ++ k.outside;
-      all = first_of (sites c (c.result ∷ []) [] body [] []) k.before inside behind k.outside k.all ∙ ap (λ u. k.before ++ (sites c (r ∷ results) (goes_behind (pruned rest) ∷ continuations labels) code u [] ++ (behind ++ k.outside))) (sym ea);
-      count = length-append behind k.outside ∙ counts (length behind) (length k.outside) (call_count rest) (calls_outside labels) (call_count skipped) n k.count none;
+      all =
+          first_of (sites c (c.result ∷ []) [] body [] []) k.before inside behind k.outside k.all
+          ∙ ap (λ u. k.before ++ (sites c (r ∷ results) (goes_behind (pruned rest) ∷ continuations labels) code u [] ++ (behind ++ k.outside))) (sym ea);
+      count =
+          length-append behind k.outside
+          ∙ counts (length behind) (length k.outside) (call_count rest) (calls_outside labels) (call_count skipped) n k.count none
+          ∙ sym (block_count rest skipped labels);
     }
   where
     counts : (a b x y z : ℕ) → a ≡ x → b ≡ y → z ≡ 0 → a + b ≡ z + x + y
@@ -83,8 +97,13 @@ found c body _ _ code own below (in_loop {results} {labels} {inner} {rest} r own
     record {
       before = k.before;
       outside = behind ++ k.outside;
-      all = first_of (sites c (c.result ∷ []) [] body [] []) k.before inside behind k.outside k.all ∙ ap (λ u. k.before ++ (sites c (None ∷ results) again code u [] ++ (behind ++ k.outside))) (sym ea);
-      count = length-append behind k.outside ∙ counts (length behind) (length k.outside) (call_count rest) (calls_outside labels) n k.count;
+      all =
+          first_of (sites c (c.result ∷ []) [] body [] []) k.before inside behind k.outside k.all
+          ∙ ap (λ u. k.before ++ (sites c (None ∷ results) again code u [] ++ (behind ++ k.outside))) (sym ea);
+      count =
+          length-append behind k.outside
+          ∙ counts (length behind) (length k.outside) (call_count rest) (calls_outside labels) n k.count
+          ∙ sym (length-append (calls_of (pruned rest)) (calls_behind labels));
     }
   where
     counts : (a b x y : ℕ) → a ≡ x → b ≡ y → a + b ≡ x + y
@@ -96,7 +115,9 @@ found c body results labels code own below (behind_nest s r inner own' e p) =
     record {
       before = k.before ++ inside;
       outside = k.outside;
-      all = second_of (sites c (c.result ∷ []) [] body [] []) k.before inside behind k.outside k.all ∙ ap (λ u. (k.before ++ inside) ++ (sites c results (continuations labels) code below u ++ k.outside)) (sym e);
+      all =
+          second_of (sites c (c.result ∷ []) [] body [] []) k.before inside behind k.outside k.all
+          ∙ ap (λ u. (k.before ++ inside) ++ (sites c results (continuations labels) code below u ++ k.outside)) (sym e);
       count = k.count;
     }
 found c body _ _ code own below (in_arm {results} {labels} {r} {a} {b} {rest} own' lower below' ei ea eh er s) =
@@ -113,8 +134,13 @@ found c body _ _ code own below (in_arm {results} {labels} {r} {a} {b} {rest} ow
     record {
       before = k.before;
       outside = (second ++ third) ++ k.outside;
-      all = first_of (sites c (c.result ∷ []) [] body [] []) k.before first (second ++ third) k.outside k.all ∙ ap (λ u. k.before ++ (sites c (r ∷ results) inner code u [] ++ ((second ++ third) ++ k.outside))) under;
-      count = counts (length ((second ++ third) ++ k.outside)) (length (second ++ third)) (length second) (length third) (length k.outside) (call_count b) (call_count rest) (calls_outside labels) (length-append (second ++ third) k.outside) (length-append second third) n o k.count;
+      all =
+          first_of (sites c (c.result ∷ []) [] body [] []) k.before first (second ++ third) k.outside k.all
+          ∙ ap (λ u. k.before ++ (sites c (r ∷ results) inner code u [] ++ ((second ++ third) ++ k.outside))) under;
+      count =
+          counts (length ((second ++ third) ++ k.outside)) (length (second ++ third)) (length second) (length third) (length k.outside) (call_count b) (call_count rest)
+          (calls_outside labels) (length-append (second ++ third) k.outside) (length-append second third) n o k.count
+          ∙ sym (block_count rest b labels);
     }
   where
     counts : (t u x y z p q w : ℕ) → t ≡ u + z → u ≡ x + y → x ≡ p → y ≡ q → z ≡ w → t ≡ p + q + w
@@ -137,7 +163,10 @@ found c body _ _ code own below (in_else {results} {labels} {r} {b} {rest} {skip
           second_of (sites c (c.result ∷ []) [] body [] []) k.before first (second ++ third) k.outside k.all
           ∙ ap (λ q. (k.before ++ first) ++ q) (append_assoc second third k.outside)
           ∙ ap (λ u. (k.before ++ first) ++ (sites c (r ∷ results) inner code u [] ++ (third ++ k.outside))) under;
-      count = length-append third k.outside ∙ counts (length third) (length k.outside) (call_count rest) (calls_outside labels) (call_count skipped) o k.count none;
+      count =
+          length-append third k.outside
+          ∙ counts (length third) (length k.outside) (call_count rest) (calls_outside labels) (call_count skipped) o k.count none
+          ∙ sym (block_count rest skipped labels);
     }
   where
     counts : (a b x y z : ℕ) → a ≡ x → b ≡ y → z ≡ 0 → a + b ≡ z + x + y
@@ -155,7 +184,8 @@ found c body results labels code own below (behind_branch r a b own' lower ei e 
       before = (k.before ++ first) ++ second;
       outside = k.outside;
       all =
-          second_of (sites c (c.result ∷ []) [] body [] []) (k.before ++ first) second third k.outside (second_of (sites c (c.result ∷ []) [] body [] []) k.before first (second ++ third) k.outside k.all)
+          second_of (sites c (c.result ∷ []) [] body [] []) (k.before ++ first) second third k.outside
+          (second_of (sites c (c.result ∷ []) [] body [] []) k.before first (second ++ third) k.outside k.all)
           ∙ ap (λ u. ((k.before ++ first) ++ second) ++ (sites c results (continuations labels) code below u ++ k.outside)) own_is;
       count = k.count;
     }
@@ -184,12 +214,15 @@ at_call m f results labels p rest own below x e s =
     let split : whole ≡ k.before ++ (site ∷ (tail ++ k.outside)) = k.all ∙ ap (λ o. k.before ++ ((site_of o (position (pruned rest) (continuations labels)) (own ++ below) ++ tail) ++ k.outside)) e in
     let there : slice_get whole (length k.before) ≡ Some site = ap (λ xs. slice_get xs (length k.before)) split ∙ seam k.before site (tail ++ k.outside) in
     let goes : is_last p ≡ false = call_goes p x e in
-    let tail_count : length tail ≡ call_count rest = ap (λ b. length (unless_last b (sites c results (continuations labels) rest below (after (sig c results p) own)))) goes ∙ sites_length c results (continuations labels) rest below (after (sig c results p) own) in
+    let tail_count : length tail ≡ call_count rest =
+    ap (λ b. length (unless_last b (sites c results (continuations labels) rest below (after (sig c results p) own)))) goes
+    ∙ sites_length c results (continuations labels) rest below (after (sig c results p) own) in
     let calls : length (calls_in f) ≡ length whole = sym (sites_length c (c.result ∷ []) [] f.body [] []) in
     let sizes = ap length split ∙ length-append k.before (site ∷ (tail ++ k.outside)) in
     let behind_count = length-append tail k.outside in
     let place : place_of (Some f) rest labels ≡ length k.before =
-    number (length (calls_in f)) (length whole) (length k.before) (length (tail ++ k.outside)) (length tail) (length k.outside) (call_count rest) (calls_outside labels) calls sizes behind_count tail_count k.count in
+    number (length (calls_in f)) (length whole) (length k.before) (length (tail ++ k.outside)) (length tail) (length k.outside) (call_count rest)
+    (calls_outside labels) calls sizes behind_count tail_count k.count in
     record {
       callee = ap (slice_get (calls_in f)) place ∙ seen_callee whole (length k.before) site (callees_of c (c.result ∷ []) [] f.body [] []) there;
       behind = ap (slice_get (behind_calls [] (pruned f.body))) place ∙ seen_place whole (length k.before) site (places_of c (c.result ∷ []) [] f.body [] []) there;
@@ -203,7 +236,8 @@ at_call m f results labels p rest own below x e s =
         by_last true f = let bad = sym e ∙ last_no_call p f in cc
         by_last false f = refl
 
-    number : (all whole before behind tail outside count labels : ℕ) → all ≡ whole → whole ≡ before + suc behind → behind ≡ tail + outside → tail ≡ count → outside ≡ labels → all - suc (count + labels) ≡ before
+    number : (all whole before behind tail outside count labels : ℕ) → all ≡ whole → whole ≡ before + suc behind → behind ≡ tail + outside
+        → tail ≡ count → outside ≡ labels → all - suc (count + labels) ≡ before
     number all whole before behind tail outside count labels a b c d e = omega (arith, a, b, c, d, e)
 
     seen_callee : {ys : List Callee} (xs : List Site) (i : ℕ) (s : Site) → map (λ (x : Site). x.callee) xs ≡ ys → slice_get xs i ≡ Some s → slice_get ys i ≡ Some s.callee

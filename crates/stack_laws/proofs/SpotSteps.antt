@@ -1,7 +1,6 @@
 -- Reductions of a valid module keep each activation at a spot of its body, over operands of the spot's types.
-use Rattle.std.proofs.Common.{arith, ◌≡◌, ℕ, zero, suc, ◌+◌, ◌-◌, ◌<◌, ◌≤◌, List, [], ◌∷◌, ◌++◌, map, reverse, Option, Some, None, Bool, true, false, refl, sym, ap, ◌∙◌, subst, length, take, drop, append_assoc}
+use Rattle.std.proofs.Common.{◌≡◌, ℕ, zero, suc, ◌+◌, List, [], ◌∷◌, ◌++◌, map, reverse, Option, Some, None, Bool, true, false, refl, sym, ap, ◌∙◌, subst, length, take, drop, append_assoc}
 use Rattle.std.specs.Prelude.{nat_lt, if◌then◌else◌, slice_get, slice_set, unwrap_or}
-use Rattle.std.proofs.lemmas.Bool.{ltb-true, ltb-false, and_parts}
 use Rattle.std.proofs.lemmas.List.{length-map, map-append, length-reverse, reverse-reverse}
 use Rattle.wa_types.specs.declared.values.ValType.{ValType}
 use Rattle.wa_types.specs.declared.values.ValType.TheVariants.{I32}
@@ -11,20 +10,18 @@ use Rattle.wa_types.specs.declared.values.Trap.TheVariants.{StackExhausted, Type
 use Rattle.wa_types.specs.Pruned.{is_last}
 use Rattle.wa_types.specs.Pausing.{Callee, direct, indirect, callee as callee_of}
 use Rattle.wa_types.specs.Syntax.{Plain, basic, local_get, local_set, local_tee, br, br_if, br_table, return, unreachable, call, call_indirect, a_block, a_loop, Code, done, plain, nest, branch, FuncType, Func, Module}
-use Rattle.wa_types.specs.Typing.{Around, Sig, moves, leaves, drops, selects, lacks, late, listed, type_of, all_there, all_alike, jump as jump_sig, may_jump, jumps, calls, calls_at, gets, sets, tees, basic_sig, sig, Takes, Types, Typed}
+use Rattle.wa_types.specs.Typing.{Around, leaves, lacks, listed, type_of, all_there, all_alike, jump as jump_sig, may_jump, jumps, calls, calls_at, gets, sets, tees, basic_sig, sig, Takes, Types, Typed}
 use Rattle.wa_types.specs.Validity.{Valid}
-use Rattle.wa_types.specs.Modules.{func_imports, func_sorts, func_types, func_type_at, type_at, or_empty, declared_locals, locals_of, around, defined_at}
+use Rattle.wa_types.specs.Modules.{func_imports, func_types, func_type_at, type_at, or_empty, declared_locals, locals_of, around, defined_at}
 use Rattle.wa_types.proofs.PlaceLemmas.{last_no_call}
 use Rattle.wa_model.specs.Store.{Store, value_at, Did, works, fails, lacks as lacking, takes, act}
 use Rattle.wa_model.specs.Configuration.{Label, block_label, loop_label, Activation, Configuration, running, waiting}
 use Rattle.wa_model.specs.Step.{Next, steps, asks, returns, traps, stuck, keep, result_count, leave, jump, finish, did, with_top, with_number, choose, arity_of, zero_of, entered, invoke, param_count, same_func_type, through, memory_max, step_at, step}
-use Rattle.wa_model.specs.Growth.{EntryNamed}
 use Rattle.wa_model.specs.Fitting.{types_of, results_of, StoreFits}
-use Rattle.wa_model.proofs.GrownSteps.{each_got}
-use Rattle.wa_model.proofs.FittingNames.{split_types, carried_types, kept_types, reversed_types, value_typed, set_typed, zeros_typed, func_types_true, one_reversed, type_small, func_type_small, results_are, count_is, defined_type, not_defined, func_found}
+use Rattle.wa_model.proofs.FittingNames.{split_types, carried_types, kept_types, reversed_types, value_typed, set_typed, zeros_typed, func_types_true, one_reversed, func_type_small, results_are, count_is, defined_type, func_found}
 use Rattle.wa_model.proofs.FittingActs.{DidFits, act_fits}
 use Rattle.wa_model.proofs.FittingSteps.{takes_above, chosen_alike, body_typed}
-use Rattle.stack_laws.proofs.Spots.{Spot, at_start, past, in_block, in_loop, behind_nest, in_arm, in_else, behind_branch, retyped, placed}
+use Rattle.stack_laws.proofs.Spots.{Spot, at_start, past, in_block, in_loop, in_arm, in_else, retyped, placed}
 
 -- An activation that runs, over operands of these types, stands at a spot of its body.
 pub record RunsAtSpot (m : Module) (fn : ℕ) (locals : List Value) (code : Code) (labels : List Label) (types : List ValType) : Type 0 where
@@ -85,7 +82,8 @@ call_goes p x e = by_last (is_last p) refl
     by_last false f = refl
 
 -- who waited goes on with results of the types that it waited for
-pub goes_on_behind : (m : Module) (fn : ℕ) (a : Activation) (values : List Value) → WaitsAtSpot m fn a → types_of values ≡ results_of m fn → RunsAtSpot m a.func a.locals a.code a.labels (types_of (values ++ a.operands))
+pub goes_on_behind : (m : Module) (fn : ℕ) (a : Activation) (values : List Value) → WaitsAtSpot m fn a → types_of values ≡ results_of m fn
+    → RunsAtSpot m a.func a.locals a.code a.labels (types_of (values ++ a.operands))
 goes_on_behind m fn a values w e = record {
   func = w.func;
   func_is = w.func_is;
@@ -106,7 +104,8 @@ module _ (m : Module) (v : Valid m) where
   module _ (s : Store) (so : StoreFits m s) where
     -- ---- results
 
-    leaves_spot : (k fn : ℕ) (ops : List Value) (more : List ValType) (under : List Activation) → types_of ops ≡ results_of m fn ++ more → CallersAtSpots m fn under → NextAtSpots m (leave k s ops (result_count m fn) under)
+    leaves_spot : (k fn : ℕ) (ops : List Value) (more : List ValType) (under : List Activation) → types_of ops ≡ results_of m fn ++ more
+        → CallersAtSpots m fn under → NextAtSpots m (leave k s ops (result_count m fn) under)
     leaves_spot k fn ops more [] e w = so
     leaves_spot k fn ops more (a ∷ under) e w =
         let taken : types_of (take (result_count m fn) ops) ≡ results_of m fn = ap (λ n. types_of (take n ops)) (count_is m v fn) ∙ (split_types (results_of m fn) more ops e).0 in
@@ -264,7 +263,8 @@ module _ (m : Module) (v : Valid m) where
             (goes_on ls lower rest labels results mids below el el' again))
 
         -- by what a branch table takes
-        br_table_spot : (ops : List Value) (labels : List Label) (results : List (Option ValType)) (code : Code) (own mids below : List ValType) (targets : List ℕ) (last : ℕ) (o : Option (Option ValType))
+        br_table_spot : (ops : List Value) (labels : List Label) (results : List (Option ValType)) (code : Code) (own mids below : List ValType) (targets : List ℕ) (last : ℕ)
+            (o : Option (Option ValType))
             → slice_get results last ≡ o → Takes (jumps results targets o) own mids → types_of ops ≡ own ++ below → Spot c f.body results labels code own below
             → NextAtSpots m (with_number ops (λ n lower. jump (length targets + 1) m s fn under ls lower labels (unwrap_or (slice_get targets n) last)))
         br_table_spot ops labels results code own mids below targets last None e h eo st = absurd h
@@ -333,12 +333,14 @@ module _ (m : Module) (v : Valid m) where
             by_callee : (o : Option Func) → defined_at m x ≡ o → NextAtSpots m (invoke m s fn under ls own_ops ops rest labels params x o)
             by_callee (Some g) e = by_room (nat_lt (length under + 1) 4096)
               where
-                by_room : (b : Bool) → NextAtSpots m (if b then steps params (entered s (waiting fn ls (drop params ops) (own_ops ++ take params ops) rest labels ∷ under) (reverse (take params ops)) x g) else traps params StackExhausted s)
+                by_room : (b : Bool) → NextAtSpots m
+                    (if b then steps params (entered s (waiting fn ls (drop params ops) (own_ops ++ take params ops) rest labels ∷ under) (reverse (take params ops)) x g) else traps params StackExhausted s)
                 by_room true = entered_spot (waiting fn ls (drop params ops) (own_ops ++ take params ops) rest labels ∷ under) (reverse (take params ops)) x g e args_typed caller
                 by_room false = so
             by_callee None e = by_import (nat_lt x (func_imports m))
               where
-                by_import : (b : Bool) → NextAtSpots m (if b then asks params x (reverse (take params ops)) (record { store = s; here = waiting fn ls (drop params ops) (own_ops ++ take params ops) rest labels; under = under }) else stuck)
+                by_import : (b : Bool) → NextAtSpots m
+                    (if b then asks params x (reverse (take params ops)) (record { store = s; here = waiting fn ls (drop params ops) (own_ops ++ take params ops) rest labels; under = under }) else stuck)
                 by_import true = record { store = so; waits = caller }
                 by_import false = tt
 
@@ -366,7 +368,8 @@ module _ (m : Module) (v : Valid m) where
                 → NextAtSpots m (if b then invoke m s fn under ls (V.I32 n ∷ []) ops rest labels (param_count (type_at m sort)) x (defined_at m x) else traps (param_count (type_at m sort)) TypeMismatch s)
             by_type false z = so
             by_type true z =
-                invokes_spot (V.I32 n ∷ []) ops labels results (call_indirect sort) (indirect sort) rest own b0 below x (type_at m sort) refl takes whole (func_types_true (func_type_at m x) (type_at m sort) z) eo st (defined_at m x) refl
+                invokes_spot (V.I32 n ∷ []) ops labels results (call_indirect sort) (indirect sort) rest own b0 below x (type_at m sort) refl takes whole
+                (func_types_true (func_type_at m x) (type_at m sort) z) eo st (defined_at m x) refl
 
         calls_at_spot : (ops : List Value) (labels : List Label) (results : List (Option ValType)) (rest : Code) (own mids below : List ValType) (sort : ℕ) (table : Bool) (o : Option FuncType)
             → c.table ≡ table → slice_get m.types sort ≡ o → Takes (calls_at table o) own mids → types_of ops ≡ own ++ below → Spot c f.body results labels (plain (call_indirect sort) rest) own below
@@ -380,7 +383,8 @@ module _ (m : Module) (v : Valid m) where
             let found : Takes (calls_at true (Some t)) own (reverse t.results ++ h.0) = (h.0, h.1, refl) in
             let there : Takes (calls_at c.table (slice_get m.types sort)) own (reverse t.results ++ h.0) =
             subst (λ b. Takes (calls_at b (slice_get m.types sort)) own (reverse t.results ++ h.0)) (sym z) (subst (λ q. Takes (calls_at true q) own (reverse t.results ++ h.0)) (sym e) found) in
-            let takes : Takes (sig c results (call_indirect sort)) own (reverse (type_at m sort).results ++ h.0) = subst (λ (u : FuncType). Takes (sig c results (call_indirect sort)) own (reverse u.results ++ h.0)) (sym et) there in
+            let takes : Takes (sig c results (call_indirect sort)) own (reverse (type_at m sort).results ++ h.0) =
+            subst (λ (u : FuncType). Takes (sig c results (call_indirect sort)) own (reverse u.results ++ h.0)) (sym et) there in
             numbers_spot ops (reverse (type_at m sort).params ++ (h.0 ++ below)) _ eb
             (λ n lower el'. through_spot n lower labels results rest own h.0 below sort takes (ap (λ xs. I32 ∷ xs) el' ∙ sym eb ∙ eo) el' st (slice_get s.table n))
 
@@ -421,7 +425,8 @@ module _ (m : Module) (v : Valid m) where
             let t = (retyped c f.body results labels (plain p rest) own below (placed c f.body results labels (plain p rest) own below typed st)).typed in
             plain_spot ops labels results p rest own t.0 below t.1 eo st (λ goes. past p own goes t.1 st)
         code_spot ops labels results (nest a_block r body rest) own below eo st =
-            goes_on ls ops body (block_label (length ops) (arity_of r) rest done ∷ labels) (r ∷ results) [] (own ++ below) el eo (in_block own below refl (height_is ops (own ++ below) eo) refl refl st)
+            goes_on ls ops body (block_label (length ops) (arity_of r) rest done ∷ labels) (r ∷ results) [] (own ++ below) el eo
+            (in_block own below refl (height_is ops (own ++ below) eo) refl refl st)
         code_spot ops labels results (nest a_loop r body rest) own below eo st =
             goes_on ls ops body (loop_label (length ops) body rest ∷ labels) (None ∷ results) [] (own ++ below) el eo (in_loop r own below refl (height_is ops (own ++ below) eo) st)
         code_spot ops labels results (branch r a b rest) own below eo st =
@@ -434,9 +439,11 @@ module _ (m : Module) (v : Valid m) where
                 (running s fn under ls lower a (block_label (length lower) (arity_of r) rest b ∷ labels))
                 (running s fn under ls lower b (block_label (length lower) (arity_of r) rest done ∷ labels))))
             by_arm zero lower e =
-                goes_on ls lower b (block_label (length lower) (arity_of r) rest done ∷ labels) (r ∷ results) [] (kinds.0 ++ below) el e (in_else a own kinds.0 below kinds.1 refl (height_is lower (kinds.0 ++ below) e) refl refl st)
+                goes_on ls lower b (block_label (length lower) (arity_of r) rest done ∷ labels) (r ∷ results) [] (kinds.0 ++ below) el e
+                (in_else a own kinds.0 below kinds.1 refl (height_is lower (kinds.0 ++ below) e) refl refl st)
             by_arm (suc n) lower e =
-                goes_on ls lower a (block_label (length lower) (arity_of r) rest b ∷ labels) (r ∷ results) [] (kinds.0 ++ below) el e (in_arm own kinds.0 below kinds.1 refl (height_is lower (kinds.0 ++ below) e) refl st)
+                goes_on ls lower a (block_label (length lower) (arity_of r) rest b ∷ labels) (r ∷ results) [] (kinds.0 ++ below) el e
+                (in_arm own kinds.0 below kinds.1 refl (height_is lower (kinds.0 ++ below) e) refl st)
 
 -- Each reduction leads from spots to spots.
 pub steps_spot : (m : Module) (c : Configuration) → Valid m → ConfigurationAtSpots m c → NextAtSpots m (step m c)

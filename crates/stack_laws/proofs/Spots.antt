@@ -1,21 +1,20 @@
 -- Where code stands in a typed body: by the steps that lead there from its start, with the operands' types.
-use Rattle.std.proofs.Common.{arith, ◌≡◌, ℕ, zero, suc, ◌+◌, ◌-◌, ◌≤◌, ◌++◌, List, [], ◌∷◌, map, length, take, drop, Option, Some, None, Bool, true, false, refl, sym, ap, ◌∙◌, subst, append_assoc, append-nil}
-use Rattle.std.specs.Prelude.{slice_get, if◌then◌else◌}
-use Rattle.std.proofs.lemmas.List.{length-append, length-map, map-append}
+use Rattle.std.proofs.Common.{◌≡◌, ℕ, ◌++◌, List, [], ◌∷◌, map, length, drop, Option, Some, None, Bool, true, false, refl, sym, ap, ◌∙◌, subst, append_assoc}
+use Rattle.std.specs.Prelude.{if◌then◌else◌}
+use Rattle.std.proofs.lemmas.List.{length-map, map-append}
 use Rattle.wa_types.specs.declared.values.ValType.{ValType}
 use Rattle.wa_types.specs.declared.values.ValType.TheVariants.{I32}
-use Rattle.wa_types.specs.Syntax.{Plain, a_block, a_loop, Shape, Code, done, plain, nest, branch, Func, Module}
+use Rattle.wa_types.specs.Syntax.{Plain, a_block, a_loop, Shape, Code, done, plain, nest, branch}
 use Rattle.wa_types.specs.Pruned.{is_last, pruned}
 use Rattle.wa_types.specs.Typing.{Around, Takes, Types, Typed, listed, label, sig}
-use Rattle.wa_types.specs.Modules.{around}
-use Rattle.wa_types.specs.Pausing.{Callee, callee, callee_onto, calls_of, calls_in}
-use Rattle.wa_types.specs.Points.{after, unless_last, if_call, call_points, func_call_points}
-use Rattle.wa_types.specs.Liveness.{Label as Continuation, goes_behind, goes_again, label_of, Position, position, if_call_here, behind_calls}
+use Rattle.wa_types.specs.Pausing.{Callee, callee, callee_onto, calls_of}
+use Rattle.wa_types.specs.Points.{after, unless_last, if_call, call_points}
+use Rattle.wa_types.specs.Liveness.{Label as Continuation, goes_behind, label_of, Position, position, if_call_here, behind_calls}
 use Rattle.wa_types.proofs.PointLemmas.{takes_after, passes}
 use Rattle.wa_types.proofs.PlaceLemmas.{last_no_call}
-use Rattle.wa_model.specs.Configuration.{Label, block_label, loop_label, call_count, calls_outside, place_of}
+use Rattle.wa_model.specs.Configuration.{Label, block_label, loop_label, call_count}
 use Rattle.wa_model.specs.Step.{arity_of}
-use Rattle.stack_laws.specs.Sites.{Site, site_of, sites, continuation}
+use Rattle.stack_laws.specs.Sites.{Site, site_of, sites}
 
 -- ---- the calls of code, seen three ways
 
@@ -34,7 +33,8 @@ callees_of c ls labels done under ops = refl
 callees_of c ls labels (plain p rest) under ops = by_call (callee p) (is_last p) (callees_of c ls labels rest under (after (sig c ls p) ops))
   where
     by_call : (o : Option Callee) (b : Bool) → callees (sites c ls labels rest under (after (sig c ls p) ops)) ≡ calls_of (pruned rest)
-        → callees (site_of o (position (pruned rest) labels) (ops ++ under) ++ unless_last b (sites c ls labels rest under (after (sig c ls p) ops))) ≡ callee_onto o (calls_of (if b then done else pruned rest))
+        → callees (site_of o (position (pruned rest) labels) (ops ++ under) ++ unless_last b (sites c ls labels rest under (after (sig c ls p) ops))) ≡ callee_onto o
+        (calls_of (if b then done else pruned rest))
     by_call None true h = refl
     by_call None false h = h
     by_call (Some x) true h = refl
@@ -88,7 +88,8 @@ places_of c ls labels (branch r a b rest) under ops =
     ∙ ap (λ xs. behind_calls inner (pruned a) ++ (xs ++ places third)) (places_of c (r ∷ ls) inner b (drop 1 ops ++ under) [])
     ∙ ap (λ xs. behind_calls inner (pruned a) ++ (behind_calls inner (pruned b) ++ xs)) (places_of c ls labels rest under (listed r ++ drop 1 ops))
 
-pub points_of : (c : Around) (ls : List (Option ValType)) (labels : List Continuation) (k : Code) (under ops : List ValType) → points (sites c ls labels k under ops) ≡ call_points c ls (pruned k) under ops
+pub points_of : (c : Around) (ls : List (Option ValType)) (labels : List Continuation) (k : Code) (under ops : List ValType)
+    → points (sites c ls labels k under ops) ≡ call_points c ls (pruned k) under ops
 unfolding sites call_points pruned
 points_of c ls labels done under ops = refl
 points_of c ls labels (plain p rest) under ops = by_call (callee p) (is_last p) (points_of c ls labels rest under (after (sig c ls p) ops))
@@ -166,14 +167,16 @@ pub record Retyped (c : Around) (body : Code) (results : List (Option ValType)) 
   pub typed : Types c results code outs own
   pub again : (code' : Code) (own' : List ValType) → Types c results code' outs own' → Placed c body results labels code' own' below
 
-pub retyped : (c : Around) (body : Code) (results : List (Option ValType)) (labels : List Label) (code : Code) (own below : List ValType) → Placed c body results labels code own below → Retyped c body results labels code own below
+pub retyped : (c : Around) (body : Code) (results : List (Option ValType)) (labels : List Label) (code : Code) (own below : List ValType)
+    → Placed c body results labels code own below → Retyped c body results labels code own below
 retyped c body results [] code own below h = record { outs = listed c.result; typed = h.2; again = λ code' own' t. (h.0, h.1, t) }
 retyped c body results (block_label height arity rest skipped ∷ labels) code own below h =
     record { outs = listed h.0; typed = h.8; again = λ code' own' t. (h.0, h.1, h.2, h.3, h.4, h.5, h.6, h.7, t, h.9) }
 retyped c body results (loop_label height inner rest ∷ labels) code own below h =
     record { outs = listed h.0; typed = h.7; again = λ code' own' t. (h.0, h.1, h.2, h.3, h.4, h.5, h.6, t, h.8, h.9) }
 
-pub placed : (c : Around) (body : Code) (results : List (Option ValType)) (labels : List Label) (code : Code) (own below : List ValType) → Typed c body → Spot c body results labels code own below → Placed c body results labels code own below
+pub placed : (c : Around) (body : Code) (results : List (Option ValType)) (labels : List Label) (code : Code) (own below : List ValType) → Typed c body
+    → Spot c body results labels code own below → Placed c body results labels code own below
 unfolding Types
 placed c body results labels code own below t (at_start e) = (e, refl, subst (λ ls. Types c ls body (listed c.result) []) (sym e) t)
 placed c body results labels code own below t (past p own' last takes s) =

@@ -16,36 +16,30 @@ use Rattle.wa_model.specs.declared.events.End.{End}
 use Rattle.wa_model.specs.Outside.{Answer, Event, called, answered, paused, returned, ended, shown}
 use Rattle.wa_model.specs.Machine.{Turn, stops, Ran}
 use Rattle.wa_model.specs.Store.{Store}
-use Rattle.wa_model.specs.Configuration.{Label, block_label, loop_label, Activation, call_count, calls_outside, place_of, suspended}
+use Rattle.wa_model.specs.Configuration.{Activation, call_count, calls_behind, calls_outside, place_of, suspended}
 use Rattle.wa_model.specs.Step.{Next, steps, asks, returns, traps, stuck, entered, step}
 use Rattle.wa_model.specs.Plan.{Entry, Plan, Outcome, given, refused}
 use Rattle.wa_model.specs.Instantiation.{Opening, fails_as, opens, opening}
 use Rattle.wa_model.specs.Blocking.{Note, note, call_note, bad_poke, bad_pause, is_unlisted, or_else, fault_of, pause_of, poked, done_notes, Task, the_start, an_entry, Left, with_outcomes, Asker, inside, outermost, store_at, stack_at, in_start, State, between, begins, runs, halts, on_to, next_entry, task_back, go_on, tested, asked, by_step, enters, enter_next, start_called, blocking, all_left, started, begun, continued, Blocking}
 use Rattle.wa_model.specs.Behaves.{StandsNumbered, PauseNumbered}
-use Rattle.stack_laws.specs.Standing.{LeadsTo, Chained, IsRoot, CallChained, StacksChained, PauseTold, PausesTold, ListedNumbered, CallsAtNumbers, PausesAtNumbers, outside, calls_from, CallersAt, ConfigurationAt, WaitingAt, NextAt, EntriesAt, StateAt}
+use Rattle.wa_model.specs.LawfulStacks.{LeadsTo, Chained}
+use Rattle.stack_laws.specs.Standing.{IsRoot, CallChained, StacksChained, PauseTold, PausesTold, ListedNumbered, CallsAtNumbers, PausesAtNumbers, calls_from, CallersAt, ConfigurationAt, WaitingAt, NextAt, EntriesAt, StateAt}
 use Rattle.stack_laws.proofs.StandingSteps.{body_stands, waited_stands, step_stands}
 use Rattle.wa_model.proofs.Invariants.{TurnKeeps, after_keeps}
 
 -- ---- places
-
-outside_count : (labels : List Label) → length (outside labels) ≡ calls_outside labels
-outside_count [] = refl
-outside_count (block_label h arity rest skipped ∷ labels) =
-    length-append (calls_of (pruned skipped)) (calls_of (pruned rest) ++ outside labels)
-    ∙ ap (λ (n : ℕ). call_count skipped + n) (length-append (calls_of (pruned rest)) (outside labels) ∙ ap (λ (n : ℕ). call_count rest + n) (outside_count labels))
-    ∙ omega arith
-outside_count (loop_label h body rest ∷ labels) = length-append (calls_of (pruned rest)) (outside labels) ∙ ap (λ (n : ℕ). call_count rest + n) (outside_count labels)
 
 got_behind : {X : Type 0} (xs : List X) (x : X) (ys : List X) → slice_get (xs ++ x ∷ ys) (length xs) ≡ Some x
 got_behind [] x ys = refl
 got_behind (y ∷ xs) x ys = got_behind xs x ys
 
 -- the place of a call that an activation waits at
-place_is : (m : Module) (a : Activation) (f : Func) (before : List Callee) (c : Callee) → defined_at m a.func ≡ Some f → calls_in f ≡ before ++ c ∷ calls_from a.code a.labels → slice_get (calls_in f) (place_of (defined_at m a.func) a.code a.labels) ≡ Some c
+place_is : (m : Module) (a : Activation) (f : Func) (before : List Callee) (c : Callee) → defined_at m a.func ≡ Some f → calls_in f ≡ before ++ c ∷ calls_from a.code a.labels
+    → slice_get (calls_in f) (place_of (defined_at m a.func) a.code a.labels) ≡ Some c
 place_is m a f before c is e =
     let rest = calls_from a.code a.labels in
     let count : length rest ≡ call_count a.code + calls_outside a.labels =
-    length-append (calls_of (pruned a.code)) (outside a.labels) ∙ ap (λ (n : ℕ). call_count a.code + n) (outside_count a.labels) in
+    length-append (calls_of (pruned a.code)) (calls_behind a.labels) in
     let all : length (calls_in f) ≡ length before + suc (length rest) = ap length e ∙ length-append before (c ∷ rest) in
     let place : place_of (Some f) a.code a.labels ≡ length before = omega arith in
     ap (λ (o : Option Func). slice_get (calls_in f) (place_of o a.code a.labels)) is
@@ -101,7 +95,8 @@ module _ (m : Module) (s : Settings) (which : List Bool) (tells : TellsMayPause 
   goes_numbered (direct y) ops x g p = subst (λ (z : ℕ). has_number m s which (direct z) ≡ true) (sym g) (pauses_numbered x p)
   goes_numbered (indirect sort) ops x g p = ap not counted
 
-  caller_pauses : (c : Callee) (ops : List Value) (x fn : ℕ) (f : Func) (place : ℕ) → LeadsTo m table c ops x → Pauses x → defined_at m fn ≡ Some f → slice_get (calls_in f) place ≡ Some c → MayPause m s fn
+  caller_pauses : (c : Callee) (ops : List Value) (x fn : ℕ) (f : Func) (place : ℕ) → LeadsTo m table c ops x → Pauses x
+      → defined_at m fn ≡ Some f → slice_get (calls_in f) place ≡ Some c → MayPause m s fn
   caller_pauses (direct y) ops x fn f place g (inl e) is at = calls_listed fn f place y is at (ap (slice_get (Listed m s)) g ∙ e)
   caller_pauses (direct y) ops x fn f place g (inr e) is at = calls_pausing fn f place y is at ((tells.each y).0 (ap (slice_get which) g ∙ e))
   caller_pauses (indirect sort) ops x fn f place g p is at = calls_indirectly fn f place sort is at counted
@@ -114,7 +109,8 @@ module _ (m : Module) (s : Settings) (which : List Bool) (tells : TellsMayPause 
       let c = h.1 in
       let told : slice_get which a.func ≡ Some true = (tells.each a.func).1 (caller_pauses c a.operands x a.func f a.place h.4 p h.2 h.3) in
       let from_zero : 0 + a.place ≡ a.place = omega arith in
-      let number : Contains (Numbered m s which f) a.place = subst (λ (k : ℕ). Contains (Numbered m s which f) k) from_zero (place_listed (has_number m s which) 0 (calls_in f) a.place c h.3 (goes_numbered c a.operands x h.4 p)) in
+      let number : Contains (Numbered m s which f) a.place =
+      subst (λ (k : ℕ). Contains (Numbered m s which f) k) from_zero (place_listed (has_number m s which) 0 (calls_in f) a.place c h.3 (goes_numbered c a.operands x h.4 p)) in
       All-cons (StandsNumbered m s which) a stack (record { instrumented = told; numbered = (f, h.2, number) }) (chain_numbered a.func stack (inr told) h.5)
 
 -- ---- what an answer that pauses was tested for
@@ -136,7 +132,8 @@ pause_listed true unlisted import ticks e = cc
 pause_listed false true import ticks e = cc
 pause_listed false false import ticks e = refl
 
-fault_listed : (results : List ValType) (size : ℕ) (plan : Plan) (in_start : Bool) (import : ℕ) (a : Answer) (listed : List Bool) (ticks : ℕ) → plan.listed ≡ Some listed → a.ticks ≡ suc ticks → fault_of results size plan in_start import a ≡ None
+fault_listed : (results : List ValType) (size : ℕ) (plan : Plan) (in_start : Bool) (import : ℕ) (a : Answer) (listed : List Bool) (ticks : ℕ)
+    → plan.listed ≡ Some listed → a.ticks ≡ suc ticks → fault_of results size plan in_start import a ≡ None
     → slice_get listed import ≡ Some true
 fault_listed results size plan in_start import a listed ticks l t e =
     let last = or_else_last (bad_poke size plan.area a.pokes) _ (or_else_last _ _ e) in
@@ -192,9 +189,11 @@ module _ (b : Module) (Root : ℕ → Type 0) (plan : Plan) (table : List (Optio
       let cs = w.2.stack in
       let few : length (c.here ∷ c.under) ≤ 4096 = w.2.few in
       (two x _ nx (tt, tt), (w.0, w.1, record { same = e; here = waited_stands b cs.0 c.here.func c.here.code c.here.labels cs.2; under = cs.3; few = few }, h))
-  go_on_at k import x a s l (outermost old) nx e h w = (All-append NoteAt (x ∷ note (answered a.value) s ∷ []) (done_notes s l.entries) (two x _ nx (tt, tt)) (done_at s l.entries), on_at s l l.entries e h)
+  go_on_at k import x a s l (outermost old) nx e h w =
+      (All-append NoteAt (x ∷ note (answered a.value) s ∷ []) (done_notes s l.entries) (two x _ nx (tt, tt)) (done_at s l.entries), on_at s l l.entries e h)
 
-  pause_at : (import ticks : ℕ) (args : List Value) → ((listed : List Bool) (t : ℕ) → plan.listed ≡ Some listed → ticks ≡ suc t → slice_get listed import ≡ Some true) → PauseTold plan (called (record { import = import; args = args })) (pause_of ticks)
+  pause_at : (import ticks : ℕ) (args : List Value) → ((listed : List Bool) (t : ℕ) → plan.listed ≡ Some listed → ticks ≡ suc t → slice_get listed import ≡ Some true)
+      → PauseTold plan (called (record { import = import; args = args })) (pause_of ticks)
   pause_at import zero args told = tt
   pause_at import (suc t) args told = λ listed e. told listed t e refl
 
@@ -211,7 +210,8 @@ module _ (b : Module) (Root : ℕ → Type 0) (plan : Plan) (table : List (Optio
   asked_at k import args who l (given a ∷ os) h w =
       let results = (func_type_at b import).results in
       let size = length (store_at who).memory in
-      tested_at k import args who (with_outcomes l os) a (fault_of results size plan (in_start who) import a) h w (λ listed t none e more. fault_listed results size plan (in_start who) import a listed t e more none)
+      tested_at k import args who (with_outcomes l os) a (fault_of results size plan (in_start who) import a) h w
+      (λ listed t none e more. fault_listed results size plan (in_start who) import a listed t e more none)
 
   step_turn_at : (task : Task) (l : Left) (root : ℕ) (o : Next) → Root root → EntriesAt Root l → NextAt b table root o → TurnAt (by_step b plan task l o)
   step_turn_at task l root (steps k d) r h n = (All-nil NoteAt, (root, r, n, h))
@@ -230,7 +230,8 @@ module _ (b : Module) (Root : ℕ → Type 0) (plan : Plan) (table : List (Optio
   next_at : (s : Store) (l : Left) (es : List Entry) → s.table ≡ table → All (λ (x : Entry). Root x.func) es → TurnAt (enter_next b s l es)
   next_at s l [] e h = tt
   next_at s l (x ∷ es) e h =
-      enters_at x s (record { number = l.number; entries = es; outcomes = l.outcomes }) (defined_at b x.func) e (All-head (λ (x : Entry). Root x.func) x es h) (All-tail (λ (x : Entry). Root x.func) x es h) refl
+      enters_at x s (record { number = l.number; entries = es; outcomes = l.outcomes }) (defined_at b x.func) e (All-head (λ (x : Entry). Root x.func) x es h)
+      (All-tail (λ (x : Entry). Root x.func) x es h) refl
 
   start_at : (x : ℕ) (s : Store) (l : Left) (o : Option Func) → s.table ≡ table → Root x → EntriesAt Root l → defined_at b x ≡ o → TurnAt (start_called b plan x s l o)
   start_at x s l (Some f) e r h there = (All-nil NoteAt, (x, r, entered_at x s [] f e there, h))
@@ -254,7 +255,8 @@ begun_at : (b : Module) (Root : ℕ → Type 0) (plan : Plan) (l : Left) (o : Op
 begun_at b Root plan l (fails_as e) start n h r = ran_at b Root plan [] (begun start l (fails_as e)) n (one b Root plan [] _ (tt, tt)) refl
 begun_at b Root plan l (opens s) start n h r = by_start start r
   where
-    by_start : (o : Option ℕ) → ((x : ℕ) → o ≡ Some x → Root x) → All (λ (x : Note). CallChained b Root x.event x.store x.stack × PauseTold plan x.event x.pause) (continued b plan n (started s l o)).events
+    by_start : (o : Option ℕ) → ((x : ℕ) → o ≡ Some x → Root x)
+        → All (λ (x : Note). CallChained b Root x.event x.store x.stack × PauseTold plan x.event x.pause) (continued b plan n (started s l o)).events
     by_start None r = ran_at b Root plan s.table (started s l None) n (done_at b Root plan s.table s l.entries) (on_at b Root plan s.table s l l.entries refl h)
     by_start (Some x) r = ran_at b Root plan s.table (started s l (Some x)) n (All-nil _) (refl, r x refl, h)
 
@@ -291,7 +293,8 @@ whole_in m plan os n =
     let Root = IsRoot m plan in
     let entries : All (λ (e : Entry). IsRoot m plan e.func) plan.entries =
     All-weaker (Contains plan.entries) (λ (e : Entry). IsRoot m plan e.func) (λ e k. inr (e, k, refl)) plan.entries (All-contains_itself plan.entries) in
-    All-weaker (λ (x : Note). CallChained (Base m) (IsRoot m plan) x.event x.store x.stack × PauseTold plan x.event x.pause) (Whole m plan) (λ x h. (base_call m (IsRoot m plan) x.event x.store x.stack h.0, h.1)) (Blocking m plan os n).events
+    All-weaker (λ (x : Note). CallChained (Base m) (IsRoot m plan) x.event x.store x.stack × PauseTold plan x.event x.pause) (Whole m plan)
+    (λ x h. (base_call m (IsRoot m plan) x.event x.store x.stack h.0, h.1)) (Blocking m plan os n).events
     (begun_at (Base m) (IsRoot m plan) plan (all_left plan os) (opening (Base m) plan.globals) (Base m).start n entries (base_root m plan))
 
 pub stacks_chained : StacksChained
@@ -309,7 +312,8 @@ module _ (m : Module) (s : Settings) (which : List Bool) (plan : Plan) (tells : 
   call_numbered (ended how) at stack h = tt
   call_numbered (shown place bytes) at stack h = tt
 
-  pause_numbered : plan.listed ≡ Some (Listed m s) → (e : Event) (stack : List Suspended) (pause : Option ℕ) → ListedNumbered m s which e stack → PauseTold plan e pause → PauseNumbered m s which stack pause
+  pause_numbered : plan.listed ≡ Some (Listed m s) → (e : Event) (stack : List Suspended) (pause : Option ℕ)
+      → ListedNumbered m s which e stack → PauseTold plan e pause → PauseNumbered m s which stack pause
   pause_numbered l e stack None h k = tt
   pause_numbered l (called c) stack (Some ticks) h k = h (k (Listed m s) l)
   pause_numbered l (answered value) stack (Some ticks) h k = absurd k
@@ -320,9 +324,11 @@ module _ (m : Module) (s : Settings) (which : List Bool) (plan : Plan) (tells : 
 
 pub calls_at_numbers : CallsAtNumbers
 calls_at_numbers m s which plan os n tells counted =
-    All-weaker (Whole m plan) (λ (x : Note). ListedNumbered m s which x.event x.stack) (λ x h. call_numbered m s which plan tells counted x.event x.store x.stack h.0) (Blocking m plan os n).events (whole_in m plan os n)
+    All-weaker (Whole m plan) (λ (x : Note). ListedNumbered m s which x.event x.stack) (λ x h. call_numbered m s which plan tells counted x.event x.store x.stack h.0)
+    (Blocking m plan os n).events (whole_in m plan os n)
 
 pub pauses_at_numbers : PausesAtNumbers
 pauses_at_numbers m s which plan os n tells counted listed =
     All-weaker (Whole m plan) (λ (x : Note). PauseNumbered m s which x.stack x.pause)
-    (λ x h. pause_numbered m s which plan tells counted listed x.event x.stack x.pause (call_numbered m s which plan tells counted x.event x.store x.stack h.0) h.1) (Blocking m plan os n).events (whole_in m plan os n)
+    (λ x h. pause_numbered m s which plan tells counted listed x.event x.stack x.pause (call_numbered m s which plan tells counted x.event x.store x.stack h.0) h.1)
+    (Blocking m plan os n).events (whole_in m plan os n)

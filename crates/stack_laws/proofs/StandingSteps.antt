@@ -12,14 +12,15 @@ use Rattle.wa_types.specs.Pausing.{Callee, direct, indirect, calls_of, calls_in}
 use Rattle.wa_types.specs.Syntax.{Basic, nop, drop as a_drop, select, const, num, global_get, global_set, load, store, memory_size, memory_grow, Plain, basic, local_get, local_set, local_tee, br, br_if, br_table, return, unreachable, call, call_indirect, a_block, a_loop, Code, done, plain, nest, branch, Func, Module}
 use Rattle.wa_types.specs.Modules.{func_imports, type_at, func_type_at, defined_at}
 use Rattle.wa_model.specs.Store.{Store, Did, works, fails, lacks, takes, act, computed, width_of, loaded, load_at, stored, store_at, grew}
-use Rattle.wa_model.specs.Configuration.{Label, block_label, loop_label, Activation, Configuration, running, waiting}
+use Rattle.wa_model.specs.Configuration.{Label, block_label, loop_label, Activation, Configuration, running, waiting, calls_behind}
 use Rattle.wa_model.specs.Step.{Next, steps, asks, traps, stuck, result_count, leave, jump, finish, did, choose, entered, invoke, param_count, same_func_type, through, memory_max, step_plain, step_at, step, arity_of}
 use Rattle.wa_types.specs.Accesses.{AccessRow, load_row, store_row}
 use Rattle.wa_types.specs.Encoding.{same_type}
 use Rattle.wa_types.specs.Memory.{Memory, number_at, with_number as number_put, grown}
 use Rattle.wa_types.specs.Typing.{type_of}
 use Rattle.wa_ops.specs.Operate.{operate, number_of}
-use Rattle.stack_laws.specs.Standing.{LeadsTo, outside, calls_from, Remains, LabelsRemain, StandsAt, WaitsAt, CallersAt, ConfigurationAt, NextAt}
+use Rattle.wa_model.specs.LawfulStacks.{LeadsTo}
+use Rattle.stack_laws.specs.Standing.{calls_from, Remains, LabelsRemain, StandsAt, WaitsAt, CallersAt, ConfigurationAt, NextAt}
 
 -- a part more stands before
 past : (all before xs ys : List Callee) → all ≡ before ++ (xs ++ ys) → all ≡ (before ++ xs) ++ ys
@@ -84,7 +85,8 @@ pub waited_stands : (m : Module) (c : Callee) (fn : ℕ) (code : Code) (labels :
 waited_stands m c fn code labels w = (w.0, w.2, (w.1 ++ c ∷ [], past (calls_in w.0) w.1 (c ∷ []) (calls_from code labels) w.3), w.4)
 
 module _ (m : Module) (table : List (Option ℕ)) (root : ℕ) where
-  leave_at : (k : ℕ) (s : Store) (ops : List Value) (arity x : ℕ) (under : List Activation) → s.table ≡ table → CallersAt m table root x under → length under < 4096 → NextAt m table root (leave k s ops arity under)
+  leave_at : (k : ℕ) (s : Store) (ops : List Value) (arity x : ℕ) (under : List Activation) → s.table ≡ table → CallersAt m table root x under
+      → length under < 4096 → NextAt m table root (leave k s ops arity under)
   leave_at k s ops arity x [] e h few = e
   leave_at k s ops arity x (a ∷ under) e h few = record { same = e; here = waited_stands m h.0 a.func a.code a.labels h.2; under = h.3; few = omega arith }
 
@@ -93,10 +95,12 @@ module _ (m : Module) (table : List (Option ℕ)) (root : ℕ) where
   chosen_at (suc n) first second h k = h
 
   module _ (fn : ℕ) (f : Func) (is : defined_at m fn ≡ Some f) (under : List Activation) (u : CallersAt m table root fn under) (few : length under < 4096) where
-    goes_on : (s : Store) (ls ops : List Value) (code : Code) (labels : List Label) → s.table ≡ table → Remains (calls_in f) code labels → LabelsRemain (calls_in f) labels → ConfigurationAt m table root (running s fn under ls ops code labels)
+    goes_on : (s : Store) (ls ops : List Value) (code : Code) (labels : List Label) → s.table ≡ table → Remains (calls_in f) code labels
+        → LabelsRemain (calls_in f) labels → ConfigurationAt m table root (running s fn under ls ops code labels)
     goes_on s ls ops code labels e h lb = record { same = e; here = (f, is, h, lb); under = u; few = few }
 
-    did_at : (ls : List Value) (labels : List Label) (rest : Code) (s : Store) (ops : List Value) (d : Did) → s.table ≡ table → DidAt table d → Remains (calls_in f) rest labels → LabelsRemain (calls_in f) labels → NextAt m table root (did fn under ls labels rest s ops d)
+    did_at : (ls : List Value) (labels : List Label) (rest : Code) (s : Store) (ops : List Value) (d : Did) → s.table ≡ table → DidAt table d → Remains (calls_in f) rest labels
+        → LabelsRemain (calls_in f) labels → NextAt m table root (did fn under ls labels rest s ops d)
     did_at ls labels rest s ops (works s' results) e t h lb = goes_on s' ls (results ++ ops) rest labels t h lb
     did_at ls labels rest s ops (fails trap) e t h lb = e
     did_at ls labels rest s ops lacks e t h lb = tt
@@ -113,19 +117,22 @@ module _ (m : Module) (table : List (Option ℕ)) (root : ℕ) where
     finish_at s ls ops (block_label h arity rest skipped ∷ labels) e lb = goes_on s ls ops rest labels e lb.0 lb.1
     finish_at s ls ops (loop_label h body rest ∷ labels) e lb = goes_on s ls ops rest labels e lb.1 lb.2
 
-    invoke_at : (c : Callee) (s : Store) (ls own ops : List Value) (rest : Code) (labels : List Label) (params x : ℕ) (o : Option Func) (before : List Callee) → s.table ≡ table → LeadsTo m table c ((own ++ take params ops) ++ drop params ops) x
+    invoke_at : (c : Callee) (s : Store) (ls own ops : List Value) (rest : Code) (labels : List Label) (params x : ℕ) (o : Option Func) (before : List Callee)
+        → s.table ≡ table → LeadsTo m table c ((own ++ take params ops) ++ drop params ops) x
         → calls_in f ≡ before ++ c ∷ calls_from rest labels → LabelsRemain (calls_in f) labels → defined_at m x ≡ o → NextAt m table root (invoke m s fn under ls own ops rest labels params x o)
     invoke_at c s ls own ops rest labels params x (Some g) before e to at lb there = by_depth (ltb (length under + 1) 4096) refl
       where
         by_depth : (b : Bool) → ltb (length under + 1) 4096 ≡ b
-            → NextAt m table root (cond b (steps params (entered s (waiting fn ls (drop params ops) (own ++ take params ops) rest labels ∷ under) (reverse (take params ops)) x g)) (traps params StackExhausted s))
+            → NextAt m table root
+            (cond b (steps params (entered s (waiting fn ls (drop params ops) (own ++ take params ops) rest labels ∷ under) (reverse (take params ops)) x g)) (traps params StackExhausted s))
         by_depth true z =
             let lt : length under + 1 < 4096 = ltb-true _ _ z in
             record { same = e; here = body_stands m x g there; under = (c, to, (f, before, is, at, lb), u); few = omega arith }
         by_depth false z = e
     invoke_at c s ls own ops rest labels params x None before e to at lb there = by_import (ltb x (func_imports m))
       where
-        by_import : (b : Bool) → NextAt m table root (cond b (asks params x (reverse (take params ops)) (record { store = s; here = waiting fn ls (drop params ops) (own ++ take params ops) rest labels; under = under })) stuck)
+        by_import : (b : Bool) → NextAt m table root
+            (cond b (asks params x (reverse (take params ops)) (record { store = s; here = waiting fn ls (drop params ops) (own ++ take params ops) rest labels; under = under })) stuck)
         by_import true = record { same = e; stack = (c, to, (f, before, is, at, lb), u); few = few }
         by_import false = tt
 
@@ -136,15 +143,18 @@ module _ (m : Module) (table : List (Option ℕ)) (root : ℕ) where
     through_at s ls ops n rest labels sort (Some (Some x)) before e z at lb = by_type (same_func_type (func_type_at m x) (type_at m sort)) refl
       where
         by_type : (b : Bool) → same_func_type (func_type_at m x) (type_at m sort) ≡ b
-            → NextAt m table root (cond b (invoke m s fn under ls (V.I32 n ∷ []) ops rest labels (param_count (type_at m sort)) x (defined_at m x)) (traps (param_count (type_at m sort)) TypeMismatch s))
+            → NextAt m table root
+            (cond b (invoke m s fn under ls (V.I32 n ∷ []) ops rest labels (param_count (type_at m sort)) x (defined_at m x)) (traps (param_count (type_at m sort)) TypeMismatch s))
         by_type true y =
             invoke_at (indirect sort) s ls (V.I32 n ∷ []) ops rest labels (param_count (type_at m sort)) x (defined_at m x) before e
             (n, take (param_count (type_at m sort)) ops ++ drop (param_count (type_at m sort)) ops, refl, ap (λ (t : List (Option ℕ)). slice_get t n) (sym e) ∙ z, y) at lb refl
         by_type false y = e
 
-    plain_at : (s : Store) (ls ops : List Value) (labels : List Label) (rest : Code) (p : Plain) → s.table ≡ table → Remains (calls_in f) (plain p rest) labels → LabelsRemain (calls_in f) labels → NextAt m table root (step_plain m s fn under ls ops labels rest p)
+    plain_at : (s : Store) (ls ops : List Value) (labels : List Label) (rest : Code) (p : Plain) → s.table ≡ table → Remains (calls_in f) (plain p rest) labels
+        → LabelsRemain (calls_in f) labels → NextAt m table root (step_plain m s fn under ls ops labels rest p)
     unfolding pruned calls_of
-    plain_at s ls ops labels rest (basic b) e h lb = did_at ls labels rest s (drop (takes b) ops) (act (memory_max m) b s (take (takes b) ops)) e (act_at table (memory_max m) b s (take (takes b) ops) e) h lb
+    plain_at s ls ops labels rest (basic b) e h lb =
+        did_at ls labels rest s (drop (takes b) ops) (act (memory_max m) b s (take (takes b) ops)) e (act_at table (memory_max m) b s (take (takes b) ops) e) h lb
     plain_at s ls ops labels rest (local_get x) e h lb = goes_on s ls _ rest labels e h lb
     plain_at s ls [] labels rest (local_set x) e h lb = tt
     plain_at s ls (v ∷ ops) labels rest (local_set x) e h lb = goes_on s _ ops rest labels e h lb
@@ -153,7 +163,8 @@ module _ (m : Module) (table : List (Option ℕ)) (root : ℕ) where
     plain_at s ls ops labels rest (br l) e h lb = jump_at 0 s ls ops labels l e lb
     plain_at s ls [] labels rest (br_if l) e h lb = tt
     plain_at s ls (V.I64 n ∷ ops) labels rest (br_if l) e h lb = tt
-    plain_at s ls (V.I32 n ∷ ops) labels rest (br_if l) e h lb = chosen_at n (jump 0 m s fn under ls ops labels l) (steps 0 (running s fn under ls ops rest labels)) (jump_at 0 s ls ops labels l e lb) (goes_on s ls ops rest labels e h lb)
+    plain_at s ls (V.I32 n ∷ ops) labels rest (br_if l) e h lb =
+        chosen_at n (jump 0 m s fn under ls ops labels l) (steps 0 (running s fn under ls ops rest labels)) (jump_at 0 s ls ops labels l e lb) (goes_on s ls ops rest labels e h lb)
     plain_at s ls [] labels rest (br_table targets last) e h lb = tt
     plain_at s ls (V.I64 n ∷ ops) labels rest (br_table targets last) e h lb = tt
     plain_at s ls (V.I32 n ∷ ops) labels rest (br_table targets last) e h lb = jump_at (length targets + 1) s ls ops labels (unwrap_or (slice_get targets n) last) e lb
@@ -165,25 +176,31 @@ module _ (m : Module) (table : List (Option ℕ)) (root : ℕ) where
     plain_at s ls (V.I32 n ∷ ops) labels rest (call_indirect sort) e h lb = through_at s ls ops n rest labels sort (slice_get s.table n) h.0 e refl h.1 lb
 
     -- the body of a construct, and what stands behind it
-    into_body : (all before : List Callee) (body rest : Code) (labels : List Label) → all ≡ before ++ ((calls_of (pruned body) ++ calls_of (pruned rest)) ++ outside labels) → all ≡ before ++ (calls_of (pruned body) ++ (calls_of (pruned rest) ++ outside labels))
-    into_body all before body rest labels e = e ∙ ap (λ (xs : List Callee). before ++ xs) (append_assoc (calls_of (pruned body)) (calls_of (pruned rest)) (outside labels))
+    into_body : (all before : List Callee) (body rest : Code) (labels : List Label) → all ≡ before ++ ((calls_of (pruned body) ++ calls_of (pruned rest)) ++ calls_behind labels)
+        → all ≡ before ++ (calls_of (pruned body) ++ (calls_of (pruned rest) ++ calls_behind labels))
+    into_body all before body rest labels e = e ∙ ap (λ (xs : List Callee). before ++ xs) (append_assoc (calls_of (pruned body)) (calls_of (pruned rest)) (calls_behind labels))
 
-    code_at : (s : Store) (ls ops : List Value) (labels : List Label) (code : Code) → s.table ≡ table → Remains (calls_in f) code labels → LabelsRemain (calls_in f) labels → NextAt m table root (step_at m s fn under ls ops labels code)
+    code_at : (s : Store) (ls ops : List Value) (labels : List Label) (code : Code) → s.table ≡ table → Remains (calls_in f) code labels
+        → LabelsRemain (calls_in f) labels → NextAt m table root (step_at m s fn under ls ops labels code)
     unfolding pruned calls_of
     code_at s ls ops labels done z h lb = finish_at s ls ops labels z lb
     code_at s ls ops labels (plain p rest) z h lb = plain_at s ls ops labels rest p z h lb
     code_at s ls ops labels (nest a_block r body rest) z h lb =
         let e = into_body (calls_in f) h.0 body rest labels h.1 in
-        goes_on s ls ops body (block_label (length ops) (arity_of r) rest done ∷ labels) z (h.0, e) ((h.0 ++ calls_of (pruned body), past (calls_in f) h.0 (calls_of (pruned body)) (calls_from rest labels) e), lb)
+        goes_on s ls ops body (block_label (length ops) (arity_of r) rest done ∷ labels) z (h.0, e)
+        ((h.0 ++ calls_of (pruned body), past (calls_in f) h.0 (calls_of (pruned body)) (calls_from rest labels) e), lb)
     code_at s ls ops labels (nest a_loop r body rest) z h lb =
         let e = into_body (calls_in f) h.0 body rest labels h.1 in
-        goes_on s ls ops body (loop_label (length ops) body rest ∷ labels) z (h.0, e) ((h.0, e), (h.0 ++ calls_of (pruned body), past (calls_in f) h.0 (calls_of (pruned body)) (calls_from rest labels) e), lb)
+        goes_on s ls ops body (loop_label (length ops) body rest ∷ labels) z (h.0, e)
+        ((h.0, e), (h.0 ++ calls_of (pruned body), past (calls_in f) h.0 (calls_of (pruned body)) (calls_from rest labels) e), lb)
     code_at s ls [] labels (branch r a b rest) z h lb = tt
     code_at s ls (V.I64 n ∷ ops) labels (branch r a b rest) z h lb = tt
     code_at s ls (V.I32 n ∷ ops) labels (branch r a b rest) z h lb = by_number n
       where
         both : calls_in f ≡ h.0 ++ (calls_of (pruned a) ++ (calls_of (pruned b) ++ calls_from rest labels))
-        both = h.1 ∙ ap (λ (xs : List Callee). h.0 ++ xs) (append_assoc (calls_of (pruned a) ++ calls_of (pruned b)) (calls_of (pruned rest)) (outside labels) ∙ append_assoc (calls_of (pruned a)) (calls_of (pruned b)) (calls_from rest labels))
+        both =
+            h.1
+            ∙ ap (λ (xs : List Callee). h.0 ++ xs) (append_assoc (calls_of (pruned a) ++ calls_of (pruned b)) (calls_of (pruned rest)) (calls_behind labels) ∙ append_assoc (calls_of (pruned a)) (calls_of (pruned b)) (calls_from rest labels))
 
         second : calls_in f ≡ (h.0 ++ calls_of (pruned a)) ++ (calls_of (pruned b) ++ calls_from rest labels)
         second = past (calls_in f) h.0 (calls_of (pruned a)) (calls_of (pruned b) ++ calls_from rest labels) both
@@ -191,8 +208,10 @@ module _ (m : Module) (table : List (Option ℕ)) (root : ℕ) where
         behind : calls_in f ≡ (h.0 ++ calls_of (pruned a) ++ calls_of (pruned b)) ++ calls_from rest labels
         behind = past (calls_in f) (h.0 ++ calls_of (pruned a)) (calls_of (pruned b)) (calls_from rest labels) second
 
-        by_number : (k : ℕ) → ConfigurationAt m table root (choose k (running s fn under ls ops a (block_label (length ops) (arity_of r) rest b ∷ labels)) (running s fn under ls ops b (block_label (length ops) (arity_of r) rest done ∷ labels)))
-        by_number zero = goes_on s ls ops b (block_label (length ops) (arity_of r) rest done ∷ labels) z (h.0 ++ calls_of (pruned a), second) ((h.0 ++ calls_of (pruned a) ++ calls_of (pruned b), behind), lb)
+        by_number : (k : ℕ) → ConfigurationAt m table root
+            (choose k (running s fn under ls ops a (block_label (length ops) (arity_of r) rest b ∷ labels)) (running s fn under ls ops b (block_label (length ops) (arity_of r) rest done ∷ labels)))
+        by_number zero =
+            goes_on s ls ops b (block_label (length ops) (arity_of r) rest done ∷ labels) z (h.0 ++ calls_of (pruned a), second) ((h.0 ++ calls_of (pruned a) ++ calls_of (pruned b), behind), lb)
         by_number (suc k) = goes_on s ls ops a (block_label (length ops) (arity_of r) rest b ∷ labels) z (h.0, both) ((h.0 ++ calls_of (pruned a) ++ calls_of (pruned b), behind), lb)
 
   -- one reduction

@@ -1,5 +1,5 @@
 -- The calls of a body, each with what stands behind it and the operands before it, in order of code.
-use Rattle.std.specs.Prelude.{ℕ, ◌++◌, List, [], ◌∷◌, drop, Option, Some, None}
+use Rattle.std.specs.Prelude.{◌++◌, List, [], ◌∷◌, drop, Option, Some, None}
 use Rattle.wa_types.specs.declared.values.ValType.{ValType}
 use Rattle.wa_types.specs.Syntax.{Code, done, plain, nest, branch}
 use Rattle.wa_types.specs.Pruned.{is_last, pruned}

@@ -1,35 +1,20 @@
 -- Where activations stand in their functions' bodies, and how each one's call leads to the next one inwards.
 use Rattle.std.specs.Prelude.{◌≡◌, ◌<◌, ◌≤◌, ◌⊎◌, ℕ, List, [], ◌∷◌, ◌++◌, length, Option, Some, None, Bool, true, false, All, Contains, slice_get}
-use Rattle.wa_types.specs.declared.values.Value.{Value}
-use Rattle.wa_types.specs.declared.values.Value.TheVariants as V
 use Rattle.wa_types.specs.Frames.{Suspended}
 use Rattle.wa_types.specs.Pruned.{pruned}
-use Rattle.wa_types.specs.Pausing.{Callee, direct, indirect, calls_of, calls_in, Settings, Listed, TellsMayPause}
+use Rattle.wa_types.specs.Pausing.{Callee, calls_of, calls_in, Settings, Listed, TellsMayPause}
 use Rattle.wa_types.specs.Syntax.{Code, Func, Module}
-use Rattle.wa_types.specs.Modules.{type_at, func_type_at, defined_at}
+use Rattle.wa_types.specs.Modules.{defined_at}
 use Rattle.wa_model.specs.Outside.{Event, called}
 use Rattle.wa_model.specs.Store.{Store}
-use Rattle.wa_model.specs.Configuration.{Label, block_label, loop_label, Activation, Configuration}
-use Rattle.wa_model.specs.Step.{Next, steps, asks, returns, traps, stuck, same_func_type}
+use Rattle.wa_model.specs.Configuration.{Label, block_label, loop_label, Activation, Configuration, calls_behind}
+use Rattle.wa_model.specs.Step.{Next, steps, asks, returns, traps, stuck}
 use Rattle.wa_model.specs.Plan.{Entry, Plan, Outcome}
 use Rattle.wa_model.specs.Blocking.{Note, Left, State, between, begins, runs, halts, Blocking}
 use Rattle.wa_model.specs.Behaves.{StandsNumbered, PausesNumbered}
+use Rattle.wa_model.specs.LawfulStacks.{LeadsTo, Chained}
 
 -- ---- suspended stacks
-
--- How a call leads to a function: a direct one by its index, an indirect one through the table, at the number that is the
--- topmost operand, where the function has the type that the call names.
-abbrev pub LeadsTo : Module → (table : List (Option ℕ)) → Callee → (operands : List Value) → ℕ → Type 0
-LeadsTo m table (direct y) operands x = y ≡ x
-LeadsTo m table (indirect sort) operands x =
-    (n : ℕ) × (rest : List Value) × (operands ≡ V.I32 n ∷ rest) × (slice_get table n ≡ Some (Some x)) × (same_func_type (func_type_at m x) (type_at m sort) ≡ true)
-
--- A stack, the innermost activation first, which waits for a function: each stands at a call of its pruned body that
--- leads to what is next inwards, and the outermost is one of this function.
-abbrev pub Chained : Module → (table : List (Option ℕ)) → (outermost waits_for : ℕ) → List Suspended → Type 0
-Chained m table root x [] = x ≡ root
-Chained m table root x (a ∷ stack) =
-    (f : Func) × (c : Callee) × (defined_at m a.func ≡ Some f) × (slice_get (calls_in f) a.place ≡ Some c) × LeadsTo m table c a.operands x × Chained m table root a.func stack
 
 -- what the host calls: the start function, or that of an entry
 abbrev pub IsRoot : Module → Plan → ℕ → Type 0
@@ -72,15 +57,9 @@ PausesAtNumbers =
 
 -- ---- configurations
 
--- the calls behind a sequence, past the ends of the constructs around
-abbrev pub outside : List Label → List Callee
-outside [] = []
-outside (block_label height arity rest skipped ∷ labels) = calls_of (pruned skipped) ++ (calls_of (pruned rest) ++ outside labels)
-outside (loop_label height body rest ∷ labels) = calls_of (pruned rest) ++ outside labels
-
 -- all calls from code on
 abbrev pub calls_from : Code → List Label → List Callee
-calls_from code labels = calls_of (pruned code) ++ outside labels
+calls_from code labels = calls_of (pruned code) ++ calls_behind labels
 
 -- they are the last ones of a function's calls
 abbrev pub Remains : List Callee → Code → List Label → Type 0

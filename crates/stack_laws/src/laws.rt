@@ -1,5 +1,6 @@
 //! Laws of suspended stacks. Each is the contract of a function that does nothing.
 
+ghost use Rattle.stack_laws.specs.Lawful.{CodeStandsBehind, StacksAreLawful};
 ghost use Rattle.stack_laws.specs.Standing.{CallsAtNumbers, PausesAtNumbers, PausesTold, StacksChained};
 
 /// At each call of an import the stack leads, call by call, from what the host called to the import, and has 4,096
@@ -14,4 +15,11 @@ pub fn stacks_are_chained()
 pub fn activations_stand_at_numbers()
     ensures calls { CallsAtNumbers }
     ensures pauses { PausesAtNumbers }
+{}
+
+/// Each activation of the stack at a call of an import stands at a call of its pruned body, with what stands behind that
+/// call, and over operands of the types that the typing finds just before it. Its values are in range.
+pub fn stacks_are_lawful()
+    ensures stacks { StacksAreLawful }
+    ensures code { CodeStandsBehind }
 {}

@@ -82,3 +82,8 @@ base_valid m v = with_memory_valid m v
 pub base_has_memory : (m : Module) → nat_lt 0 (length (all_memories (Base m))) ≡ true
 unfolding Base
 base_has_memory m = has_one m
+
+-- more stands around a body in the module with the memory
+pub base_wider : (m : Module) (f : Func) → Wider (around m f) (around (Base m) f)
+unfolding Base
+base_wider m f = wider m f

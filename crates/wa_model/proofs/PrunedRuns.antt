@@ -13,7 +13,7 @@ use Rattle.wa_model.specs.declared.events.End.{End}
 use Rattle.wa_model.specs.Outside.{Answer, answered, returned}
 use Rattle.wa_model.specs.Machine.{Turn, stops, goes, Ran, after, run}
 use Rattle.wa_model.specs.Store.{Store, Did, works, fails, lacks, takes, act}
-use Rattle.wa_model.specs.Configuration.{Label, block_label, loop_label, Activation, Configuration, running, waiting, call_count, calls_outside, place_of, suspended, stack_of}
+use Rattle.wa_model.specs.Configuration.{Label, block_label, loop_label, Activation, Configuration, running, waiting, call_count, calls_behind, calls_outside, place_of, suspended, stack_of}
 use Rattle.wa_model.specs.Step.{Next, steps, asks, returns, traps, stuck, result_count, leave, jump, finish, did, with_top, with_number, choose, arity_of, entered, invoke, param_count, same_func_type, through, memory_max, step_at, step}
 use Rattle.wa_model.specs.Plan.{Entry, Plan, Outcome, given, refused}
 use Rattle.wa_model.specs.Pruning.{pruned_func, pruned_module}
@@ -86,14 +86,17 @@ module _ (m : Module) where
   count_same : (c : Code) → call_count (pruned c) ≡ call_count c
   count_same c = ap (λ x. length (calls_of x)) (pruned_twice c)
 
+  behind_same : (labels : List Label) → calls_behind (map pruned_label labels) ≡ calls_behind labels
+  behind_same [] = refl
+  behind_same (block_label h arity rest skipped ∷ labels) =
+      ap (λ x. calls_of x ++ (calls_of (pruned (pruned rest)) ++ calls_behind (map pruned_label labels))) (pruned_twice skipped)
+      ∙ ap (λ x. calls_of (pruned skipped) ++ (calls_of x ++ calls_behind (map pruned_label labels))) (pruned_twice rest)
+      ∙ ap (λ x. calls_of (pruned skipped) ++ (calls_of (pruned rest) ++ x)) (behind_same labels)
+  behind_same (loop_label h body rest ∷ labels) =
+      ap (λ x. calls_of x ++ calls_behind (map pruned_label labels)) (pruned_twice rest) ∙ ap (λ x. calls_of (pruned rest) ++ x) (behind_same labels)
+
   outside_same : (labels : List Label) → calls_outside (map pruned_label labels) ≡ calls_outside labels
-  outside_same [] = refl
-  outside_same (block_label h arity rest skipped ∷ labels) =
-      ap (λ x. x + call_count (pruned rest) + calls_outside (map pruned_label labels)) (count_same skipped)
-      ∙ ap (λ x. call_count skipped + x + calls_outside (map pruned_label labels)) (count_same rest)
-      ∙ ap (λ x. call_count skipped + call_count rest + x) (outside_same labels)
-  outside_same (loop_label h body rest ∷ labels) =
-      ap (λ x. x + calls_outside (map pruned_label labels)) (count_same rest) ∙ ap (λ x. call_count rest + x) (outside_same labels)
+  outside_same labels = ap length (behind_same labels)
 
   place_same : (o : Option Func) (c : Code) (labels : List Label) → place_of (option_map pruned_func o) (pruned c) (map pruned_label labels) ≡ place_of o c labels
   place_same None c labels = refl

@@ -47,7 +47,7 @@ module _ (c d : Around) (w : Wider c d) (ins outs : List ValType) where
   memory_wider false ps rs m h = absurd h
   memory_wider true ps rs m h = subst (λ b. Takes (with_memory b ps rs) ins outs) (sym (m refl)) h
 
-  takes_wider : (ls : List (Option ValType)) (p : Plain) → Takes (sig c ls p) ins outs → Takes (sig d ls p) ins outs
+  pub takes_wider : (ls : List (Option ValType)) (p : Plain) → Takes (sig c ls p) ins outs → Takes (sig d ls p) ins outs
   takes_wider ls (basic (global_get x)) h = gets_wider x (slice_get c.globals x) refl h
   takes_wider ls (basic (global_set x)) h = sets_wider x (slice_get c.globals x) refl h
   takes_wider ls (basic (load op align offset)) h = loads_wider c.memory align (load_row op) w.memory h

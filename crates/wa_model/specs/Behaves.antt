@@ -108,7 +108,7 @@ IsMoment m plan os n events s =
 pub record BehavesOn (m : Module) (s : Settings) (p : Module) (plan : Plan) (os : List Outcome) (n : ℕ) (which : List Bool) (expected : List Note) : Type 0 where
   -- it gets as far, within the bound
   pub reaches : IsPrefix (events_of expected) (events_of (protocol_notes p plan os (Bound m n (pause_stacks (Blocking m plan os n).events))))
-  -- it does nothing else, and is never the cheaper one
+  -- it does nothing else, and is never the cheaper one: this follows from `notes`, and stands here for readers
   pub follows : IsPrefix (events_of (protocol_notes p plan os n)) (events_of expected)
   -- each of its notes has an expected one beside it: stores, images and what is kept of the area are right at each event
   pub notes : (i : ℕ) (y : Note) → slice_get (protocol_notes p plan os n) i ≡ Some y → (x : Note) × (slice_get expected i ≡ Some x) × SameNote m s which plan.area x y

@@ -4,7 +4,7 @@ use Rattle.wa_types.specs.declared.values.Value.{Value}
 use Rattle.wa_types.specs.Syntax.{Code, Func, Module}
 use Rattle.wa_types.specs.Pruned.{pruned}
 use Rattle.wa_types.specs.Modules.{defined_at}
-use Rattle.wa_types.specs.Pausing.{calls_of, calls_in}
+use Rattle.wa_types.specs.Pausing.{Callee, calls_of, calls_in}
 use Rattle.wa_types.specs.Frames.{Suspended}
 use Rattle.wa_model.specs.Store.{Store}
 
@@ -48,11 +48,15 @@ waiting fn ls ops taken code labels =
 abbrev pub call_count : Code → ℕ
 call_count code = length (calls_of (pruned code))
 
--- how many calls of the pruned body stand behind, past the ends of the constructs around
+-- the calls of the pruned body that stand behind, past the ends of the constructs around
+abbrev pub calls_behind : List Label → List Callee
+calls_behind [] = []
+calls_behind (block_label height arity rest skipped ∷ labels) = calls_of (pruned skipped) ++ (calls_of (pruned rest) ++ calls_behind labels)
+calls_behind (loop_label height body rest ∷ labels) = calls_of (pruned rest) ++ calls_behind labels
+
+-- how many they are
 abbrev pub calls_outside : List Label → ℕ
-calls_outside [] = 0
-calls_outside (block_label height arity rest skipped ∷ labels) = call_count skipped + call_count rest + calls_outside labels
-calls_outside (loop_label height body rest ∷ labels) = call_count rest + calls_outside labels
+calls_outside labels = length (calls_behind labels)
 
 -- the place of the call just before this code: all calls of the body without those from here on, and without it
 abbrev pub place_of : Option Func → Code → List Label → ℕ

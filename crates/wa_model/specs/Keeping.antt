@@ -1,10 +1,10 @@
 -- Tests of a configuration's next reduction, by which a module's own machine can be kept from going on: it writes nothing
--- of the original's store, it touches no store at all, or its access stays off the area. They compute.
-use Rattle.std.specs.Prelude.{ℕ, ◌+◌, List, Option, Some, None, Bool, true, false, not, ◌&&◌, ◌||◌, nat_lt, nat_le, length, take}
+-- of the original's store; it makes no call and leaves the store, without loads; its access stays off the area. They compute.
+use Rattle.std.specs.Prelude.{ℕ, ◌+◌, List, Option, Some, None, Bool, true, false, not, ◌&&◌, ◌||◌, nat_lt, nat_le, length}
 use Rattle.wa_types.specs.declared.values.Value.{Value}
 use Rattle.wa_types.specs.Syntax.{Basic, global_set, load, store, memory_grow, Plain, basic, call, call_indirect, Code, plain}
 use Rattle.wa_model.specs.declared.answers.Area.{Area}
-use Rattle.wa_model.specs.Store.{takes, Access, accessed}
+use Rattle.wa_model.specs.Store.{Access, accessed}
 use Rattle.wa_model.specs.Configuration.{Configuration}
 use Rattle.wa_model.specs.Blocking.{overlap}
 use Rattle.wa_model.specs.Untouched.{next_access}
@@ -23,14 +23,14 @@ keeps_basic globals area memory_grow ops = false
 keeps_basic globals area _ ops = true
 
 abbrev pub keeps_code : (globals : ℕ) → Area → List Value → Code → Bool
-keeps_code globals area ops (plain (basic b) rest) = keeps_basic globals area b (take (takes b) ops)
+keeps_code globals area ops (plain (basic b) rest) = keeps_basic globals area b ops
 keeps_code globals area ops _ = true
 
 -- The next reduction writes none of so many globals and no byte outside the area, and doesn't grow the memory.
 abbrev pub keeps : (globals : ℕ) → Area → Configuration → Bool
 keeps globals area c = keeps_code globals area c.here.operands c.here.code
 
--- ---- no call, and no store touched
+-- ---- no call, and the store left as it is, without loads
 
 abbrev pub silent_basic : Basic → Bool
 silent_basic (global_set x) = false

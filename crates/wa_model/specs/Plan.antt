@@ -1,8 +1,7 @@
 -- What a program is given: a plan, and the outcomes that its calls of imports meet.
-use Rattle.std.specs.Prelude.{◌≡◌, ℕ, ◌+◌, ◌*◌, ◌%◌, ◌^◌, ◌<◌, ◌≤◌, List, [], ◌∷◌, map, Option, Some, None, Bool, true, All, Contains}
+use Rattle.std.specs.Prelude.{◌≡◌, ℕ, ◌+◌, ◌*◌, ◌%◌, ◌^◌, ◌<◌, ◌≤◌, List, map, Option, Some, None, Bool, true, All, Contains}
 use Rattle.wa_types.specs.declared.values.ValType.{ValType}
 use Rattle.wa_types.specs.declared.values.Value.{Value}
-use Rattle.wa_types.specs.declared.syntax.Limits.{Limits}
 use Rattle.wa_types.specs.declared.syntax.Export.{Export}
 use Rattle.wa_types.specs.declared.syntax.Space.TheVariants.{Func as a_func}
 use Rattle.wa_types.specs.Syntax.{Func, Module}
@@ -17,6 +16,7 @@ use Rattle.wa_model.specs.declared.answers.Area.{Area}
 use Rattle.wa_model.specs.declared.events.End.{End}
 use Rattle.wa_model.specs.declared.events.End.TheVariants.{NoAnswer, OtherImport, DeviceFault, NoDevice}
 use Rattle.wa_model.specs.Outside.{Poke, Answer}
+use Rattle.wa_model.specs.Instantiation.{least_of}
 
 -- An entry: the function that the host calls, and its arguments in order.
 pub record Entry : Type 0 where
@@ -43,15 +43,11 @@ pub record AreLawful (types : List ValType) (values : List Value) : Type 0 where
 
 -- ---- plans
 
-abbrev pub first_pages : List Limits → ℕ
-first_pages [] = 0
-first_pages (l ∷ ls) = l.min
-
 -- the area of a plan is lawful: aligned to 4, of at least 8 bytes, and inside the declared minimum of the memory
 pub record AreaFits (m : Module) (area : Area) : Type 0 where
   pub aligned : area.at % 4 ≡ 0
   pub least : 8 ≤ area.len
-  pub inside : area.at + area.len ≤ first_pages (all_memories m) * page_size
+  pub inside : area.at + area.len ≤ least_of (all_memories m) * page_size
 
 -- an export of this function, under another name than the five of the runtime
 pub record ExportsFunc (x : ℕ) (e : Export) : Type 0 where

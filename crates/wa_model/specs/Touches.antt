@@ -1,41 +1,48 @@
--- The loads and stores that a run makes, in order.
-use Rattle.std.specs.Prelude.{ℕ, zero, suc, ◌-◌, List, [], ◌∷◌, ◌++◌, nat_lt, if◌then◌else◌, take}
+-- What a run does and touches, in order: its events, and its loads, stores and growths of the memory.
+use Rattle.std.specs.Prelude.{ℕ, zero, suc, ◌-◌, List, [], ◌∷◌, ◌++◌, Bool, true, false, nat_lt, if◌then◌else◌, take, map}
 use Rattle.wa_types.specs.declared.values.Value.{Value}
-use Rattle.wa_types.specs.Syntax.{Basic, load, store, basic, Code, plain, Module}
+use Rattle.wa_types.specs.Syntax.{Basic, load, store, memory_grow, basic, Code, plain, Module}
 use Rattle.wa_types.specs.Base.{Base}
 use Rattle.wa_model.specs.Machine.{Turn, stops, goes}
+use Rattle.wa_model.specs.Outside.{Event}
+use Rattle.wa_model.specs.Store.{takes}
 use Rattle.wa_model.specs.Configuration.{Configuration}
 use Rattle.wa_model.specs.Plan.{Plan, Outcome}
-use Rattle.wa_model.specs.Instantiation.{opening}
-use Rattle.wa_model.specs.Blocking.{State, between, begins, runs, halts, begun, all_left, blocking}
+use Rattle.wa_model.specs.Blocking.{Note, State, between, begins, runs, halts, blocking}
+use Rattle.wa_model.specs.Laws.{start_of}
 
 -- ---- what is seen along a run
 
--- where the next move can be paid, what is seen before it, and what is seen behind it
-abbrev pub trace_turn : {S E X : Type 0} → (ℕ → S → List X) → ℕ → List X → Turn S E → List X
-trace_turn on n here stops = []
-trace_turn on n here (goes k es t) = if nat_lt k n then here ++ on (n - suc k) t else []
+-- where the next move can be paid: what is seen before it, the events that it makes, and what is seen behind it
+abbrev pub trace_turn : {S E X : Type 0} → (E → X) → (ℕ → S → List X) → ℕ → List X → Turn S E → List X
+trace_turn shows on n here stops = []
+trace_turn shows on n here (goes k es t) = if nat_lt k n then here ++ (map shows es ++ on (n - suc k) t) else []
 
 -- within so many moves, of a total cost of at most n
-abbrev pub trace_with : {S E X : Type 0} → (S → Turn S E) → (S → List X) → ℕ → ℕ → S → List X
-trace_with next see zero n s = []
-trace_with next see (suc moves) n s = trace_turn (trace_with next see moves) n (see s) (next s)
+abbrev pub trace_with : {S E X : Type 0} → (S → Turn S E) → (S → List X) → (E → X) → ℕ → ℕ → S → List X
+trace_with next see shows zero n s = []
+trace_with next see shows (suc moves) n s = trace_turn shows (trace_with next see shows moves) n (see s) (next s)
 
--- What is seen at each state that a run up to a total cost of n leaves by a move.
-abbrev pub trace : {S E X : Type 0} → (S → Turn S E) → (S → List X) → ℕ → S → List X
-trace next see n s = trace_with next see n n s
+-- What is seen at each state that a run up to a total cost of n leaves by a move, and behind it the events of that move.
+abbrev pub trace : {S E X : Type 0} → (S → Turn S E) → (S → List X) → (E → X) → ℕ → S → List X
+trace next see shows n s = trace_with next see shows n n s
 
--- ---- loads and stores
+-- ---- loads, stores and growths
 
--- A load or a store, and its operands, the topmost first: the address, and of a store the value above it. It may trap.
+-- A load, a store or a growth of the memory, and its operands, the topmost first: the address, and of a store the value above
+-- it; the pages. It may trap or fail.
 pub record Touch : Type 0 where
   pub instr : Basic
   pub operands : List Value
 
+abbrev pub reaches_memory : Basic → Bool
+reaches_memory (load op align offset) = true
+reaches_memory (store op align offset) = true
+reaches_memory memory_grow = true
+reaches_memory _ = false
+
 abbrev pub touch_basic : Basic → List Value → List Touch
-touch_basic (load op align offset) ops = (record { instr = load op align offset; operands = take 1 ops }) ∷ []
-touch_basic (store op align offset) ops = (record { instr = store op align offset; operands = take 2 ops }) ∷ []
-touch_basic _ ops = []
+touch_basic b ops = if reaches_memory b then (record { instr = b; operands = take (takes b) ops }) ∷ [] else []
 
 abbrev pub touch_in : List Value → Code → List Touch
 touch_in ops (plain (basic b) rest) = touch_basic b ops
@@ -51,6 +58,19 @@ touch_of (begins x s l) = []
 touch_of (runs task c l) = next_touch c
 touch_of (halts s) = []
 
--- The loads and stores that a run with blocking imports makes up to a cost of n, in order.
-abbrev pub Touches : Module → Plan → List Outcome → ℕ → List Touch
-Touches m plan os n = trace (blocking (Base m) plan) touch_of n (begun (Base m).start (all_left plan os) (opening (Base m) plan.globals)).last
+-- ---- both in one list
+
+-- What is seen of a run: an event that it makes, or a touch of the memory.
+pub data Seen : Type 0 where
+  made : (event : Event) → Seen
+  touched : (touch : Touch) → Seen
+
+abbrev pub seen_at : State → List Seen
+seen_at t = map touched (touch_of t)
+
+abbrev pub seen_note : Note → Seen
+seen_note x = made x.event
+
+-- The events of a run with blocking imports up to a cost of n, and its loads, stores and growths of the memory, in order.
+abbrev pub Touches : Module → Plan → List Outcome → ℕ → List Seen
+Touches m plan os n = map seen_note (start_of m plan os).events ++ trace (blocking (Base m) plan) seen_at seen_note n (start_of m plan os).last

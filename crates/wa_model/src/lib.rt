@@ -15,7 +15,8 @@
 //! (`specs/Fitting.antt`). Those of `quiet_laws` say the headline for
 //! modules of which nothing may pause. Read in the order `Machine`, `Store`, `Configuration`, `Step`, `Outside`,
 //! `Instantiation`, `Plan`, `Blocking`, `Untouched`, `Protocol`, `Expected`, `Behaves`, `Rewrites`, `Quiet`, `World`, then
-//! `Alone`, `Growth`, `Heights`, `Fitting`, and `Flat`. `proofs/Cases.antt` has small runs that these definitions compute.
+//! `Alone`, `Growth`, `Heights`, `Fitting`, `Keeping`, `LawfulStacks`, and `Flat`, `FlatFits`, `Touches`. `proofs/Cases.antt`
+//! has small runs that these definitions compute.
 #![tactic(auto)]
 
 mod answers;

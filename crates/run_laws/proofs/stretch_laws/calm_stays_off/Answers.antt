@@ -1,5 +1,5 @@
-use Rattle.run_laws.proofs.Silence.{calm_stays_off}
+use Rattle.run_laws.proofs.Silence.{calm_is_calm}
 use Rattle.run_laws.proofs.stretch_laws.calm_stays_off.Goals as goal
 
 pub returns : goal.returns
-returns c = calm_stays_off
+returns c = calm_is_calm

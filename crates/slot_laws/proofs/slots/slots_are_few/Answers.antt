@@ -1,5 +1,5 @@
 use Rattle.slot_laws.proofs.Few.{slots_are_few, count_fits}
-use Rattle.slot_laws.proofs.slot_laws.slots_are_few.Goals as goal
+use Rattle.slot_laws.proofs.slots.slots_are_few.Goals as goal
 
 pub returns-clause-few : goal.returns-clause-few
 returns-clause-few c = slots_are_few

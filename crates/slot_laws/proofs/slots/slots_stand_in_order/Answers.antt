@@ -1,6 +1,6 @@
 use Rattle.slot_laws.proofs.Results.{results_ascend, results_once, slots_ascend}
 use Rattle.slot_laws.proofs.SavedOperands.{slots_once}
-use Rattle.slot_laws.proofs.slot_laws.slots_stand_in_order.Goals as goal
+use Rattle.slot_laws.proofs.slots.slots_stand_in_order.Goals as goal
 
 pub returns-clause-slots : goal.returns-clause-slots
 returns-clause-slots c = slots_ascend

@@ -1,5 +1,5 @@
 use Rattle.slot_laws.proofs.SavedOperands.{saved_rise, operands_saved}
-use Rattle.slot_laws.proofs.slot_laws.operands_are_saved_once.Goals as goal
+use Rattle.slot_laws.proofs.slots.operands_are_saved_once.Goals as goal
 
 pub returns-clause-order : goal.returns-clause-order
 returns-clause-order c = λ m policy f place. saved_rise m f policy place

@@ -1,5 +1,5 @@
 use Rattle.slot_laws.proofs.Results.{results_pairs}
-use Rattle.slot_laws.proofs.slot_laws.results_are_pairs.Goals as goal
+use Rattle.slot_laws.proofs.slots.results_are_pairs.Goals as goal
 
 pub returns : goal.returns
 returns c = results_pairs

@@ -1,6 +1,6 @@
 //! Laws of slots and result locals. Each is the contract of a function that does nothing.
 
-ghost use Rattle.slot_laws.specs.SlotBounds.{CountFits, OperandsAreSaved, ResultsArePairs, ResultsAscend, ResultsStandOnce, SavedRise, SlotsAreFew, SlotsAscend, SlotsStandOnce};
+ghost use Rattle.slot_laws.specs.SlotBounds.{CallsAreAtPoints, CountFits, OperandsAreSaved, ResultsArePairs, ResultsAscend, ResultsStandOnce, SavedRise, SlotsAreFew, SlotsAscend, SlotsStandOnce};
 
 /// Slots and result locals stand in order, by number and i32 before i64, each pair once.
 pub fn slots_stand_in_order()
@@ -20,6 +20,11 @@ pub fn results_are_pairs()
 pub fn slots_are_few()
     ensures few { SlotsAreFew }
     ensures count { CountFits }
+{}
+
+/// The operands just before a call, by its place, are those of a point of the body.
+pub fn calls_are_at_points()
+    ensures { CallsAreAtPoints }
 {}
 
 /// What a frame saves stands in the order of the locals. Under each policy an operand that stands at a call has exactly one

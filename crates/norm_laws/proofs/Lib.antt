@@ -1,0 +1,5 @@
+pub mod BareRuns
+pub mod BareSteps
+pub mod Customs
+pub mod Locals
+pub mod Norms

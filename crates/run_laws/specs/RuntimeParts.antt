@@ -1,0 +1,31 @@
+-- The runtime's parts behind a module's own: the host finds the five functions, and the size rule is kept.
+use Rattle.std.specs.Prelude.{◌≡◌, ℕ, ◌+◌, length, Some, slice_get}
+use Rattle.wa_types.specs.Syntax.{Func, Module}
+use Rattle.wa_types.specs.Modules.{defined_at}
+use Rattle.wa_types.specs.Sizes.{SizeRule, StrictSizeRule}
+use Rattle.wa_types.specs.Pausing.{Settings}
+use Rattle.wa_types.specs.Runtime.{func_space, global_space, runtime_funcs, with_runtime}
+use Rattle.wa_model.specs.Protocol.{exports_of}
+use Rattle.wa_model.specs.Quiet.{FreeOfNames}
+use Rattle.wa_model.specs.Rewrites.{Rewrites}
+
+-- The exports that the host calls are the five functions behind the original's, in their order.
+pub record RuntimeExported (m p : Module) : Type 0 where
+  pub start_unwind : (exports_of p).start_unwind ≡ func_space m
+  pub stop_unwind : (exports_of p).stop_unwind ≡ func_space m + 1
+  pub start_rewind : (exports_of p).start_rewind ≡ func_space m + 2
+  pub stop_rewind : (exports_of p).stop_rewind ≡ func_space m + 3
+  pub get_state : (exports_of p).get_state ≡ func_space m + 4
+  pub functions : (k : ℕ) (f : Func) → slice_get (runtime_funcs (length m.types) (global_space m) (global_space m + 1)) k ≡ Some f → defined_at p (func_space m + k) ≡ Some f
+
+-- So it is in the module with the runtime's parts,
+abbrev pub RuntimeIsExported : Type 0
+RuntimeIsExported = (m : Module) → FreeOfNames m → RuntimeExported m (with_runtime m)
+
+-- and in each module that is rewritten.
+abbrev pub RewrittenIsExported : Type 0
+RewrittenIsExported = (m : Module) (s : Settings) (p : Module) → FreeOfNames m → Rewrites m s p → RuntimeExported m p
+
+-- A module that keeps the stricter size rule keeps the size rule with the runtime's parts.
+abbrev pub RuntimeKeepsSizes : Type 0
+RuntimeKeepsSizes = (m : Module) → StrictSizeRule m → SizeRule (with_runtime m)
