@@ -6,6 +6,7 @@ ghost use Rattle.vault_port.specs.Counts.{HasRisen};
 ghost use Rattle.vault_port.specs.Files.{bytes_of, IsMissing};
 ghost use Rattle.vault_port.specs.Told.{WhereTold, Becomes};
 ghost use Rattle.wa_model.specs.Command.{command, OnTransform};
+ghost use Rattle.asyncify_app.specs.Ends.{HasOneEnd};
 ghost use Rattle.asyncify_app.specs.Lines.{read_fault_line, usage_line, write_fault_line};
 ghost use Rattle.asyncify_app.specs.Sources.{IsRefusal};
 ghost use Rattle.asyncify_app.specs.Transforms.{HasCause, HoldsSource, IsCutShort, IsTransformed, Prints, PrintsRefusal, PrintsDone, PrintsLess, PrintsMemory, RunsOutOfMemory};
@@ -43,6 +44,19 @@ pub fn asyncify<V: Vault, S: Sink>(
     ensures prints_usage { result ≡ 2 → Becomes (S.taken out.old) (S.taken out.new) (Prints usage_line (S.faults out.old) (S.faults out.new)) }
     ensures prints_usage_memory { command (map string_bytes words.now) ≡ None → result ≡ 9 → Becomes (S.taken out.old) (S.taken out.new) (PrintsMemory usage_line) }
     ensures status { (result ≡ 0) ⊎ (result ≡ 2) ⊎ IsRefusal result ⊎ (result ≡ 9) ⊎ (result ≡ 10) ⊎ (result ≡ 11) ⊎ (result ≡ 12) }
+
+    // Exactly one end, with its cause.
+    ensures one_end { HasOneEnd (record {
+      spelled = command (map string_bytes words.now);
+      files = V.files vault.old;
+      files' = V.files vault.new;
+      fetch_faults = V.fetch_faults vault.old;
+      fetch_faults' = V.fetch_faults vault.new;
+      save_faults = V.save_faults vault.old;
+      save_faults' = V.save_faults vault.new;
+      sink_faults = S.faults out.old;
+      sink_faults' = S.faults out.new;
+    }) result }
 
     // The causes.
     ensures read_fault { OnTransform (command (map string_bytes words.now)) (λ settings input output.
