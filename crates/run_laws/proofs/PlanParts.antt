@@ -114,7 +114,12 @@ module _ (m p : Module) (v : Valid m) (h : ShowsParts m p) where
       let at = there e.func f is in
       record {
         defined = (at.0, at.1);
-        exported = (k.exported.0, subst (λ es. Contains es k.exported.0) (sym (h.exports ∙ grown_exports m)) (Contains-append_left m.exports (runtime_exports (func_space m)) k.exported.0 k.exported.1), k.exported.2);
+        exported = (
+          k.exported.0,
+          subst (λ es. Contains es k.exported.0) (sym (h.exports ∙ grown_exports m))
+              (Contains-append_left m.exports (runtime_exports (func_space m)) k.exported.0 k.exported.1),
+          k.exported.2,
+        );
         args = subst (λ (t : FuncType). AreLawful t.params e.args) (sym (same_type e.func f is)) k.args;
       }
 
