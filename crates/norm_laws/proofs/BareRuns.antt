@@ -94,7 +94,8 @@ module _ (m : Module) (plan : Plan) where
     held_asked_same k import args w l [] = ap (λ st. goes k (call_note import args (store_at w) st None ∷ []) (over (store_at w))) (stack_at_same w)
     held_asked_same k import args w l (refused e ∷ os) = ap (λ st. held_ends k (call_note import args (store_at w) st None) e) (stack_at_same w)
     held_asked_same k import args w l (given a ∷ os) =
-        ap (λ (t : FuncType). held_tested (bare m) x plan k import args w (with_outcomes l os) a (fault_of t.results (length (store_at w).memory) plan (in_start w) import a) (pause_of a.ticks)) (types_same m import)
+        ap (λ (t : FuncType). held_tested (bare m) x plan k import args w (with_outcomes l os) a (fault_of t.results (length (store_at w).memory) plan (in_start w) import a) (pause_of a.ticks))
+        (types_same m import)
         ∙ held_tested_same k import args w (with_outcomes l os) a (fault_of (func_type_at m import).results (length (store_at w).memory) plan (in_start w) import a) (pause_of a.ticks)
 
     busy_step_same : (ph : Phase) (l : Left) (o : Next) → busy_step (bare m) x plan ph l o ≡ busy_step m x plan ph l o

@@ -37,7 +37,9 @@ pieces_in globals (s ∷ ss) h = All-cons PieceIn _ _ (All-head (λ (s : Segment
 put_in : (low : ℕ) (bytes : List ℕ) (ps : List (Piece ℕ)) (size i : ℕ) → size ≡ length bytes → All PieceIn ps → MemoryIn low bytes → first_out size i ps ≡ None → MemoryIn low (put_pieces bytes ps)
 put_in low bytes [] size i e h ok none = ok
 put_in low bytes (p ∷ ps) size i e h ok none =
-    by_place (leb (p.at + length p.items) size) refl none (λ inside none. put_in low (put_piece bytes p) ps size (suc i) (e ∙ sym (length-overwritten bytes p.at p.items inside)) (All-tail PieceIn p ps h) (overwritten_in low bytes p.at p.items inside (All-head PieceIn p ps h) ok) none)
+    by_place (leb (p.at + length p.items) size) refl none
+    (λ inside none. put_in low (put_piece bytes p) ps size (suc i) (e ∙ sym (length-overwritten bytes p.at p.items inside)) (All-tail PieceIn p ps h)
+    (overwritten_in low bytes p.at p.items inside (All-head PieceIn p ps h) ok) none)
   where
     by_place : (b : Bool) → leb (p.at + length p.items) size ≡ b → cond b (first_out size (suc i) ps) (Some i) ≡ None
         → (p.at + length p.items ≤ length bytes → first_out size (suc i) ps ≡ None → MemoryIn low (put_pieces (put_piece bytes p) ps)) → MemoryIn low (put_pieces (put_piece bytes p) ps)

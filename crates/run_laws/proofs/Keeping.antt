@@ -227,7 +227,8 @@ module _ (g : ℕ) (area : Area) where
     step_keeps ls ops labels (plain (local_tee x) rest) h = top_keeps s ops _ (λ v below. same_refl g area s)
     step_keeps ls ops labels (plain (br l) rest) h = jumps_keep 0 ls ops labels l
     step_keeps ls ops labels (plain (br_if l) rest) h =
-        number_keeps s ops _ (λ v below. choice_keeps s v (jump 0 p s fn under ls below labels l) (steps 0 (running s fn under ls below rest labels)) (jumps_keep 0 ls below labels l) (same_refl g area s))
+        number_keeps s ops _ (λ v below. choice_keeps s v (jump 0 p s fn under ls below labels l) (steps 0 (running s fn under ls below rest labels))
+        (jumps_keep 0 ls below labels l) (same_refl g area s))
     step_keeps ls ops labels (plain (br_table targets last) rest) h =
         number_keeps s ops _ (λ v below. jumps_keep (length targets + 1) ls below labels (unwrap_or (slice_get targets v) last))
     step_keeps ls ops labels (plain return rest) h = leaves_keep 0 s ops (result_count p fn) under
@@ -240,7 +241,8 @@ module _ (g : ℕ) (area : Area) where
     step_keeps ls ops labels (branch r a b rest) h = number_keeps s ops _ (λ v below. by_arm v below)
       where
         by_arm : (v : ℕ) (below : List Value)
-            → SameEnd g area s (choose v (running s fn under ls below a (block_label (length below) (arity_of r) rest b ∷ labels)) (running s fn under ls below b (block_label (length below) (arity_of r) rest done ∷ labels))).store
+            → SameEnd g area s (choose v (running s fn under ls below a (block_label (length below) (arity_of r) rest b ∷ labels))
+            (running s fn under ls below b (block_label (length below) (arity_of r) rest done ∷ labels))).store
         by_arm zero below = same_refl g area s
         by_arm (suc v) below = same_refl g area s
 
@@ -281,8 +283,11 @@ module _ (g : ℕ) (area : Area) where
         (λ ge.
         let z : j ≡ suc (k + (j - suc k)) = omega arith in
         let once : run next j (hold c) ≡ after [] (run next (j - suc k) (hold t)) = ap (λ i. run next i (hold c)) z ∙ one_move S Note next k (j - suc k) [] (hold c) (hold t) mv in
-        let ih = kept_inside t d n1 _ rest (j - suc k) (omega arith) in
-        (ap (λ r. r.events) once ∙ ih.0, subst (λ (r : Ran S Note). SameEnd g area c.store (seen r.last)) (sym once) (same_on g area c.store t.store (seen (run next (j - suc k) (hold t)).last) q.1 ih.1)))
+        let ih = kept_inside t d n1 _ rest (j - suc k) (omega arith) in (
+          ap (λ r. r.events) once ∙ ih.0,
+          subst (λ (r : Ran S Note). SameEnd g area c.store (seen r.last))
+              (sym once) (same_on g area c.store t.store (seen (run next (j - suc k) (hold t)).last) q.1 ih.1),
+        ))
         (cases_lt j (suc k))
 
 busy_moved : (m : Module) (x : Exports) (plan : Plan) (ph : Phase) (l : Left) (k : ℕ) (d : Configuration) → busy_step m x plan ph l (steps k d) ≡ goes k [] (busy ph d l)

@@ -2,6 +2,7 @@ pub mod Ending
 pub mod Exported
 pub mod Growing
 pub mod Keeping
+pub mod PlanParts
 pub mod ProtocolStopping
 pub mod RewrittenByHand
 pub mod RuntimeTyped

@@ -180,8 +180,16 @@ module _ (p : Module) (v : Valid p) (plan : Plan) (ex : ExportsTyped p) where
       by_state : (b : Bool) → TurnFits (cond b (goes k [] (calling (rewinds e i a sp) s x.stop_rewind [] (give_answer c) l)) (broken k 4 s))
       by_state true = (any_notes [], (so, ex.stop_rewind, t, w, h))
       by_state false = broken_fits k 4 s
-  aside_back_fits k (rewinds e i a sp) (give_answer c) l results s t w h so =
-      (any_notes (answer_note a.value (poked s a.pokes) sp ∷ []), (w.0, answers_fit p w.0 c (poked s a.pokes) (option_to_list a.value) (poked_fits s a so) (subst (λ ts. CallersFit p w.0 ts (c.here ∷ c.under)) (sym t.1) w.1), t.0, h))
+  aside_back_fits k (rewinds e i a sp) (give_answer c) l results s t w h so = (
+    any_notes (answer_note a.value (poked s a.pokes) sp ∷ []),
+    (
+      w.0,
+      answers_fit p w.0 c (poked s a.pokes) (option_to_list a.value)
+          (poked_fits s a so) (subst (λ ts. CallersFit p w.0 ts (c.here ∷ c.under)) (sym t.1) w.1),
+      t.0,
+      h,
+    ),
+  )
   aside_back_fits k _ _ l results s t w h so = absurd w
 
   aside_turn : (ph : Phase) (th : Then) (l : Left) (outs : List ValType) (o : Next) → PhaseTyped ph → ThenFits ph th → LeftTyped l → NextFits p outs o → TurnFits (aside_step p x plan ph th l o)

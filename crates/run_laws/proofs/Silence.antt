@@ -139,7 +139,8 @@ module _ (s : Store) where
     step_stays ls ops labels (branch r a b rest) h = number_stays ops _ (λ v below. by_arm v below)
       where
         by_arm : (v : ℕ) (below : List Value)
-            → (choose v (running s fn under ls below a (block_label (length below) (arity_of r) rest b ∷ labels)) (running s fn under ls below b (block_label (length below) (arity_of r) rest done ∷ labels))).store ≡ s
+            → (choose v (running s fn under ls below a (block_label (length below) (arity_of r) rest b ∷ labels))
+            (running s fn under ls below b (block_label (length below) (arity_of r) rest done ∷ labels))).store ≡ s
         by_arm zero below = refl
         by_arm (suc v) below = refl
 

@@ -146,7 +146,12 @@ module _ (m : Module) where
       → FewParams m.types sort → FuncSizes (2 ^ 32) (2 ^ 56) (with_runtime m) (runtime_func sort body)
   added_func sort body lists items none few =
       let same = ap (λ ts. params_of_type ts sort) types_grow in
-      record { runs = omega arith; labels = lists; total = bound (code_items body) (code_params (with_runtime m) body) (params_of_type (m.types ++ runtime_types) sort) (params_of_type (with_runtime m).types sort) items none few same }
+      record {
+        runs = omega arith;
+        labels = lists;
+        total = bound (code_items body) (code_params (with_runtime m) body) (params_of_type (m.types ++ runtime_types) sort)
+            (params_of_type (with_runtime m).types sort) items none few same;
+      }
     where
       bound : (items calls few all : ℕ) → items ≤ 20 → calls ≡ 0 → few ≤ 1 → all ≡ few → items + 1 + calls + all + 0 < 2 ^ 56
       bound items calls few all a b c d = omega (arith, a, b, c, d)
@@ -191,7 +196,8 @@ runtime_keeps_sizes m h =
       types = omega (arith, types, length-append m.types runtime_types);
       each_type =
           All-append (TypeSizes (2 ^ 32)) m.types runtime_types
-          (All-weaker (TypeSizes (2 ^ 31)) (TypeSizes (2 ^ 32)) (λ t k. let a = k.params in let b = k.results in record { params = omega (arith, a); results = omega (arith, b) }) m.types h.each_type) types_small;
+          (All-weaker (TypeSizes (2 ^ 31)) (TypeSizes (2 ^ 32)) (λ t k. let a = k.params in let b = k.results in record { params = omega (arith, a); results = omega (arith, b) })
+          m.types h.each_type) types_small;
       imports = omega (arith, imports);
       funcs = omega (arith, funcs, length-append m.funcs (added m));
       tables = omega (arith, tables);
@@ -219,7 +225,8 @@ runtime_keeps_sizes m h =
     types_small =
         All-cons (TypeSizes (2 ^ 32)) (record { params = I32 ∷ []; results = [] }) ((record { params = []; results = [] }) ∷ (record { params = []; results = I32 ∷ [] }) ∷ [])
         (small (record { params = I32 ∷ []; results = [] }) (omega arith) (omega arith))
-        (All-cons (TypeSizes (2 ^ 32)) (record { params = []; results = [] }) ((record { params = []; results = I32 ∷ [] }) ∷ []) (small (record { params = []; results = [] }) (omega arith) (omega arith))
+        (All-cons (TypeSizes (2 ^ 32)) (record { params = []; results = [] }) ((record { params = []; results = I32 ∷ [] }) ∷ [])
+        (small (record { params = []; results = [] }) (omega arith) (omega arith))
         (All-cons (TypeSizes (2 ^ 32)) (record { params = []; results = I32 ∷ [] }) [] (small (record { params = []; results = I32 ∷ [] }) (omega arith) (omega arith)) (All-nil (TypeSizes (2 ^ 32)))))
 
     globals_small : All (λ (g : GlobalDef). code_lists (2 ^ 32) g.init) runtime_globals

@@ -1,10 +1,12 @@
 -- The runtime's parts behind a module's own: the host finds the five functions, and the size rule is kept.
-use Rattle.std.specs.Prelude.{◌≡◌, ℕ, ◌+◌, length, Some, slice_get}
+use Rattle.std.specs.Prelude.{◌≡◌, ℕ, ◌+◌, length, map, Some, slice_get}
 use Rattle.wa_types.specs.Syntax.{Func, Module}
 use Rattle.wa_types.specs.Modules.{defined_at}
 use Rattle.wa_types.specs.Sizes.{SizeRule, StrictSizeRule}
 use Rattle.wa_types.specs.Pausing.{Settings}
+use Rattle.wa_types.specs.Validity.{Valid}
 use Rattle.wa_types.specs.Runtime.{func_space, global_space, runtime_funcs, with_runtime}
+use Rattle.wa_model.specs.Plan.{Plan, Fits}
 use Rattle.wa_model.specs.Protocol.{exports_of}
 use Rattle.wa_model.specs.Quiet.{FreeOfNames}
 use Rattle.wa_model.specs.Rewrites.{Rewrites}
@@ -29,3 +31,16 @@ RewrittenIsExported = (m : Module) (s : Settings) (p : Module) → Rewrites m s 
 -- A module that keeps the stricter size rule keeps the size rule with the runtime's parts.
 abbrev pub RuntimeKeepsSizes : Type 0
 RuntimeKeepsSizes = (m : Module) → StrictSizeRule m → SizeRule (with_runtime m)
+
+-- p shows to the host what the original shows, and the runtime's parts behind it: imports, exports, a memory, and the types of
+-- functions.
+pub record ShowsParts (m p : Module) : Type 0 where
+  pub types : p.types ≡ (with_runtime m).types
+  pub imports : p.imports ≡ m.imports
+  pub memories : p.memories ≡ (with_runtime m).memories
+  pub exports : p.exports ≡ (with_runtime m).exports
+  pub sorts : map (λ (f : Func). f.sort) p.funcs ≡ map (λ (f : Func). f.sort) (with_runtime m).funcs
+
+-- A plan that fits a valid module fits such a one.
+abbrev pub PlansFitParts : Type 0
+PlansFitParts = (m p : Module) (plan : Plan) → Valid m → ShowsParts m p → Fits m plan → Fits p plan

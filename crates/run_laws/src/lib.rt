@@ -18,6 +18,6 @@ pub use by_hand::{
     frames_cut_numbers, rewritten_by_hand_as_expected, wrong_rewritings_are_told_apart,
 };
 pub use cost_laws::{compared_at_lower_costs, ends_are_last, expected_notes_grow, runs_stop_over};
-pub use runtime_parts::{runtime_is_exported, runtime_keeps_sizes};
+pub use runtime_parts::{plans_fit_runtime_parts, runtime_is_exported, runtime_keeps_sizes};
 pub use stretch_laws::{calm_stays_off, silent_reductions_are_kept, stretches_are_kept};
 pub use touch_laws::touches_go_with_moves;

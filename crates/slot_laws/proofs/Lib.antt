@@ -5,3 +5,4 @@ pub mod Few
 pub mod Order
 pub mod Results
 pub mod SavedOperands
+pub mod WalkPoints

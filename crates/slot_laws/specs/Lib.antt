@@ -1,2 +1,3 @@
 pub mod SlotBounds
 pub mod PauseLaws
+pub mod WalkPoints

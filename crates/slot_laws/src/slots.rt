@@ -1,6 +1,7 @@
 //! Laws of slots and result locals. Each is the contract of a function that does nothing.
 
 ghost use Rattle.slot_laws.specs.SlotBounds.{CallsAreAtPoints, CountFits, OperandsAreSaved, ResultsArePairs, ResultsAscend, ResultsStandOnce, SavedRise, SlotsAreFew, SlotsAscend, SlotsStandOnce};
+ghost use Rattle.slot_laws.specs.WalkPoints.{WalksStandAtPoints};
 
 /// Slots and result locals stand in order, by number and i32 before i64, each pair once.
 pub fn slots_stand_in_order()
@@ -25,6 +26,11 @@ pub fn slots_are_few()
 /// The operands just before a call, by its place, are those of a point of the body.
 pub fn calls_are_at_points()
     ensures { CallsAreAtPoints }
+{}
+
+/// A walk over code that goes as the typing of its operands goes stands at points of the code.
+pub fn walks_stand_at_points()
+    ensures { WalksStandAtPoints }
 {}
 
 /// What a frame saves stands in the order of the locals. Under each policy an operand that stands at a call has exactly one

@@ -288,7 +288,8 @@ points_same c d w ls (branch r a b rest) outs under ops t =
     let e : t.0 ≡ drop 1 ops = sym (ap (drop 1) t.1) in
     let behind = subst (λ xs. Types c ls rest outs (listed r ++ xs)) e t.4 in
     ap (λ xs. xs ++ (call_points c (r ∷ ls) b (drop 1 ops ++ under) [] ++ call_points c ls rest under (listed r ++ drop 1 ops))) (points_same c d w (r ∷ ls) a (listed r) (drop 1 ops ++ under) [] t.2)
-    ∙ ap (λ xs. call_points d (r ∷ ls) a (drop 1 ops ++ under) [] ++ (xs ++ call_points c ls rest under (listed r ++ drop 1 ops))) (points_same c d w (r ∷ ls) b (listed r) (drop 1 ops ++ under) [] t.3)
+    ∙ ap (λ xs. call_points d (r ∷ ls) a (drop 1 ops ++ under) [] ++ (xs ++ call_points c ls rest under (listed r ++ drop 1 ops)))
+    (points_same c d w (r ∷ ls) b (listed r) (drop 1 ops ++ under) [] t.3)
     ∙ ap (λ xs. call_points d (r ∷ ls) a (drop 1 ops ++ under) [] ++ (call_points d (r ∷ ls) b (drop 1 ops ++ under) [] ++ xs)) (points_same c d w ls rest outs under (listed r ++ drop 1 ops) behind)
 
 func_points_same : (m : Module) (v : Valid m) (x : ℕ) (f : Func) → defined_at m x ≡ Some f → func_call_points m f ≡ func_call_points (Base m) f

@@ -334,13 +334,15 @@ module _ (m : Module) (v : Valid m) where
             by_callee (Some g) e = by_room (nat_lt (length under + 1) 4096)
               where
                 by_room : (b : Bool) → NextAtSpots m
-                    (if b then steps params (entered s (waiting fn ls (drop params ops) (own_ops ++ take params ops) rest labels ∷ under) (reverse (take params ops)) x g) else traps params StackExhausted s)
+                    (if b then steps params (entered s (waiting fn ls (drop params ops) (own_ops ++ take params ops) rest labels ∷ under) (reverse (take params ops)) x g)
+                    else traps params StackExhausted s)
                 by_room true = entered_spot (waiting fn ls (drop params ops) (own_ops ++ take params ops) rest labels ∷ under) (reverse (take params ops)) x g e args_typed caller
                 by_room false = so
             by_callee None e = by_import (nat_lt x (func_imports m))
               where
                 by_import : (b : Bool) → NextAtSpots m
-                    (if b then asks params x (reverse (take params ops)) (record { store = s; here = waiting fn ls (drop params ops) (own_ops ++ take params ops) rest labels; under = under }) else stuck)
+                    (if b then asks params x (reverse (take params ops)) (record { store = s; here = waiting fn ls (drop params ops) (own_ops ++ take params ops) rest labels; under = under })
+                    else stuck)
                 by_import true = record { store = so; waits = caller }
                 by_import false = tt
 
@@ -353,7 +355,8 @@ module _ (m : Module) (v : Valid m) where
             let et : func_type_at m x ≡ t = found.1 in
             let takes : Takes (sig c results (call x)) own (reverse t.results ++ h.0) = subst (λ q. Takes (calls q) own (reverse t.results ++ h.0)) (sym e) (h.0, h.1, refl) in
             subst (λ (u : FuncType). NextAtSpots m (invoke m s fn under ls [] ops rest labels (param_count u) x (defined_at m x))) (sym et)
-            (invokes_spot [] ops labels results (call x) (direct x) rest own h.0 below x t refl takes eo et (eo ∙ ap (λ xs. xs ++ below) h.1 ∙ append_assoc (reverse t.params) h.0 below) st (defined_at m x) refl)
+            (invokes_spot [] ops labels results (call x) (direct x) rest own h.0 below x t refl takes eo et
+            (eo ∙ ap (λ xs. xs ++ below) h.1 ∙ append_assoc (reverse t.params) h.0 below) st (defined_at m x) refl)
 
         -- a call of what stands at a place of the table
         through_spot : (n : ℕ) (ops : List Value) (labels : List Label) (results : List (Option ValType)) (rest : Code) (own b0 below : List ValType) (sort : ℕ)
@@ -365,7 +368,8 @@ module _ (m : Module) (v : Valid m) where
         through_spot n ops labels results rest own b0 below sort takes whole eo st (Some (Some x)) = by_type (same_func_type (func_type_at m x) (type_at m sort)) refl
           where
             by_type : (b : Bool) → same_func_type (func_type_at m x) (type_at m sort) ≡ b
-                → NextAtSpots m (if b then invoke m s fn under ls (V.I32 n ∷ []) ops rest labels (param_count (type_at m sort)) x (defined_at m x) else traps (param_count (type_at m sort)) TypeMismatch s)
+                → NextAtSpots m (if b then invoke m s fn under ls (V.I32 n ∷ []) ops rest labels (param_count (type_at m sort)) x (defined_at m x)
+                else traps (param_count (type_at m sort)) TypeMismatch s)
             by_type false z = so
             by_type true z =
                 invokes_spot (V.I32 n ∷ []) ops labels results (call_indirect sort) (indirect sort) rest own b0 below x (type_at m sort) refl takes whole

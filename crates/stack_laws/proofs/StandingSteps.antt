@@ -200,7 +200,8 @@ module _ (m : Module) (table : List (Option ℕ)) (root : ℕ) where
         both : calls_in f ≡ h.0 ++ (calls_of (pruned a) ++ (calls_of (pruned b) ++ calls_from rest labels))
         both =
             h.1
-            ∙ ap (λ (xs : List Callee). h.0 ++ xs) (append_assoc (calls_of (pruned a) ++ calls_of (pruned b)) (calls_of (pruned rest)) (calls_behind labels) ∙ append_assoc (calls_of (pruned a)) (calls_of (pruned b)) (calls_from rest labels))
+            ∙ ap (λ (xs : List Callee). h.0 ++ xs) (append_assoc (calls_of (pruned a) ++ calls_of (pruned b)) (calls_of (pruned rest)) (calls_behind labels)
+            ∙ append_assoc (calls_of (pruned a)) (calls_of (pruned b)) (calls_from rest labels))
 
         second : calls_in f ≡ (h.0 ++ calls_of (pruned a)) ++ (calls_of (pruned b) ++ calls_from rest labels)
         second = past (calls_in f) h.0 (calls_of (pruned a)) (calls_of (pruned b) ++ calls_from rest labels) both
