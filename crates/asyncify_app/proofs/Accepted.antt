@@ -28,6 +28,14 @@ use Rattle.asyncify_app.specs.declared.source.SourceFault.{SourceFault}
 use Rattle.asyncify_app.specs.Sources.{IsSource, IsRefusedFor, not_built}
 use Rattle.asyncify_app.specs.Refusals.{IsFaultOf, IsOfRead}
 use Rattle.asyncify_app.proofs.Grown.{with_runtime_length}
+use Rattle.asyncify_app.proofs.GrownFits.{grown_fits}
+use Rattle.asyncify_app.proofs.Spaces.{funcs_counted, globals_counted}
+use Rattle.wa_types.specs.Norm.{Norm}
+use Rattle.wa_types.specs.Reading.{SpellsModule}
+use Rattle.wa_types.proofs.FileWriting.{written_spells}
+use Rattle.wa_types.proofs.SpelledFits.{spelled_fits}
+use Rattle.std.proofs.lemmas.List.Elements.{All-from_get_or}
+use Rattle.std.specs.Prelude.{slice_index_or}
 
 some_told : (which : List Bool) → list_any (λ b. b) which ≡ true → (x : ℕ) × (slice_get which x ≡ Some true)
 some_told [] h = cc
@@ -91,3 +99,11 @@ grown_locals m h =
     (All-cons P c (b ∷ d ∷ []) (bare first (start_code 2 state (state + 1)))
     (All-cons P b (d ∷ []) (bare (first + 1) (stop_code state (state + 1)))
     (All-cons P d [] (bare (first + 2) (state_code state)) (All-nil P))))))
+
+-- what is written of a source spells the norm of the module with the runtime's parts
+pub grown_spelled : (s : Settings) (bytes : List ℕ) (m : Module) → ((i : ℕ) → slice_index_or bytes i 0 < 2 ^ 8) → IsSource s bytes m → SpellsModule (Enc (with_runtime m)) (Norm (with_runtime m))
+grown_spelled s bytes m are_bytes h =
+    let sizes = strict s bytes m h in
+    let fits = spelled_fits bytes m (All-from_get_or (λ b. b < 2 ^ 8) bytes 0 (λ i l. are_bytes i)) (accepted_spelled source_bounds bytes m h.accepted.unreserved.read) in
+    let all = grown_fits m fits sizes.types (omega (arith, sizes.funcs, funcs_counted m)) (omega (arith, sizes.globals, globals_counted m)) in
+    written_spells (with_runtime m) all (grown_locals m (few_locals s bytes m h)) (omega (arith, grown_short s bytes m h))

@@ -12,6 +12,8 @@ use Rattle.wa_types.specs.Pausing.{Settings}
 use Rattle.wa_types.specs.Runtime.{runtime_names, with_runtime}
 use Rattle.wa_model.specs.Rewrites.{Rewrites}
 use Rattle.wa_model.specs.Quiet.{FreeOfNames}
+use Rattle.wa_types.specs.Norm.{Norm}
+use Rattle.norm_laws.proofs.Norms.{norm_rewritten}
 use Rattle.wa_model.proofs.QuietRewritten.{quiet_rewritten}
 use Rattle.asyncify_app.specs.Sources.{IsSource}
 use Rattle.asyncify_runtime.specs.Reserved.{is_runtime_name, reserved_import, reserved_export, first_reserved, reserved_at}
@@ -57,6 +59,6 @@ second_none None None e = refl
 pub unreserved_is_free : (m : Module) → reserved_at m ≡ None → FreeOfNames m
 unreserved_is_free m e = each_free m.exports (none_found (λ (x : Export). is_runtime_name x.name) m.exports (second_none (reserved_import m.imports) (reserved_export m.exports) e))
 
--- A source of which nothing may pause, with the runtime's parts, is that module, rewritten.
-pub sources_are_rewritten : (s : Settings) (bytes : List ℕ) (m : Module) → IsSource s bytes m → Rewrites m s (with_runtime m)
-sources_are_rewritten s bytes m h = quiet_rewritten m s h.accepted.valid (unreserved_is_free m h.accepted.unreserved.free) h.quiet
+-- What the bytes of a source of which nothing may pause, with the runtime's parts, spell is that module, rewritten.
+pub sources_are_rewritten : (s : Settings) (bytes : List ℕ) (m : Module) → IsSource s bytes m → Rewrites m s (Norm (with_runtime m))
+sources_are_rewritten s bytes m h = norm_rewritten m s (with_runtime m) (quiet_rewritten m s h.accepted.valid (unreserved_is_free m h.accepted.unreserved.free) h.quiet)

@@ -1,6 +1,7 @@
 pub mod Accepted
 pub mod FreeNames
 pub mod Grown
+pub mod GrownFits
 pub mod OneEnd
 pub mod Printed
 pub mod SaidWords

@@ -5,6 +5,8 @@ use Rattle.vault_port.specs.Files.{Files, bytes_of, ChangesOnly, HoldsFrontAtMos
 use Rattle.vault_port.specs.Told.{WhereTold, Becomes}
 use Rattle.wa_types.specs.Syntax.{Module}
 use Rattle.wa_types.specs.Encoding.{Enc}
+use Rattle.wa_types.specs.Norm.{Norm}
+use Rattle.wa_types.specs.Reading.{SpellsModule}
 use Rattle.wa_types.specs.Pausing.{Settings}
 use Rattle.wa_types.specs.Runtime.{with_runtime}
 use Rattle.wa_types.specs.declared.bounds.LimitKind.TheVariants.{File, Functions, Parameters, Body, Locals, Output, Script, Programs}
@@ -79,6 +81,7 @@ transformed_at s input output bytes text functions a b e w c = record {
   «module» = w.0;
   source = source_of s bytes (bytes_of a input) w.0 e w.1;
   written = subst (λ (bs : List ℕ). ChangesOnly output bs a b) w.3 c;
+  spelled = subst (λ (bs : List ℕ). SpellsModule bs (Norm (with_runtime w.0))) w.3 w.4;
   rewritten = sources_are_rewritten s bytes w.0 w.1;
 }
 

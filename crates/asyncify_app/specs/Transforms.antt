@@ -6,24 +6,27 @@ use Rattle.vault_port.specs.Told.{WhereTold}
 use Rattle.vault_port.specs.Taken.{Appends, AppendsLess}
 use Rattle.wa_types.specs.Syntax.{Module}
 use Rattle.wa_types.specs.Encoding.{Enc}
+use Rattle.wa_types.specs.Norm.{Norm}
 use Rattle.wa_types.specs.Pausing.{Settings}
+use Rattle.wa_types.specs.Reading.{SpellsModule}
 use Rattle.wa_types.specs.Runtime.{with_runtime}
 use Rattle.wa_model.specs.Rewrites.{Rewrites}
 use Rattle.asyncify_app.specs.Lines.{memory_line, read_fault_line, write_fault_line, done_line, line_of}
 use Rattle.asyncify_app.specs.Sources.{IsSource, Cause, IsRefusedFor, status_of}
 
--- the bytes are an accepted source of so many functions, and the text is its module with the runtime's parts
+-- the bytes are an accepted source of so many functions, and the text is its module with the runtime's parts, and spells it
 abbrev pub IsRewritten : Settings → List ℕ → ℕ → List ℕ → Type 0
 IsRewritten s bytes functions text =
-    (m : Module) × IsSource s bytes m × (functions ≡ length m.funcs) × (text ≡ Enc (with_runtime m))
+    (m : Module) × IsSource s bytes m × (functions ≡ length m.funcs) × (text ≡ Enc (with_runtime m)) × SpellsModule text (Norm (with_runtime m))
 
--- OUT holds the module of IN with the runtime's parts, which is that module rewritten by these settings: under the host's protocol it behaves
+-- OUT holds the bytes of a module that is the module of IN, rewritten by these settings: under the host's protocol it behaves
 -- like the original. The other files are as before.
 pub record IsTransformed (s : Settings) (input output : List ℕ) (old new : Files) : Type 0 where
   pub «module» : Module
   pub source : IsSource s (bytes_of old input) «module»
   pub written : ChangesOnly output (Enc (with_runtime «module»)) old new
-  pub rewritten : Rewrites «module» s (with_runtime «module»)
+  pub spelled : SpellsModule (Enc (with_runtime «module»)) (Norm (with_runtime «module»))
+  pub rewritten : Rewrites «module» s (Norm (with_runtime «module»))
 
 -- OUT is as before, or holds some first bytes of what it would hold; the other files are as before.
 pub record IsCutShort (s : Settings) (input output : List ℕ) (old new : Files) : Type 0 where

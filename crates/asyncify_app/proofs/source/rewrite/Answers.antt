@@ -1,12 +1,15 @@
 -- A source is short, reserves nothing, and grows little.
-use Rattle.std.proofs.Common.{arith, ◌∙◌, ap, sym, subst, length}
+use Rattle.std.proofs.Common.{List, ap, arith, length, rules, subst, sym, ℕ, ◌∙◌, ◌≡◌}
 use Rattle.std.proofs.lemmas.List.{length-map}
 use Rattle.wa_types.specs.Syntax.{Module}
 use Rattle.wa_types.specs.View.{module_of, func_type_of}
 use Rattle.wa_types.specs.Encoding.{Enc}
 use Rattle.call_graph.specs.Settings.{settings_of}
+use Rattle.wa_types.specs.Norm.{Norm}
+use Rattle.wa_types.specs.Reading.{SpellsModule}
+use Rattle.wa_types.specs.Runtime.{with_runtime}
 use Rattle.wasm_encode.specs.Modules.{FewLocals}
-use Rattle.asyncify_app.proofs.Accepted.{strict, grown_short, few_locals, grown_locals}
+use Rattle.asyncify_app.proofs.Accepted.{strict, grown_short, few_locals, grown_locals, grown_spelled}
 use Rattle.asyncify_app.proofs.Spaces.{funcs_counted, globals_counted}
 use Rattle.asyncify_app.proofs.source.rewrite.Goals as goal
 
@@ -48,3 +51,11 @@ unreachable-requires-in-Err-TooLong c =
     let more = grown_short (settings_of c.args.settings.now) c.args.bytes.now (module_of c.in_ok-module.module) c.in_ok-module.ensures.source in
     let e = ap (λ (m : Module). length (Enc m)) c.in-Ok.ensures.added in
     let w = ((c.in-Err-TooLong.ensures.too_long c.in-Err-TooLong.field-0-0).0 (cc)).0 in omega (arith, e, more, w)
+
+pub returns-in-Ok-encode-clause-done : goal.returns-in-Ok-encode-clause-done
+returns-in-Ok-encode-clause-done c =
+    let s = settings_of c.args.settings.now in
+    let m = module_of c.in_ok-module.module in
+    let text : c.in-Ok-encode.text.items ≡ Enc (with_runtime m) = c.in-Ok-encode.ensures.ok ∙ ap Enc c.in-Ok.ensures.added in
+    let functions : c.len-functions.result ≡ length m.funcs = search (rules, length-map) in
+    (m, c.in_ok-module.ensures.source, functions, text, subst (λ (bs : List ℕ). SpellsModule bs (Norm (with_runtime m))) (sym text) (grown_spelled s c.args.bytes.now m (λ i. omega (arith, c.type_inv.bytes i)) c.in_ok-module.ensures.source))
