@@ -1,0 +1,6 @@
+//! Guards: the body of a flat function with a test of the state before each piece without numbered calls.
+#![tactic(auto)]
+
+mod labels;
+mod put;
+mod sequence;
