@@ -1,2 +1,5 @@
+pub mod NumberLemmas
 pub mod PutLemmas
 pub mod RaiseLemmas
+pub mod SequenceLemmas
+pub mod StmtLemmas

@@ -79,6 +79,9 @@ raised_step d n xs new body i x y k e same lt at before =
 pub raised_end : (d n : ℕ) (xs body : List Instr) (i : ℕ) → length body ≤ i → onto xs (raised d n (code (drop i body))) ≡ raised d n (code body) → code xs ≡ raised d n (code body)
 raised_end d n xs body i le before = sym (onto_done xs) ∙ ap (λ c. onto xs (raised d n c)) (sym (code_empty body i le)) ∙ before
 
+pub raised_onto_end : (d n : ℕ) (xs body : List Instr) (i : ℕ) (k : Code) → length body ≤ i → onto xs (raised d n (code (drop i body))) ≡ k → code xs ≡ k
+raised_onto_end d n xs body i k le before = sym (onto_done xs) ∙ ap (λ c. onto xs (raised d n c)) (sym (code_empty body i le)) ∙ before
+
 pub raised_start : (d n : ℕ) (xs body : List Instr) → xs ≡ [] → onto xs (raised d n (code (drop 0 body))) ≡ raised d n (code body)
 raised_start d n xs body e = ap (λ s. onto s (raised d n (code body))) e ∙ onto_none (raised d n (code body))
 

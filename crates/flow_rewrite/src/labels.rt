@@ -1,6 +1,6 @@
-ghost use Rattle.std.specs.Prelude.{◌≡◌, ◌≤◌, ◌<◌, ◌^◌, ◌+◌, All, map, IfOk};
+ghost use Rattle.std.specs.Prelude.{◌≡◌, ◌≤◌, ◌<◌, ◌^◌, ◌+◌, All, map, IfOk, OnOk};
 ghost use Rattle.wa_types.specs.Syntax.{Code, done};
-ghost use Rattle.wa_types.specs.View.{code, in_front};
+ghost use Rattle.wa_types.specs.View.{code, in_front, onto};
 ghost use Rattle.guard_form.specs.Guarded.{raise, raised};
 ghost use Rattle.flow_rewrite.specs.Raising.{Raisable};
 
@@ -86,4 +86,20 @@ fn raised_instr(
         }),
         _ => copy_leaf(alloc, instr),
     }
+}
+
+/// Puts code with each label that leaves it raised by so much, as the last thing behind what stands there.
+pub(crate) fn put_raised(
+    alloc: Global,
+    out: &mut Vec<Instr>,
+    by: u32,
+    body: &[Instr],
+) -> Result<(), AllocError>
+    requires { Raisable 0 by (code body.now) }
+    ensures { OnOk result (code out.new.items ≡ onto out.old.items (raised 0 by (code body.now))) }
+{
+    for instr in body {
+        out.push(raised_instr(alloc, 0, by, instr)?)?;
+    }
+    Ok(())
 }
