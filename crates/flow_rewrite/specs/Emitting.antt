@@ -1,11 +1,13 @@
 -- What instructions are put behind others, and what of a sequence is written so far.
-use Rattle.std.specs.Prelude.{◌≡◌, ◌≤◌, ◌<◌, ◌+◌, ◌||◌, ℕ, suc, List, [], length, get_or, None, true, false, if◌then◌else◌}
+use Rattle.std.specs.Prelude.{◌≡◌, ◌≤◌, ◌<◌, ◌+◌, ◌||◌, ℕ, suc, List, [], length, get_or, None, Bool, true, false, if◌then◌else◌}
 use Rattle.wa_types.specs.declared.instrs.Instr.{Instr}
-use Rattle.wa_types.specs.Syntax.{a_block, Code, done, nest}
+use Rattle.wa_types.specs.Syntax.{const, num, basic, a_block, Code, done, plain, nest}
+use Rattle.wa_types.specs.declared.operators.NumOp.TheVariants.{I32LtU}
+use Rattle.wa_types.specs.declared.values.Value.TheVariants as V
 use Rattle.wa_types.specs.View.{onto, code}
 use Rattle.wa_model.specs.Flat.{Stmts, code_of}
 use Rattle.guard_form.specs.Pieces.{numbers_in, call_total, holds_call, first_piece, units}
-use Rattle.guard_form.specs.Guarded.{GuardIndices, raised, front}
+use Rattle.guard_form.specs.Guarded.{GuardIndices, raised, index_with, front}
 use Rattle.flow_rewrite.specs.Raising.{Raisable}
 use Rattle.flow_rewrite.specs.declared.guards.Guards.{Guards}
 use Rattle.flow_rewrite.specs.declared.sequence.Sequence.{Sequence}
@@ -68,3 +70,9 @@ pub record IsPart (i : GuardIndices) (ps : List ℕ) (d n k : ℕ) (s : Stmts) (
 pub record Stepped (g : Guards) (d : ℕ) (a b : Sequence) (x : Stmts → Stmts) : Type 0 where
   pub good : Good b
   pub same : (s : Stmts) → Same (indices g) g.numbers.items d a (x s) b s
+
+-- in a state that isn't 0, which arm is gone into, by whether each holds a numbered call; the else arm's first number is told
+abbrev pub choice_code : GuardIndices → (then_held else_held : Bool) → ℕ → Code
+choice_code i a false k = plain (basic (const (V.I32 1))) done
+choice_code i false true k = plain (basic (const (V.I32 0))) done
+choice_code i true true k = index_with i (basic (num I32LtU)) k done
