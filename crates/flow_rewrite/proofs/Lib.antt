@@ -6,3 +6,4 @@ pub mod SequenceLemmas
 pub mod StmtLemmas
 pub mod UnitSteps
 pub mod ConstructSteps
+pub mod IfSteps

@@ -5,12 +5,13 @@ use Rattle.std.specs.declared.vec.Vec.{Vec}
 use Rattle.std.specs.declared.alloc.Global.{Global}
 use Rattle.wa_types.specs.declared.values.ValType.{ValType}
 use Rattle.wa_types.specs.declared.values.Value.{Value}
+use Rattle.wa_types.specs.declared.values.Value.TheVariants as V
 use Rattle.wa_types.specs.declared.instrs.Instr.{Instr}
 use Rattle.wa_types.specs.declared.operators.NumOp.{NumOp}
 use Rattle.wa_types.specs.declared.instrs.Instr.TheVariants.{Unreachable, Const as ConstInstr, Num, Br, BrIf, LocalGet, LocalSet, GlobalGet}
 use Rattle.wa_types.specs.Syntax.{const, num, global_get, basic, local_get, local_set, br, br_if, unreachable, Plain, Code, done, plain}
 use Rattle.wa_types.specs.View.{in_front, onto, code}
-use Rattle.wa_types.proofs.ViewLemmas.{is_block, is_loop, is_if, is_plain, kind, in_block, in_loop, in_if, onto_append}
+use Rattle.wa_types.proofs.ViewLemmas.{is_block, is_loop, is_if, is_plain, kind, in_block, in_loop, in_if, onto_append, onto_done, onto_none}
 use Rattle.wa_model.specs.declared.flat.Operand.{Operand}
 use Rattle.wa_model.specs.declared.flat.Operand.TheVariants.{Local, Const}
 use Rattle.wa_model.specs.Flat.{followed_by, got, all_got, set_to, slots_got}
@@ -102,3 +103,6 @@ got_const o v e rest = const_is v rest ∙ ap (λ z. got z rest) (sym e)
 
 pub set_told : (to : Option ℕ) (x : ℕ) → to ≡ Some x → (rest : Code) → in_front (LocalSet x) rest ≡ set_to to rest
 set_told to x e rest = set_is x rest ∙ ap (λ z. set_to z rest) (sym e)
+
+pub one_const : (l0 l1 : List Instr) (n : ℕ) → l0 ≡ [] → l1 ≡ l0 ++ ConstInstr (V.I32 n) ∷ [] → code l1 ≡ plain (basic (const (V.I32 n))) done
+one_const l0 l1 n e f = sym (onto_done l1) ∙ put_one l0 l1 (ConstInstr (V.I32 n)) (plain (basic (const (V.I32 n)))) f (const_is (V.I32 n)) done ∙ ap (λ xs. onto xs (plain (basic (const (V.I32 n))) done)) e ∙ onto_none (plain (basic (const (V.I32 n))) done)

@@ -1,4 +1,4 @@
-ghost use Rattle.std.specs.Prelude.{◌≡◌, ◌<◌, ◌+◌, suc, true, false, IfOk, OnOk};
+ghost use Rattle.std.specs.Prelude.{◌≡◌, ◌<◌, ◌+◌, suc, ◌||◌, IfOk, OnOk};
 ghost use Rattle.wa_types.specs.Syntax.{a_block, a_loop};
 ghost use Rattle.wa_types.specs.View.{code};
 ghost use Rattle.wa_model.specs.Flat.{nests, decides, no_more};
@@ -72,6 +72,13 @@ pub(crate) fn put_loop(
     Ok(())
 }
 
+/// Whether one of two is told.
+fn either(first: bool, second: bool) -> bool
+    ensures { result ≡ (first || second) }
+{
+    first || second
+}
+
 /// Which arm is gone into in a state that isn't 0, by whether each holds a numbered call.
 fn choice(
     guards: &Guards,
@@ -113,7 +120,7 @@ pub(crate) fn put_if(
 {
     let then_arm = first.code;
     let else_arm = second.code;
-    if !first.held && !second.held {
+    if !either(first.held, second.held) {
         put_operand(&mut at.piece, cond)?;
         at.piece.push(Instr::If { result: None, then_arm, else_arm })?;
         at.place = second.place;
