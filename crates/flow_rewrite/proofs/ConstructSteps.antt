@@ -45,7 +45,8 @@ none_held ps n (computes op args to rest) h = none_held ps n rest h
 none_held ps n (copies to from rest) h = none_held ps n rest h
 none_held ps n (calls op stack args to rest) h = by (numbered ps n op) h (none_held ps (suc n) rest)
   where
-    by : (o : Option _) → (is_some o || holds_call ps (suc n) rest) ≡ false → (holds_call ps (suc n) rest ≡ false → units ps (suc n) rest ≡ no_unit) → unit_call o (last_of args stack) to (first_piece ps (suc n) rest) (units ps (suc n) rest) ≡ no_unit
+    by : (o : Option _) → (is_some o || holds_call ps (suc n) rest) ≡ false → (holds_call ps (suc n) rest ≡ false → units ps (suc n) rest ≡ no_unit)
+        → unit_call o (last_of args stack) to (first_piece ps (suc n) rest) (units ps (suc n) rest) ≡ no_unit
     by None e ih = ih e
     by (Some x) e ih = cc
 none_held ps n (leaps l rest) h = none_held ps n rest h
@@ -121,11 +122,14 @@ module _ (g : Guards) (d : ℕ) (a0 a b : Sequence) (y : Shape) (body : Stmts) (
       let sm = st.same i ps d (nests y body s) (nothing s) in
       let pl : b.place ≡ m = place ∙ part.place in
       let nu : b.number ≡ k + numbers_in (units ps n body) = number ∙ part.number in
-      let ua : units ps a.place (nests y body s) ≡ nest_unit y (first_piece ps n body) (units ps n body) (first_piece ps m s) (units ps m s) = ap (λ z. units ps z (nests y body s)) st.place ∙ unit s in
-      let fa : first_of ps a (nests y body s) ≡ code a.piece.items = ap (onto a.piece.items) (ap (λ z. first_piece ps z (nests y body s)) st.place ∙ nothing s) ∙ onto_done a.piece.items in
+      let ua : units ps a.place (nests y body s)
+          ≡ nest_unit y (first_piece ps n body) (units ps n body) (first_piece ps m s) (units ps m s) = ap (λ z. units ps z (nests y body s)) st.place ∙ unit s in
+      let fa : first_of ps a (nests y body s)
+          ≡ code a.piece.items = ap (onto a.piece.items) (ap (λ z. first_piece ps z (nests y body s)) st.place ∙ nothing s) ∙ onto_done a.piece.items in
       let fb : first_of ps b s ≡ first_piece ps m s = (λ j. onto (piece j) (first_piece ps (pl j) s)) ∙ onto_none (first_piece ps m s) in
       let behind_code = front i d (k + numbers_in (units ps n body)) (first_piece ps m s) (units ps m s) in
-      let one : written_with i ps d a (nests y body s) ≡ onto a.out.items (guarded i (code a.piece.items) (nest y None (front i (suc d) k (first_piece ps n body) (units ps n body)) behind_code)) =
+      let one : written_with i ps d a (nests y body s)
+          ≡ onto a.out.items (guarded i (code a.piece.items) (nest y None (front i (suc d) k (first_piece ps n body) (units ps n body)) behind_code)) =
       (λ j. onto a.out.items (if st.closed j then nest a_block None (onto a.call.items (raised 0 1 (first_of ps a (nests y body s)))) (front i d a.number done (units ps a.place (nests y body s))) else front i d (st.number j) (fa j) (ua j))) in
       let two : written_with i ps d b s ≡ onto b.out.items behind_code =
       (λ j. onto b.out.items (if behind j then nest a_block None (onto b.call.items (raised 0 1 (first_of ps b s))) (front i d b.number done (units ps b.place s)) else front i d (nu j) (fb j) (units ps (pl j) s))) in
@@ -157,7 +161,8 @@ place_more n (nests y body rest) = omega arith
 place_more n (decides c a b rest) = omega arith
 place_more n (halts rest) = omega arith
 
-pub piece_stepped : (g : Guards) (d : ℕ) (a b : Sequence) (u : Stmts) → one_holds g.numbers.items a.place u ≡ false → Good a → Fits g.index d (with_rest u no_more) → b.out.items ≡ a.out.items → b.behind ≡ a.behind → b.call.items ≡ a.call.items → b.held ≡ a.held → b.number ≡ a.number
+pub piece_stepped : (g : Guards) (d : ℕ) (a b : Sequence) (u : Stmts) → one_holds g.numbers.items a.place u ≡ false → Good a → Fits g.index d (with_rest u no_more)
+    → b.out.items ≡ a.out.items → b.behind ≡ a.behind → b.call.items ≡ a.call.items → b.held ≡ a.held → b.number ≡ a.number
     → b.place ≡ one_place a.place u → Puts a.piece.items b.piece.items (one_code u) → Stepped g d a b (with_rest u)
 piece_stepped g d a b u free good fits out behind block held number place puts =
     let f = good.few in let more = place_more a.place u in
@@ -176,7 +181,8 @@ numbers_few ps n (computes op args to rest) = numbers_few ps n rest
 numbers_few ps n (copies to from rest) = numbers_few ps n rest
 numbers_few ps n (calls op stack args to rest) = by (numbered ps n op) (numbers_few ps (suc n) rest)
   where
-    by : (o : Option _) → numbers_in (units ps (suc n) rest) ≤ call_total rest → numbers_in (unit_call o (last_of args stack) to (first_piece ps (suc n) rest) (units ps (suc n) rest)) ≤ suc (call_total rest)
+    by : (o : Option _) → numbers_in (units ps (suc n) rest) ≤ call_total rest
+        → numbers_in (unit_call o (last_of args stack) to (first_piece ps (suc n) rest) (units ps (suc n) rest)) ≤ suc (call_total rest)
     by None ih = omega arith
     by (Some x) ih = omega arith
 numbers_few ps n (leaps l rest) = numbers_few ps n rest
@@ -190,7 +196,8 @@ numbers_few ps n (nests y body rest) = by (holds_call ps n body) (numbers_few ps
     by false ib ih = omega arith
 numbers_few ps n (decides c a b rest) = by (holds_call ps n a || holds_call ps (n + call_total a) b) (numbers_few ps n a) (numbers_few ps (n + call_total a) b) (numbers_few ps (n + call_total a + call_total b) rest)
   where
-    by : (z : Bool) → numbers_in (units ps n a) ≤ call_total a → numbers_in (units ps (n + call_total a) b) ≤ call_total b → numbers_in (units ps (n + call_total a + call_total b) rest) ≤ call_total rest
+    by : (z : Bool) → numbers_in (units ps n a) ≤ call_total a → numbers_in (units ps (n + call_total a) b) ≤ call_total b
+        → numbers_in (units ps (n + call_total a + call_total b) rest) ≤ call_total rest
         → numbers_in (if z then if_unit c (first_piece ps n a) (units ps n a) (first_piece ps (n + call_total a) b) (units ps (n + call_total a) b) (first_piece ps (n + call_total a + call_total b) rest) (units ps (n + call_total a + call_total b) rest) else units ps (n + call_total a + call_total b) rest) ≤ call_total a + call_total b + call_total rest
     by true ia ib ih = omega arith
     by false ia ib ih = omega arith
@@ -202,14 +209,19 @@ good_behind b n k total numbers closed piece place number le few = record { behi
 
 -- ---- blocks and loops, as they are put
 
-pub nest_free : (g : Guards) (d : ℕ) (a b : Sequence) (y : Shape) (body : Stmts) (p : Part) (x : Instr) → IsPart (indices g) g.numbers.items (suc d) a.place a.number body p → p.held ≡ false → Good a → Fits g.index d (nests y body no_more) → b.out.items ≡ a.out.items → b.behind ≡ a.behind → b.call.items ≡ a.call.items → b.held ≡ a.held → b.number ≡ a.number
+pub nest_free : (g : Guards) (d : ℕ) (a b : Sequence) (y : Shape) (body : Stmts) (p : Part) (x : Instr) → IsPart (indices g) g.numbers.items (suc d) a.place a.number body p
+    → p.held ≡ false → Good a → Fits g.index d (nests y body no_more) → b.out.items ≡ a.out.items → b.behind ≡ a.behind → b.call.items ≡ a.call.items → b.held ≡ a.held
+    → b.number ≡ a.number
     → b.place ≡ p.place → b.piece.items ≡ a.piece.items ++ x ∷ [] → ((c : Code) → in_front x c ≡ nest y None (code p.code.items) c) → Stepped g d a b (nests y body)
 nest_free g d a b y body p x part plain_ good fits out behind block held number place pushed is =
     piece_stepped g d a b (nests y body no_more) (sym part.held ∙ plain_) good fits out behind block held number (place ∙ part.place)
     (put_one a.piece.items b.piece.items x (λ c. nest y None (code_of body) c) pushed (λ c. is c ∙ ap (λ z. nest y None z c) (part_plain (indices g) g.numbers.items (suc d) a.place a.number body p part plain_)))
 
-pub nest_held : (g : Guards) (d : ℕ) (a0 a b : Sequence) (y : Shape) (body : Stmts) (p : Part) (mid : List Instr) (x : Instr) → Good a0 → Settled a0 a → IsPart (indices g) g.numbers.items (suc d) a0.place a0.number body p → p.held ≡ true → Puts a.out.items mid (guarded (indices g) (code a.piece.items)) → b.out.items ≡ mid ++ x ∷ []
-    → ((c : Code) → in_front x c ≡ nest y None (code p.code.items) c) → b.behind ≡ a.behind → b.piece.items ≡ [] → b.held ≡ true → b.place ≡ p.place → b.number ≡ p.number → Stepped g d a0 b (nests y body)
+pub nest_held : (g : Guards) (d : ℕ) (a0 a b : Sequence) (y : Shape) (body : Stmts) (p : Part) (mid : List Instr) (x : Instr) → Good a0 → Settled a0 a
+    → IsPart (indices g) g.numbers.items (suc d) a0.place a0.number body p → p.held ≡ true → Puts a.out.items mid (guarded (indices g) (code a.piece.items))
+    → b.out.items ≡ mid ++ x ∷ []
+    → ((c : Code) → in_front x c ≡ nest y None (code p.code.items) c) → b.behind ≡ a.behind → b.piece.items ≡ [] → b.held ≡ true → b.place ≡ p.place → b.number ≡ p.number
+    → Stepped g d a0 b (nests y body)
 nest_held g d a0 a b y body p mid x good0 st part is_held p1 pushed is behind piece held place number =
     let closed = behind ∙ st.closed in
     nest_stepped g d a0 a b y body p st part is_held (λ c. put_one mid b.out.items x (λ z. nest y None (code p.code.items) z) pushed is c ∙ p1 (nest y None (code p.code.items) c)) closed piece held place number

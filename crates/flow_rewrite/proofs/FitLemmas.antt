@@ -166,3 +166,8 @@ pub one_raisable : (locals d : ℕ) (u : Stmts) → Fits locals d (with_rest u n
 one_raisable locals d u h =
     let e = one_depth u in let q = h.shallow in
     record { few = omega arith; labels = one_labels locals (suc d) (2 ^ 31) u done h.fit (omega arith) tt; shallow = omega arith }
+
+pub whole_raisable : (locals d : ℕ) (s : Stmts) → Fits locals d s → Raisable 0 2 (code_of s)
+whole_raisable locals d s h =
+    let q = h.shallow in
+    record { few = omega arith; labels = code_labels locals (suc d) (2 ^ 31) s h.fit (omega arith); shallow = omega arith }

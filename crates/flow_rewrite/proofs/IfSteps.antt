@@ -34,7 +34,8 @@ use Rattle.flow_rewrite.proofs.PutLemmas.{put_one}
 use Rattle.flow_rewrite.proofs.SequenceLemmas.{same_on, step_piece, raisable_none}
 use Rattle.flow_rewrite.proofs.ConstructSteps.{or_false, not_both, true_or, part_some, part_none, part_plain, part_arm, piece_stepped, numbers_few, good_behind, condition_is}
 
-choice_by : (i : GuardIndices) (k : ℕ) (ua ub : Units) (b1 b2 : Bool) → (b1 ≡ true → Some_unit ua) → (b1 ≡ false → ua ≡ no_unit) → (b2 ≡ true → Some_unit ub) → (b2 ≡ false → ub ≡ no_unit) → choice i k ua ub ≡ choice_code i b1 b2 (k + numbers_in ua)
+choice_by : (i : GuardIndices) (k : ℕ) (ua ub : Units) (b1 b2 : Bool) → (b1 ≡ true → Some_unit ua) → (b1 ≡ false → ua ≡ no_unit) → (b2 ≡ true → Some_unit ub)
+    → (b2 ≡ false → ub ≡ no_unit) → choice i k ua ub ≡ choice_code i b1 b2 (k + numbers_in ua)
 choice_by i k ua ub b1 false sa na sb nb = ap (choice i k ua) (nb refl) ∙ choice_one i k ua
 choice_by i k ua ub false true sa na sb nb = ap (λ z. choice i k z ub) (na refl) ∙ choice_two i k ub (sb refl)
 choice_by i k ua ub true true sa na sb nb = choice_is i k ua ub (sa refl) (sb refl)
@@ -103,7 +104,8 @@ module _ (g : Guards) (d : ℕ) (a0 a b : Sequence) (o : Operand) (sa sb : Stmts
       (λ j. onto a.out.items (if st.closed j then nest a_block None (onto a.call.items (raised 0 1 (first_of ps a u))) (front i d a.number done (units ps a.place u)) else front i d (st.number j) (fa j) (us j))) in
       let two : written_with i ps d b s ≡ onto b.out.items behind_code =
       (λ j. onto b.out.items (if closed j then nest a_block None (onto b.call.items (raised 0 1 (first_of ps b s))) (front i d b.number done (units ps b.place s)) else front i d (nu j) (fb j) (units ps (pl j) s))) in
-      let three : onto b.out.items behind_code ≡ onto a.out.items (plain (basic (global_get g.state)) (branch (Some I32) (code chosen) (code piece) (branch None (code p.code.items) (code q.code.items) behind_code))) =
+      let three : onto b.out.items behind_code
+          ≡ onto a.out.items (plain (basic (global_get g.state)) (branch (Some I32) (code chosen) (code piece) (branch None (code p.code.items) (code q.code.items) behind_code))) =
       put_one l1 b.out.items x (λ z. branch None (code p.code.items) (code q.code.items) z) pushed is behind_code ∙ p1 (branch None (code p.code.items) (code q.code.items) behind_code) in
       let pa = part_arm i ps (suc d) n k sa p part1 p.held refl in
       let pb = part_arm i ps (suc d) n2 k2 sb q part2 q.held refl in
@@ -126,8 +128,11 @@ module _ (g : Guards) (d : ℕ) (a0 a b : Sequence) (o : Operand) (sa sb : Stmts
   }
 
 -- without a numbered call
-pub if_free : (g : Guards) (d : ℕ) (a b : Sequence) (o : Operand) (sa sb : Stmts) (p q : Part) (mid : List Instr) (x : Instr) → IsPart (indices g) g.numbers.items (suc d) a.place a.number sa p → IsPart (indices g) g.numbers.items (suc d) p.place p.number sb q → (p.held || q.held) ≡ false → Good a → Fits g.index d (decides o sa sb no_more) → b.out.items ≡ a.out.items → b.behind ≡ a.behind → b.call.items ≡ a.call.items → b.held ≡ a.held → b.number ≡ a.number
-    → b.place ≡ q.place → Puts a.piece.items mid (got o) → b.piece.items ≡ mid ++ x ∷ [] → ((c : Code) → in_front x c ≡ branch None (code p.code.items) (code q.code.items) c) → Stepped g d a b (decides o sa sb)
+pub if_free : (g : Guards) (d : ℕ) (a b : Sequence) (o : Operand) (sa sb : Stmts) (p q : Part) (mid : List Instr) (x : Instr)
+    → IsPart (indices g) g.numbers.items (suc d) a.place a.number sa p → IsPart (indices g) g.numbers.items (suc d) p.place p.number sb q → (p.held || q.held) ≡ false → Good a
+    → Fits g.index d (decides o sa sb no_more) → b.out.items ≡ a.out.items → b.behind ≡ a.behind → b.call.items ≡ a.call.items → b.held ≡ a.held → b.number ≡ a.number
+    → b.place ≡ q.place → Puts a.piece.items mid (got o) → b.piece.items ≡ mid ++ x ∷ [] → ((c : Code) → in_front x c ≡ branch None (code p.code.items) (code q.code.items) c)
+    → Stepped g d a b (decides o sa sb)
 if_free g d a b o sa sb p q mid x part1 part neither good fits out behind block held number place p0 pushed is =
     let i = indices g in let ps = g.numbers.items in
     let h = or_false p.held q.held neither in

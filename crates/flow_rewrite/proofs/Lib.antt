@@ -7,3 +7,5 @@ pub mod StmtLemmas
 pub mod UnitSteps
 pub mod ConstructSteps
 pub mod IfSteps
+pub mod WalkSteps
+pub mod GuardLemmas

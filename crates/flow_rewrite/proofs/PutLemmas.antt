@@ -43,7 +43,8 @@ all_append : (xs : List Operand) (x : Operand) (c : Code) → all_got (xs ++ x �
 all_append [] x c = refl
 all_append (y ∷ xs) x c = ap (got y) (all_append xs x c)
 
-pub operands_step : (old mid new : List Instr) (xs : List Operand) (i : ℕ) (d : Operand) → i < length xs → Puts old mid (all_got (take i xs)) → Puts mid new (got (get_or xs i d)) → Puts old new (all_got (take (i + 1) xs))
+pub operands_step : (old mid new : List Instr) (xs : List Operand) (i : ℕ) (d : Operand) → i < length xs → Puts old mid (all_got (take i xs)) → Puts mid new (got (get_or xs i d))
+    → Puts old new (all_got (take (i + 1) xs))
 operands_step old mid new xs i d lt h k rest =
     k rest ∙ h (got (get_or xs i d) rest) ∙ ap (onto old) (sym (all_append (take i xs) (get_or xs i d) rest)) ∙ ap (λ z. onto old (all_got z rest)) (sym (take_more xs i d lt))
 
@@ -54,7 +55,8 @@ slots_append : (xs : List ℕ) (x : ℕ) (c : Code) → slots_got (xs ++ x ∷ [
 slots_append [] x c = refl
 slots_append (y ∷ xs) x c = ap (plain (local_get y)) (slots_append xs x c)
 
-pub slots_step : (old mid new : List Instr) (xs : List ℕ) (i d : ℕ) → i < length xs → Puts old mid (slots_got (take i xs)) → Puts mid new (plain (local_get (get_or xs i d))) → Puts old new (slots_got (take (i + 1) xs))
+pub slots_step : (old mid new : List Instr) (xs : List ℕ) (i d : ℕ) → i < length xs → Puts old mid (slots_got (take i xs)) → Puts mid new (plain (local_get (get_or xs i d)))
+    → Puts old new (slots_got (take (i + 1) xs))
 slots_step old mid new xs i d lt h k rest =
     k rest ∙ h (plain (local_get (get_or xs i d)) rest) ∙ ap (onto old) (sym (slots_append (take i xs) (get_or xs i d) rest)) ∙ ap (λ z. onto old (slots_got z rest)) (sym (take_more xs i d lt))
 

@@ -62,7 +62,8 @@ in_loop_raisable d n x r v e h =
     let s = q.shallow in
     record { few = q.few; labels = q.labels.0; shallow = omega arith }
 
-pub in_if_raisable : (d n : ℕ) (x : Instr) (r : Option ValType) (v w : Vec Instr Global) → x ≡ If r v w → Raisable d n (in_front x done) → Raisable (d + 1) n (code v.items) × Raisable (d + 1) n (code w.items)
+pub in_if_raisable : (d n : ℕ) (x : Instr) (r : Option ValType) (v w : Vec Instr Global) → x ≡ If r v w → Raisable d n (in_front x done)
+    → Raisable (d + 1) n (code v.items) × Raisable (d + 1) n (code w.items)
 unfolding depth_of
 in_if_raisable d n x r v w e h =
     let q = subst (Raisable d n) (ap (λ y. in_front y done) e ∙ in_if r v w done) h in
@@ -71,7 +72,8 @@ in_if_raisable d n x r v w e h =
 
 -- ---- what is raised
 
-pub raised_step : (d n : ℕ) (xs new body : List Instr) (i : ℕ) (x y : Instr) (k : Code) → new ≡ xs ++ y ∷ [] → ((rest : Code) → in_front y (raised d n rest) ≡ raised d n (in_front x rest)) → i < length body → x ≡ get_or body i x
+pub raised_step : (d n : ℕ) (xs new body : List Instr) (i : ℕ) (x y : Instr) (k : Code) → new ≡ xs ++ y ∷ []
+    → ((rest : Code) → in_front y (raised d n rest) ≡ raised d n (in_front x rest)) → i < length body → x ≡ get_or body i x
     → onto xs (raised d n (code (drop i body))) ≡ k → onto new (raised d n (code (drop (i + 1) body))) ≡ k
 raised_step d n xs new body i x y k e same lt at before =
     ap (λ s. onto s (raised d n (code (drop (i + 1) body)))) e ∙ onto_append xs y _ ∙ ap (onto xs) (same (code (drop (i + 1) body)) ∙ ap (raised d n) (sym (code_step body i x lt at))) ∙ before
@@ -93,28 +95,33 @@ pub raised_br_if : (d n l k : ℕ) (x : Instr) → x ≡ BrIf l → k ≡ raise 
 unfolding in_front
 raised_br_if d n l k x e q rest = ap (λ z. in_front (BrIf z) (raised d n rest)) q ∙ ap (λ y. raised d n (in_front y rest)) (sym e)
 
-pub raised_table : (d n : ℕ) (v w : Vec ℕ Global) (l k : ℕ) (x : Instr) → x ≡ BrTable v l → w.items ≡ map (raise d n) v.items → k ≡ raise d n l → (rest : Code) → in_front (BrTable w k) (raised d n rest) ≡ raised d n (in_front x rest)
+pub raised_table : (d n : ℕ) (v w : Vec ℕ Global) (l k : ℕ) (x : Instr) → x ≡ BrTable v l → w.items ≡ map (raise d n) v.items → k ≡ raise d n l → (rest : Code)
+    → in_front (BrTable w k) (raised d n rest) ≡ raised d n (in_front x rest)
 raised_table d n v w l k x e q q2 rest =
     in_br_table w k (raised d n rest) ∙ ap (λ z. plain (br_table z k) (raised d n rest)) q ∙ ap (λ z. plain (br_table (map (raise d n) v.items) z) (raised d n rest)) q2
     ∙ sym (ap (λ y. raised d n (in_front y rest)) e ∙ ap (raised d n) (in_br_table v l rest))
 
-pub raised_block : (d n : ℕ) (r : Option ValType) (v w : Vec Instr Global) (x : Instr) → x ≡ Block r v → code w.items ≡ raised (d + 1) n (code v.items) → (rest : Code) → in_front (Block r w) (raised d n rest) ≡ raised d n (in_front x rest)
+pub raised_block : (d n : ℕ) (r : Option ValType) (v w : Vec Instr Global) (x : Instr) → x ≡ Block r v → code w.items ≡ raised (d + 1) n (code v.items) → (rest : Code)
+    → in_front (Block r w) (raised d n rest) ≡ raised d n (in_front x rest)
 raised_block d n r v w x e q rest =
     let z : d + 1 ≡ suc d = omega arith in
     in_block r w (raised d n rest) ∙ ap (λ b. nest a_block r b (raised d n rest)) (q ∙ ap (λ j. raised j n (code v.items)) z) ∙ sym (ap (λ y. raised d n (in_front y rest)) e ∙ ap (raised d n) (in_block r v rest))
 
-pub raised_loop : (d n : ℕ) (r : Option ValType) (v w : Vec Instr Global) (x : Instr) → x ≡ Loop r v → code w.items ≡ raised (d + 1) n (code v.items) → (rest : Code) → in_front (Loop r w) (raised d n rest) ≡ raised d n (in_front x rest)
+pub raised_loop : (d n : ℕ) (r : Option ValType) (v w : Vec Instr Global) (x : Instr) → x ≡ Loop r v → code w.items ≡ raised (d + 1) n (code v.items) → (rest : Code)
+    → in_front (Loop r w) (raised d n rest) ≡ raised d n (in_front x rest)
 raised_loop d n r v w x e q rest =
     let z : d + 1 ≡ suc d = omega arith in
     in_loop r w (raised d n rest) ∙ ap (λ b. nest a_loop r b (raised d n rest)) (q ∙ ap (λ j. raised j n (code v.items)) z) ∙ sym (ap (λ y. raised d n (in_front y rest)) e ∙ ap (raised d n) (in_loop r v rest))
 
-pub raised_if : (d n : ℕ) (r : Option ValType) (v w v2 w2 : Vec Instr Global) (x : Instr) → x ≡ If r v w → code v2.items ≡ raised (d + 1) n (code v.items) → code w2.items ≡ raised (d + 1) n (code w.items) → (rest : Code) → in_front (If r v2 w2) (raised d n rest) ≡ raised d n (in_front x rest)
+pub raised_if : (d n : ℕ) (r : Option ValType) (v w v2 w2 : Vec Instr Global) (x : Instr) → x ≡ If r v w → code v2.items ≡ raised (d + 1) n (code v.items)
+    → code w2.items ≡ raised (d + 1) n (code w.items) → (rest : Code) → in_front (If r v2 w2) (raised d n rest) ≡ raised d n (in_front x rest)
 raised_if d n r v w v2 w2 x e q q2 rest =
     let z : d + 1 ≡ suc d = omega arith in
     in_if r v2 w2 (raised d n rest) ∙ ap (λ b. branch r b (code w2.items) (raised d n rest)) (q ∙ ap (λ j. raised j n (code v.items)) z) ∙ ap (λ b. branch r (raised (suc d) n (code v.items)) b (raised d n rest)) (q2 ∙ ap (λ j. raised j n (code w.items)) z)
     ∙ sym (ap (λ y. raised d n (in_front y rest)) e ∙ ap (raised d n) (in_if r v w rest))
 
-same_raised : (d n : ℕ) (x : Instr) → is_leaf x ≡ true → ((l : ℕ) → x ≡ Br l → ⊥) → ((l : ℕ) → x ≡ BrIf l → ⊥) → ((v : Vec ℕ Global) (l : ℕ) → x ≡ BrTable v l → ⊥) → (rest : Code) → raised d n (in_front x rest) ≡ in_front x (raised d n rest)
+same_raised : (d n : ℕ) (x : Instr) → is_leaf x ≡ true → ((l : ℕ) → x ≡ Br l → ⊥) → ((l : ℕ) → x ≡ BrIf l → ⊥) → ((v : Vec ℕ Global) (l : ℕ) → x ≡ BrTable v l → ⊥) → (rest : Code)
+    → raised d n (in_front x rest) ≡ in_front x (raised d n rest)
 unfolding in_front is_leaf
 same_raised d n Unreachable h b bi bt rest = refl
 same_raised d n Nop h b bi bt rest = refl
@@ -141,7 +148,8 @@ same_raised d n (Block' r s k) h b bi bt rest = cc
 same_raised d n (Loop' r s k) h b bi bt rest = cc
 same_raised d n (If' r s k t l) h b bi bt rest = cc
 
-pub raised_other : (d n : ℕ) (x y : Instr) → is_leaf x ≡ true → ((l : ℕ) → x ≡ Br l → ⊥) → ((l : ℕ) → x ≡ BrIf l → ⊥) → ((v : Vec ℕ Global) (l : ℕ) → x ≡ BrTable v l → ⊥) → ((rest : Code) → in_front y rest ≡ in_front x rest) → (rest : Code) → in_front y (raised d n rest) ≡ raised d n (in_front x rest)
+pub raised_other : (d n : ℕ) (x y : Instr) → is_leaf x ≡ true → ((l : ℕ) → x ≡ Br l → ⊥) → ((l : ℕ) → x ≡ BrIf l → ⊥) → ((v : Vec ℕ Global) (l : ℕ) → x ≡ BrTable v l → ⊥)
+    → ((rest : Code) → in_front y rest ≡ in_front x rest) → (rest : Code) → in_front y (raised d n rest) ≡ raised d n (in_front x rest)
 raised_other d n x y h b bi bt same rest = same (raised d n rest) ∙ sym (same_raised d n x h b bi bt rest)
 
 -- ---- the labels that are there

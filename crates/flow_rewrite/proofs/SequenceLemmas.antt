@@ -82,11 +82,13 @@ same_on i ps d a b c s t u h g = record {
 }
 
 -- a statement of a piece
-pub step_piece : (i : GuardIndices) (ps : List ℕ) (d : ℕ) (a b : Sequence) (u s : Stmts) → one_holds ps a.place u ≡ false → b.out.items ≡ a.out.items → b.behind ≡ a.behind → b.call.items ≡ a.call.items → b.held ≡ a.held → b.number ≡ a.number
+pub step_piece : (i : GuardIndices) (ps : List ℕ) (d : ℕ) (a b : Sequence) (u s : Stmts) → one_holds ps a.place u ≡ false → b.out.items ≡ a.out.items → b.behind ≡ a.behind
+    → b.call.items ≡ a.call.items → b.held ≡ a.held → b.number ≡ a.number
     → b.place ≡ one_place a.place u → Puts a.piece.items b.piece.items (one_code u) → Same i ps d a (with_rest u s) b s
 step_piece i ps d a b u s free out behind call held number place puts =
     let us : units ps a.place (with_rest u s) ≡ units ps b.place s = units_with ps a.place u s free ∙ ap (λ n. units ps n s) (sym place) in
-    let fi : first_of ps a (with_rest u s) ≡ first_of ps b s = ap (onto a.piece.items) (first_with ps a.place u s free ∙ ap (λ n. one_code u (first_piece ps n s)) (sym place)) ∙ sym (puts (first_piece ps b.place s)) in
+    let fi : first_of ps a (with_rest u s)
+        ≡ first_of ps b s = ap (onto a.piece.items) (first_with ps a.place u s free ∙ ap (λ n. one_code u (first_piece ps n s)) (sym place)) ∙ sym (puts (first_piece ps b.place s)) in
     record {
       written = (λ j. onto (sym out j) (if sym behind j then nest a_block None (onto (sym call j) (raised 0 1 (fi j))) (front i d (sym number j) done (us j)) else front i d (sym number j) (fi j) (us j)));
       held = ap (λ z. a.held || z) (holds_with ps a.place u s ∙ ap (λ z. z || holds_call ps (one_place a.place u) s) free) ∙ (λ j. sym held j || holds_call ps (sym place j) s);
@@ -125,7 +127,9 @@ not_false true e f = cc
 not_false false e f = cc
 
 -- the block is closed
-pub settled_open : (a b : Sequence) (v : Vec Instr Global) → Good a → a.behind ≡ true → b.out.items ≡ a.out.items ++ Block None v ∷ [] → code v.items ≡ onto a.call.items (raised 0 1 (code a.piece.items)) → b.piece.items ≡ [] → b.behind ≡ false → b.held ≡ a.held → b.place ≡ a.place → b.number ≡ a.number → Settled a b
+pub settled_open : (a b : Sequence) (v : Vec Instr Global) → Good a → a.behind ≡ true → b.out.items ≡ a.out.items ++ Block None v ∷ []
+    → code v.items ≡ onto a.call.items (raised 0 1 (code a.piece.items)) → b.piece.items ≡ [] → b.behind ≡ false → b.held ≡ a.held → b.place ≡ a.place → b.number ≡ a.number
+    → Settled a b
 settled_open a b v good open_ out block piece closed held place number = record {
   closed = closed;
   held = held;
@@ -141,7 +145,8 @@ settled_closed a good closed = record { closed = closed; held = refl; place = re
 
 -- ---- the end
 
-pub finished : (i : GuardIndices) (ps : List ℕ) (a b : Sequence) (new : List Instr) → Settled a b → Puts b.out.items new (guarded i (code b.piece.items)) → code new ≡ written_with i ps 0 a no_more
+pub finished : (i : GuardIndices) (ps : List ℕ) (a b : Sequence) (new : List Instr) → Settled a b → Puts b.out.items new (guarded i (code b.piece.items))
+    → code new ≡ written_with i ps 0 a no_more
 finished i ps a b new st puts =
     let sm = st.same i ps 0 no_more refl in
     sym (onto_done new) ∙ puts done ∙ ap (λ c. onto b.out.items (guarded i c done)) (sym (onto_done b.piece.items))

@@ -45,7 +45,8 @@ pub if_is : (x : Stmt) (o : Operand) (v w : Vec Stmt Global) → x ≡ If o v w 
 unfolding stmt_in_front row_stmts
 if_is x o v w e k = ap (λ y. stmt_in_front y k) e ∙ ap (λ b. decides o b (row_stmts (hidden-the_row-Stmt-0 w)) k) (vec_is v) ∙ ap (λ b. decides o (stmts v.items) b k) (vec_is w)
 
-pub call_is : (x : Stmt) (op : Instr) (stack : Vec ℕ Global) (args : ℕ) (to : Option ℕ) → x ≡ Call op stack args to → (k : Stmts) → stmt_in_front x k ≡ calls (in_front op done) stack.items args to k
+pub call_is : (x : Stmt) (op : Instr) (stack : Vec ℕ Global) (args : ℕ) (to : Option ℕ) → x ≡ Call op stack args to → (k : Stmts)
+    → stmt_in_front x k ≡ calls (in_front op done) stack.items args to k
 unfolding stmt_in_front
 call_is x op stack args to e k = ap (λ y. stmt_in_front y k) e
 

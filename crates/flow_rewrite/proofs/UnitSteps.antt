@@ -52,7 +52,8 @@ pub free_is : (ps : List ℕ) (n : ℕ) (op : Code) → is_place ps n ≡ false 
 free_is ps n op f = ap (λ b. if b then sole_callee op else None) f
 
 -- a call without number
-pub free_stepped : (g : Guards) (d : ℕ) (a b : Sequence) (op : Code) (stack : List ℕ) (args : ℕ) (to : Option ℕ) → is_place g.numbers.items a.place ≡ false → Good a → Fits g.index d (calls op stack args to no_more) → b.out.items ≡ a.out.items → b.behind ≡ a.behind → b.call.items ≡ a.call.items → b.held ≡ a.held → b.number ≡ a.number
+pub free_stepped : (g : Guards) (d : ℕ) (a b : Sequence) (op : Code) (stack : List ℕ) (args : ℕ) (to : Option ℕ) → is_place g.numbers.items a.place ≡ false → Good a
+    → Fits g.index d (calls op stack args to no_more) → b.out.items ≡ a.out.items → b.behind ≡ a.behind → b.call.items ≡ a.call.items → b.held ≡ a.held → b.number ≡ a.number
     → b.place ≡ a.place + 1 → Puts a.piece.items b.piece.items (λ c. slots_got (last_of args stack) (followed_by op (set_to to c))) → Stepped g d a b (calls op stack args to)
 free_stepped g d a b op stack args to free good fits out behind block held number place puts =
     let u = calls op stack args to no_more in
@@ -86,12 +87,15 @@ module _ (g : Guards) (d : ℕ) (a0 a b : Sequence) (op : Code) (x : Callee) (st
   numbered_same s =
       let pl : b.place ≡ suc a.place = place ∙ omega arith in
       let nu : b.number ≡ suc a.number = number ∙ omega arith in
-      let fa : first_of ps a (calls op stack args to s) ≡ code a.piece.items = ap (λ o. onto a.piece.items (piece_call o (slots_got (last_of args stack) (followed_by op (set_to to (first_piece ps (suc a.place) s)))))) some ∙ onto_done a.piece.items in
+      let fa : first_of ps a (calls op stack args to s)
+          ≡ code a.piece.items = ap (λ o. onto a.piece.items (piece_call o (slots_got (last_of args stack) (followed_by op (set_to to (first_piece ps (suc a.place) s)))))) some ∙ onto_done a.piece.items in
       let ua = ap (λ o. unit_call o (last_of args stack) to (first_piece ps (suc a.place) s) (units ps (suc a.place) s)) some in
       let fb : first_of ps b s ≡ first_piece ps (suc a.place) s = (λ j. onto (piece j) (first_piece ps (pl j) s)) ∙ onto_none (first_piece ps (suc a.place) s) in
-      let one : written_with (indices g) ps d a (calls op stack args to s) ≡ onto a.out.items (front (indices g) d a.number (code a.piece.items) (unit_call (Some x) (last_of args stack) to (first_piece ps (suc a.place) s) (units ps (suc a.place) s))) =
+      let one : written_with (indices g) ps d a (calls op stack args to s)
+          ≡ onto a.out.items (front (indices g) d a.number (code a.piece.items) (unit_call (Some x) (last_of args stack) to (first_piece ps (suc a.place) s) (units ps (suc a.place) s))) =
       (λ j. onto a.out.items (if st.closed j then nest a_block None (onto a.call.items (raised 0 1 (first_of ps a (calls op stack args to s)))) (front (indices g) d a.number done (units ps a.place (calls op stack args to s))) else front (indices g) d a.number (fa j) (ua j))) in
-      let two : written_with (indices g) ps d b s ≡ onto a.out.items (nest a_block None (onto b.call.items (raised 0 1 (first_piece ps (suc a.place) s))) (front (indices g) d (suc a.number) done (units ps (suc a.place) s))) =
+      let two : written_with (indices g) ps d b s
+          ≡ onto a.out.items (nest a_block None (onto b.call.items (raised 0 1 (first_piece ps (suc a.place) s))) (front (indices g) d (suc a.number) done (units ps (suc a.place) s))) =
       (λ j. onto (out j) (if behind j then nest a_block None (onto b.call.items (raised 0 1 (fb j))) (front (indices g) d (nu j) done (units ps (pl j) s)) else front (indices g) d b.number (first_of ps b s) (units ps b.place s))) in
       record {
         written = one ∙ sym (two ∙ ap (λ z. onto a.out.items (nest a_block None z (front (indices g) d (suc a.number) done (units ps (suc a.place) s)))) (block (raised 0 1 (first_piece ps (suc a.place) s))));
@@ -120,7 +124,9 @@ module _ (g : Guards) (d : ℕ) (a0 a b : Sequence) (op : Code) (x : Callee) (st
 
 -- ---- what is put of a numbered call
 
-pub test_of : (i : GuardIndices) (k : ℕ) (l0 l1 l2 : List Instr) → l0 ≡ [] → Puts l0 l1 (λ c. plain (local_get i.index) (plain (basic (const (V.I32 k))) (plain (basic (num I32Ne)) c))) → l2 ≡ l1 ++ BrIf 1 ∷ [] → code l2 ≡ index_with i (basic (num I32Ne)) k (plain (br_if 1) done)
+pub test_of : (i : GuardIndices) (k : ℕ) (l0 l1 l2 : List Instr) → l0 ≡ []
+    → Puts l0 l1 (λ c. plain (local_get i.index) (plain (basic (const (V.I32 k))) (plain (basic (num I32Ne)) c))) → l2 ≡ l1 ++ BrIf 1 ∷ []
+    → code l2 ≡ index_with i (basic (num I32Ne)) k (plain (br_if 1) done)
 test_of i k l0 l1 l2 e puts f =
     sym (onto_done l2) ∙ put_one l1 l2 (BrIf 1) (plain (br_if 1)) f (br_if_is 1) done ∙ puts (plain (br_if 1) done) ∙ ap (λ xs. onto xs (index_with i (basic (num I32Ne)) k (plain (br_if 1) done))) e ∙ onto_none _
 
@@ -128,9 +134,12 @@ call_then : (x : Callee) (c : Code) → followed_by (plain (call_to x) done) c �
 unfolding followed_by
 call_then x c = refl
 
-pub block_of : (i : GuardIndices) (d k : ℕ) (first op : Code) (x : Callee) (slots slots2 : List ℕ) (to : Option ℕ) (l0 l1 l2 l3 l4 l5 other piece : List Instr) (label : ℕ) → l0 ≡ [] → code other ≡ index_with i (basic (num I32Ne)) k (plain (br_if 1) done) → code piece ≡ raised 0 2 first
-    → Puts l0 l1 (λ c. plain (basic (global_get i.state)) (branch None (code other) (code piece) c)) → Puts l1 l2 (slots_got slots2) → slots2 ≡ slots → Puts l2 l3 (followed_by op) → op ≡ plain (call_to x) done
-    → Puts l3 l4 (λ c. plain (basic (const (V.I32 k))) (plain (local_set i.index) (plain (basic (global_get i.state)) (plain (br_if label) c)))) → label ≡ suc d → Puts l4 l5 (set_to to)
+pub block_of : (i : GuardIndices) (d k : ℕ) (first op : Code) (x : Callee) (slots slots2 : List ℕ) (to : Option ℕ) (l0 l1 l2 l3 l4 l5 other piece : List Instr) (label : ℕ)
+    → l0 ≡ [] → code other ≡ index_with i (basic (num I32Ne)) k (plain (br_if 1) done) → code piece ≡ raised 0 2 first
+    → Puts l0 l1 (λ c. plain (basic (global_get i.state)) (branch None (code other) (code piece) c)) → Puts l1 l2 (slots_got slots2) → slots2 ≡ slots → Puts l2 l3 (followed_by op)
+    → op ≡ plain (call_to x) done
+    → Puts l3 l4 (λ c. plain (basic (const (V.I32 k))) (plain (local_set i.index) (plain (basic (global_get i.state)) (plain (br_if label) c)))) → label ≡ suc d
+    → Puts l4 l5 (set_to to)
     → (c : Code) → onto l5 c ≡ sought i k first (slots_got slots (plain (call_to x) (noted i d k (set_to to c))))
 block_of i d k first op x slots slots2 to l0 l1 l2 l3 l4 l5 other piece label e0 eo ep p1 p2 es p3 eop p4 el p5 c =
     let n : ℕ → Code = λ l. plain (basic (const (V.I32 k))) (plain (local_set i.index) (plain (basic (global_get i.state)) (plain (br_if l) (set_to to c)))) in

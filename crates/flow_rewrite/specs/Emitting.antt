@@ -1,13 +1,16 @@
 -- What instructions are put behind others, and what of a sequence is written so far.
-use Rattle.std.specs.Prelude.{◌≡◌, ◌≤◌, ◌<◌, ◌+◌, ◌||◌, ℕ, suc, List, [], length, get_or, None, Bool, true, false, if◌then◌else◌}
+use Rattle.std.specs.Prelude.{◌≡◌, ◌≤◌, ◌<◌, ◌^◌, ◌+◌, ◌||◌, ℕ, suc, List, [], length, get_or, None, Bool, true, false, if◌then◌else◌}
 use Rattle.wa_types.specs.declared.instrs.Instr.{Instr}
 use Rattle.wa_types.specs.Syntax.{const, num, basic, a_block, Code, done, plain, nest}
 use Rattle.wa_types.specs.declared.operators.NumOp.TheVariants.{I32LtU}
 use Rattle.wa_types.specs.declared.values.Value.TheVariants as V
 use Rattle.wa_types.specs.View.{onto, code}
-use Rattle.wa_model.specs.Flat.{Stmts, code_of}
+use Rattle.wa_model.specs.declared.flat.Stmt.{Stmt}
+use Rattle.wa_model.specs.Flat.{Stmts, no_more, code_of}
+use Rattle.wa_model.specs.FlatView.{stmt_in_front}
 use Rattle.guard_form.specs.Pieces.{numbers_in, call_total, holds_call, first_piece, units}
 use Rattle.guard_form.specs.Guarded.{GuardIndices, raised, index_with, front}
+use Rattle.flow_rewrite.specs.Statements.{Fits}
 use Rattle.flow_rewrite.specs.Raising.{Raisable}
 use Rattle.flow_rewrite.specs.declared.guards.Guards.{Guards}
 use Rattle.flow_rewrite.specs.declared.sequence.Sequence.{Sequence}
@@ -76,3 +79,27 @@ abbrev pub choice_code : GuardIndices → (then_held else_held : Bool) → ℕ �
 choice_code i a false k = plain (basic (const (V.I32 1))) done
 choice_code i false true k = plain (basic (const (V.I32 0))) done
 choice_code i true true k = index_with i (basic (num I32LtU)) k done
+
+-- Statements can be written: the numbers rise, the statements fit, and their places are small.
+pub record Ready (g : Guards) (d n k : ℕ) (s : Stmts) : Type 0 where
+  pub rises : Rises g.numbers.items
+  pub fits : Fits g.index d s
+  pub few : k ≤ n
+  pub room : n + call_total s < 2 ^ 32
+
+-- so can one statement
+pub record ReadyAt (g : Guards) (d : ℕ) (at : Sequence) (x : Stmt) : Type 0 where
+  pub rises : Rises g.numbers.items
+  pub good : Good at
+  pub fits : Fits g.index d (stmt_in_front x no_more)
+  pub room : at.place + call_total (stmt_in_front x no_more) < 2 ^ 32
+
+-- Where a sequence is, with statements to come: they come to what the whole comes to.
+pub record Walked (g : Guards) (d n k : ℕ) (s : Stmts) (at : Sequence) (t : Stmts) : Type 0 where
+  pub good : Good at
+  pub fits : Fits g.index d t
+  pub written : front (indices g) d k (first_piece g.numbers.items n s) (units g.numbers.items n s) ≡ written_with (indices g) g.numbers.items d at t
+  pub held : holds_call g.numbers.items n s ≡ (at.held || holds_call g.numbers.items at.place t)
+  pub plainly : at.held ≡ false → first_piece g.numbers.items n s ≡ first_of g.numbers.items at t
+  pub numbers : k + numbers_in (units g.numbers.items n s) ≡ at.number + numbers_in (units g.numbers.items at.place t)
+  pub places : n + call_total s ≡ at.place + call_total t

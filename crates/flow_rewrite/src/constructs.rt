@@ -122,7 +122,11 @@ pub(crate) fn put_if(
     let else_arm = second.code;
     if !either(first.held, second.held) {
         put_operand(&mut at.piece, cond)?;
-        at.piece.push(Instr::If { result: None, then_arm, else_arm })?;
+        at.piece.push(Instr::If {
+            result: None,
+            then_arm,
+            else_arm,
+        })?;
         at.place = second.place;
         return Ok(());
     }
@@ -131,7 +135,11 @@ pub(crate) fn put_if(
     let piece = raised(guards.alloc, 0, 1, &at.piece)?;
     let sought = choice(guards, first.held, second.held, first.number)?;
     put_test(&mut at.out, guards.state, Some(ValType::I32), sought, piece)?;
-    at.out.push(Instr::If { result: None, then_arm, else_arm })?;
+    at.out.push(Instr::If {
+        result: None,
+        then_arm,
+        else_arm,
+    })?;
     at.piece = Vec::new(guards.alloc);
     at.held = true;
     at.place = second.place;

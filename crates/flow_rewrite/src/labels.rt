@@ -51,12 +51,7 @@ pub(crate) fn raised(
 
 /// The instruction, with its labels raised.
 #[cycle(raised)]
-fn raised_instr(
-    alloc: Global,
-    inside: u32,
-    by: u32,
-    instr: &Instr,
-) -> Result<Instr, AllocError>
+fn raised_instr(alloc: Global, inside: u32, by: u32, instr: &Instr) -> Result<Instr, AllocError>
     requires { Raisable inside by (in_front instr.now done) }
     ensures { IfOk result (λ i. (rest : Code) → in_front i (raised inside by rest) ≡ raised inside by (in_front instr.now rest)) }
 {
