@@ -131,7 +131,7 @@ or_true : (x y : Bool) → (x || y) ≡ true → x ≡ false → y ≡ true
 or_true true y e z = cc
 or_true false y e z = e
 
-has_unit : (ps : List ℕ) (n : ℕ) (s : Stmts) → holds_call ps n s ≡ true → Some_unit (units ps n s)
+pub has_unit : (ps : List ℕ) (n : ℕ) (s : Stmts) → holds_call ps n s ≡ true → Some_unit (units ps n s)
 has_unit ps n no_more e = cc
 has_unit ps n (computes op args to rest) e = has_unit ps n rest e
 has_unit ps n (copies to from rest) e = has_unit ps n rest e

@@ -1,12 +1,12 @@
 -- The written body of a flat function: a piece runs in state 0 alone, and each numbered call has a block of its own, which a
 -- rewinding run leaves where the saved index isn't the call's.
-use Rattle.std.specs.Prelude.{ℕ, suc, ◌+◌, map, Some, None, nat_lt, if◌then◌else◌}
+use Rattle.std.specs.Prelude.{ℕ, suc, ◌+◌, List, length, map, Some, None, nat_lt, if◌then◌else◌}
 use Rattle.wa_types.specs.declared.values.ValType.TheVariants.{I32}
 use Rattle.wa_types.specs.declared.values.Value.TheVariants as V
 use Rattle.wa_types.specs.declared.operators.NumOp.TheVariants.{I32Ne, I32LtU}
 use Rattle.wa_types.specs.Syntax.{const, num, global_get, Plain, basic, local_get, local_set, br, br_if, br_table, a_block, Code, done, plain, nest, branch}
-use Rattle.wa_model.specs.Flat.{followed_by, got, set_to, slots_got}
-use Rattle.guard_form.specs.Pieces.{Units, no_unit, call_unit, nest_unit, if_unit, numbers_in, call_to}
+use Rattle.wa_model.specs.Flat.{FlatFunc, followed_by, got, set_to, slots_got}
+use Rattle.guard_form.specs.Pieces.{Units, no_unit, call_unit, nest_unit, if_unit, numbers_in, call_to, first_piece, units}
 
 -- ---- labels raised
 
@@ -88,3 +88,7 @@ function_body st restoring saving result code = by_state st restoring done (nest
 
 abbrev pub written_body : GuardIndices → (restoring saving result : Code) → (first : Code) → Units → Code
 written_body i restoring saving result first us = function_body i.state restoring saving result (front i 0 0 first us)
+
+-- The guarded code of a flat function, of which the calls at these places are numbered.
+abbrev pub guarded_code : (state : ℕ) → (places : List ℕ) → FlatFunc → Code
+guarded_code st places f = front (record { state = st; index = length f.locals }) 0 0 (first_piece places 0 f.body) (units places 0 f.body)
