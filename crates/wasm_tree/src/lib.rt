@@ -12,7 +12,7 @@ mod measures;
 mod pruning;
 
 pub use measures::{count, depth};
-pub use pruning::prune;
+pub use pruning::{copy_leaf, prune};
 
 #[cfg(test)]
 mod tests {

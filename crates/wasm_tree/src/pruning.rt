@@ -52,9 +52,9 @@ fn prune_instr(alloc: Global, instr: &Instr) -> Result<Instr, AllocError>
     }
 }
 
-// An equal instruction, of one that holds no other.
+/// An equal instruction, of one that holds no other.
 #[tactic(auto, using(crate::proofs::PruneLemmas::copying))]
-fn copy_leaf(alloc: Global, instr: &Instr) -> Result<Instr, AllocError>
+pub fn copy_leaf(alloc: Global, instr: &Instr) -> Result<Instr, AllocError>
     requires { is_leaf instr.now ≡ true }
     ensures { IfOk result (λ i. (rest : Code) → in_front i rest ≡ in_front instr.now rest) }
 {

@@ -1,7 +1,7 @@
 -- The types on a walk.
 use Rattle.std.proofs.Common.{arith, ◌≡◌, ℕ, zero, suc, ◌+◌, ◌-◌, ◌≤◌, ◌++◌, length, take, drop, reverse, List, [], ◌∷◌, Option, Some, None, Bool, true, false, if◌then◌else◌, refl, ap, sym, ◌∙◌, subst, length-drop, length-append, slice_get}
-use Rattle.std.proofs.lemmas.List.{length-reverse, reverse-append, take-append-drop, drop-append-le, drop-take, drop_all, take_all, reverse-reverse}
-use Rattle.std.proofs.Math.Seq.{drop-append_seam}
+use Rattle.std.proofs.lemmas.List.{length-take-le, length-reverse, reverse-append, take-append-drop, take-append-le, drop-append-le, drop-take, drop_all, take_all, reverse-reverse}
+use Rattle.std.proofs.Math.Seq.{drop-append_seam, take-append_seam}
 use Rattle.std.proofs.Common.{Result, Ok, Err}
 use Rattle.std.specs.Result.{OnErr}
 use Rattle.std.specs.declared.vec.Vec.{Vec}
@@ -17,7 +17,7 @@ use Rattle.wa_types.proofs.ViewLemmas.{in_block, in_loop, in_if}
 use Rattle.wasm_validate.specs.declared.table.Asks as D
 use Rattle.wasm_validate.specs.Stack.{sig_of, tested}
 use Rattle.wasm_validate.specs.Table.{plain_of, Says}
-use Rattle.wasm_validate.specs.Walk.{Walk, outset, Stays, Inside, CanTake, own_at, under_at, around_or, standing}
+use Rattle.wasm_validate.specs.Walk.{left_at, Walk, outset, Stays, Inside, CanTake, own_at, under_at, around_or, standing}
 use Rattle.wasm_tree.specs.Kinds.{is_leaf}
 use Rattle.wa_types.specs.Modules.{around}
 use Rattle.wa_types.specs.Syntax.{Func}
@@ -259,6 +259,61 @@ module _ (m : ModuleValue) (func : ℕ) (ls : List (Option ValType)) (ts : List 
   pub own_is : own_at base ts ≡ v.own
   own_is = ap (λ (w : Walk). w.own) e
 
+-- the upper part of reversed types, and the lower one
+upper : {X : Type 0} (b : ℕ) (us : List X) → b ≤ length us → take (length (reverse us) - b) (reverse us) ≡ reverse (drop b us)
+upper b us le =
+    let a = reverse (drop b us) in
+    let c = reverse (take b us) in
+    let e : reverse us ≡ a ++ c = ap reverse (sym (take-append-drop b us)) ∙ reverse-append (take b us) (drop b us) in
+    let n : length (reverse us) - b ≡ length a = omega (arith, length-reverse us, length-reverse (drop b us), length-drop b us) in
+    ap (λ k. take k (reverse us)) n ∙ ap (take (length a)) e ∙ take-append_seam a c
+
+lower : {X : Type 0} (b : ℕ) (us : List X) → b ≤ length us → drop (length (reverse us) - b) (reverse us) ≡ reverse (take b us)
+lower b us le =
+    let a = reverse (drop b us) in
+    let c = reverse (take b us) in
+    let e : reverse us ≡ a ++ c = ap reverse (sym (take-append-drop b us)) ∙ reverse-append (take b us) (drop b us) in
+    let n : length (reverse us) - b ≡ length a = omega (arith, length-reverse us, length-reverse (drop b us), length-drop b us) in
+    ap (λ k. drop k (reverse us)) n ∙ ap (drop (length a)) e ∙ drop-append_seam a c
+
+module _ (m : ModuleValue) (func : ℕ) (ls : List (Option ValType)) (ts : List ValType) (base : ℕ) (v : Walk) (e : standing m func ls ts base ≡ v) (deep : base ≤ length ts) where
+  pub entered_is : (ls' : List (Option ValType)) (l : Option ValType) (xs below : List ValType) (b : ℕ) → ls' ≡ ls ++ l ∷ [] → xs ≡ below → b ≡ length below → standing m func ls' xs b ≡ record { around = v.around; labels = l ∷ v.labels; own = []; under = reverse below }
+  entered_is ls' l xs below b f g h = ap (standing m func ls' xs) h ∙ enter_is m func ls ts base v e ls' l xs below f g
+
+  pub restarted_is : (xs : List ValType) → xs ≡ take base ts → standing m func ls xs base ≡ record { around = v.around; labels = v.labels; own = []; under = v.under }
+  restarted_is xs h =
+      let len : length (take base ts) ≡ base = length-take-le base ts deep in
+      let none : own_at base xs ≡ [] = ap (own_at base) h ∙ own_none base (take base ts) (omega (arith, len)) in
+      let same : under_at base xs ≡ v.under = ap (under_at base) h ∙ under_kept base ts (take base ts) (take_all base (take base ts) (omega (arith, len))) ∙ ap (λ (w : Walk). w.under) e in
+      (λ j. record { around = (e j).around; labels = (e j).labels; own = none j; under = same j })
+
+  pub under_is : v.under ≡ reverse (take base ts)
+  unfolding under_at
+  under_is = sym (ap (λ (w : Walk). w.under) e)
+
+  pub left_deep : (us xs rs : List ValType) (b : ℕ) → us ≡ take base ts → xs ≡ us ++ rs → b ≤ length v.under → b ≤ length xs
+  left_deep us xs rs b hu hx le = omega (arith, ap length (under_is ∙ ap reverse (sym hu)), length-reverse us, ap length hx, length-append us rs)
+
+  pub left_is : (ls' : List (Option ValType)) (r : Option ValType) (us xs rs : List ValType) (b : ℕ) → reverse ls' ≡ drop 1 (reverse ls) → us ≡ take base ts → rs ≡ listed r → xs ≡ us ++ rs → b ≤ length v.under → standing m func ls' xs b ≡ left_at r b v
+  unfolding own_at under_at
+  left_is ls' r us xs rs b f hu hr hx le =
+      let u : v.under ≡ reverse us = under_is ∙ ap reverse (sym hu) in
+      let lb : b ≤ length us = omega (arith, ap length u, length-reverse us) in
+      let own : reverse (drop b xs) ≡ listed r ++ take (length v.under - b) v.under =
+      ap (λ z. reverse (drop b z)) hx ∙ ap reverse (drop-append-le b us rs lb) ∙ reverse-append (drop b us) rs ∙ ap (λ z. reverse z ++ reverse (drop b us)) hr ∙ ap (λ z. z ++ reverse (drop b us)) (reverse_listed r)
+      ∙ ap (λ z. listed r ++ z) (sym (upper b us lb) ∙ ap (λ z. take (length z - b) z) (sym u)) in
+      let kept : take b xs ≡ take b us = ap (take b) hx ∙ take-append-le b us rs lb in
+      let under : reverse (take b xs) ≡ drop (length v.under - b) v.under = ap reverse kept ∙ sym (lower b us lb) ∙ ap (λ z. drop (length z - b) z) (sym u) in
+      let labels : reverse ls' ≡ drop 1 v.labels = f ∙ ap (λ (w : Walk). drop 1 w.labels) e in
+      (λ j. record { around = (e j).around; labels = labels j; own = own j; under = under j })
+
+-- one label less
+pub popped : (n : ℕ) (old new : List (Option ValType)) → n ≡ length old → new ≡ take (n - 1) old → reverse new ≡ drop 1 (reverse old)
+popped n [] new h e = ap reverse e ∙ ap reverse (take_all (n - 1) [] (omega arith))
+popped n (l ∷ ls) new h e =
+    let one : length (reverse (l ∷ ls)) - (n - 1) ≡ 1 = omega (arith, length-reverse (l ∷ ls)) in
+    ap reverse e ∙ sym (lower (n - 1) (l ∷ ls) (omega arith)) ∙ ap (λ k. drop k (reverse (l ∷ ls))) one
+
 pub start_is : (m : ModuleValue) (func : ℕ) (ls : List (Option ValType)) (r : Option ValType) (xs : List ValType) (f : Func) → slice_get (module_of m).funcs func ≡ Some f → ls ≡ [] ++ r ∷ [] → r ≡ (around (module_of m) f).result → xs ≡ [] → standing m func ls xs 0 ≡ outset (around (module_of m) f)
 start_is m func ls r xs f g e s h =
     let a : around_or (module_of m) (slice_get (module_of m).funcs func) ≡ around (module_of m) f = ap (around_or (module_of m)) g in
@@ -270,6 +325,13 @@ start_is m func ls r xs f g e s h =
 pub says_at : (a b : Around) (ls ks : List (Option ValType)) (x : Instr) (s : D.Asks) → a ≡ b → ls ≡ ks → Says (plain_of x) (λ p. sig_of s ≡ sig a ls p) → Says (plain_of x) (λ p. sig_of s ≡ sig b ks p)
 says_at a b ls ks x s e f h =
     subst (λ (z : Around). Says (plain_of x) (λ p. sig_of s ≡ sig z ks p)) e (subst (λ (z : List (Option ValType)). Says (plain_of x) (λ p. sig_of s ≡ sig a z p)) f h)
+
+-- a walk's count of the operands below
+pub under_long : (b : ℕ) (xs : List ValType) → b ≤ length xs → b ≡ length (under_at b xs)
+unfolding under_at
+under_long b xs h = omega (arith, length-reverse (take b xs), length-take-le b xs h)
+
+pub ruleset outer = (under_long, under_long)
 
 pub ruleset insides = (inside_block, inside_loop)
 

@@ -1,10 +1,10 @@
 -- Where a walk over code stands, and what lies ahead.
-use Rattle.std.specs.Prelude.{◌≡◌, ℕ, List, [], ◌∷◌, ◌++◌, reverse, take, drop, Option, Some, None, false, slice_get}
+use Rattle.std.specs.Prelude.{◌≡◌, ℕ, ◌-◌, List, [], ◌∷◌, ◌++◌, length, reverse, take, drop, Option, Some, None, false, slice_get}
 use Rattle.wa_types.specs.declared.values.ValType.{ValType}
 use Rattle.wa_types.specs.declared.syntax.Module.{Module as ModuleValue}
 use Rattle.wa_types.specs.View.{module_of}
 use Rattle.wa_types.specs.Syntax.{Code, nest, branch, Func, Module}
-use Rattle.wa_types.specs.Typing.{Around, Sig, Takes, Types, label}
+use Rattle.wa_types.specs.Typing.{Around, Sig, Takes, Types, label, listed}
 use Rattle.wa_types.specs.Modules.{around}
 
 -- What stands around the function's body; the labels, the innermost first; the operands of the innermost
@@ -57,4 +57,13 @@ standing m func labels types base = record {
   labels = reverse labels;
   own = own_at base types;
   under = under_at base types;
+}
+
+-- Behind the innermost construct, which has this result, where so many operands lie below those of the construct around it.
+abbrev pub left_at : Option ValType → (base : ℕ) → Walk → Walk
+left_at r base w = record {
+  around = w.around;
+  labels = drop 1 w.labels;
+  own = listed r ++ take (length w.under - base) w.under;
+  under = drop (length w.under - base) w.under;
 }

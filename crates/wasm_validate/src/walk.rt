@@ -1,18 +1,18 @@
-ghost use Rattle.std.specs.Prelude.{◌≡◌, ◌+◌, ◌≤◌, [], ◌∷◌, ◌++◌, drop, false, length, reverse, take, Some, IfOk, IsOk, OnErr};
+ghost use Rattle.std.specs.Prelude.{◌≡◌, ◌+◌, ◌≤◌, [], ◌∷◌, ◌++◌, drop, false, length, reverse, slice_get, take, None, Some, IfOk, IsOk, MatchOption, OnErr, OnOk};
 ghost use Rattle.std.specs.Vec.{vec_capacity, vec_len};
 ghost use Rattle.wa_types.specs.Modules.{around, defined_at};
 ghost use Rattle.wa_types.specs.Syntax.{done, Func as PlainFunc};
 ghost use Rattle.wa_types.specs.Typing.{Takes, Types};
-ghost use Rattle.wa_types.specs.View.{in_front, module_of};
+ghost use Rattle.wa_types.specs.View.{func_type_of, in_front, module_of};
 ghost use Rattle.wasm_tree.specs.Kinds.{is_leaf};
 ghost use Rattle.wasm_validate.specs.Stack.{sig_of, tested};
-ghost use Rattle.wasm_validate.specs.Walk.{outset, own_at, under_at, CanTake, Inside, Stays, TypedAt};
+ghost use Rattle.wasm_validate.specs.Walk.{left_at, outset, own_at, under_at, CanTake, Inside, Stays, TypedAt};
 
 use crate::table::{Asks, asks_at, listing};
 use crate::valid::Valid;
 use std::alloc::{AllocError, Global};
 use std::marker::Model;
-use wa_types::{Instr, ValType};
+use wa_types::{FuncType, Instr, ValType};
 
 /// A walk of the types of operands over the pruned body of a function. Contracts see where it stands: what stands
 /// around the body, the labels, and the operands of the innermost construct and those below them.
@@ -175,6 +175,78 @@ impl<'m> Typing<'m> {
                 Ok(())
             }
         }
+    }
+
+    /// How many operands lie below those of the innermost construct.
+    #[tactic(auto, using(crate::proofs::Walks::outer))]
+    pub fn base(&self) -> usize
+        ensures { result ≡ length self.now.under }
+    {
+        self.base
+    }
+
+    /// The type of the function of this index.
+    #[tactic(auto, using(crate::proofs::Walks::outer))]
+    pub fn func_type(&self, func: u32) -> Option<&'m FuncType>
+        ensures { MatchOption result (slice_get self.now.around.funcs func ≡ None) (λ t. slice_get self.now.around.funcs func ≡ Some (func_type_of t.now)) }
+    {
+        self.valid.context(self.func).func(func)
+    }
+
+    /// The function type of this index.
+    #[tactic(auto, using(crate::proofs::Walks::outer))]
+    pub fn sort(&self, sort: u32) -> Option<&'m FuncType>
+        ensures { MatchOption result (slice_get self.now.around.types sort ≡ None) (λ t. slice_get self.now.around.types sort ≡ Some (func_type_of t.now)) }
+    {
+        self.valid.context(self.func).sort(sort)
+    }
+
+    /// Goes on at the beginning of the body, or of each arm, of a block, loop or if, which is typed where the walk
+    /// stands. Unlike `inside` it copies nothing. `leave` goes on behind the construct.
+    pub fn enter(&mut self, instr: &Instr) -> Result<(), AllocError>
+        requires typed { TypedAt self.old (in_front instr.now done) }
+        requires opens { is_leaf instr.now ≡ false }
+        ensures { OnOk result (Inside self.old (in_front instr.now done) self.new) }
+    {
+        match instr {
+            Instr::Block { result, .. } => {
+                self.labels.push(*result)?;
+                self.base = self.types.len();
+                Ok(())
+            }
+            Instr::Loop { .. } => {
+                self.labels.push(None)?;
+                self.base = self.types.len();
+                Ok(())
+            }
+            Instr::If { result, .. } => {
+                self.labels.push(*result)?;
+                self.base = self.types.len() - 1;
+                self.types.truncate(self.base);
+                Ok(())
+            }
+            _ => unreachable!(),
+        }
+    }
+
+    /// Goes back to the beginning of the innermost construct's body, for its other arm.
+    pub fn restart(&mut self)
+        ensures { self.new ≡ record { around = self.old.around; labels = self.old.labels; own = []; under = self.old.under } }
+    {
+        self.types.truncate(self.base);
+    }
+
+    /// Goes on behind the innermost construct, which has this result: so many operands lay below those of the construct
+    /// around it.
+    pub fn leave(&mut self, given: Option<ValType>, base: usize) -> Result<(), AllocError>
+        requires { base ≤ length self.old.under }
+        ensures { OnOk result (self.new ≡ left_at given base self.old) }
+    {
+        let _inner = self.labels.pop();
+        self.types.truncate(self.base);
+        self.types.extend_from_slice(listing(given))?;
+        self.base = base;
+        Ok(())
     }
 
     /// A walk at the beginning of the body, or of each arm, of a block, loop or if, which is typed where this one
