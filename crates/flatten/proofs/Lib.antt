@@ -1,0 +1,5 @@
+mod CarryLemmas
+mod LeafLemmas
+mod NumberLemmas
+mod OntoLemmas
+mod PositionLemmas

@@ -1,0 +1,7 @@
+//! Flattening: each operand of a function gets a local of its own, its slot, so that no operand stands on the stack between two
+//! statements.
+#![tactic(auto)]
+
+mod numbers;
+mod position;
+mod leaves;
