@@ -16,7 +16,7 @@ slots_all : (xs : List ℕ) (code : Code) → slots_got xs code ≡ all_got (map
 slots_all [] code = refl
 slots_all (x ∷ xs) code = ap (plain (local_get x)) (slots_all xs code)
 
-last_reverse : (k : ℕ) (xs : List ℕ) → k ≤ length xs → last_of k (reverse xs) ≡ reverse (take k xs)
+pub last_reverse : (k : ℕ) (xs : List ℕ) → k ≤ length xs → last_of k (reverse xs) ≡ reverse (take k xs)
 last_reverse k xs le =
     let front : List ℕ = reverse (drop k xs) in
     let back : List ℕ = reverse (take k xs) in

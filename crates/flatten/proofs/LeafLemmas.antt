@@ -5,18 +5,22 @@ use Rattle.std.proofs.lemmas.Option.{slice_get_within}
 use Rattle.wa_types.specs.declared.values.ValType.{ValType}
 use Rattle.wa_types.specs.declared.instrs.Instr.{Instr}
 use Rattle.wa_types.specs.declared.instrs.Instr.TheVariants.{BrIf, LocalGet, LocalSet, LocalTee}
-use Rattle.wa_types.specs.Syntax.{Plain, br_if, local_get, local_set, local_tee, Code, done, plain}
+use Rattle.wa_types.specs.Syntax.{Basic, basic, Plain, br_if, local_get, local_set, local_tee, Code, done, plain}
 use Rattle.wa_types.specs.View.{in_front}
 use Rattle.wa_types.specs.Pruned.{is_last}
 use Rattle.wa_types.specs.Typing.{Around, sig, may_jump, Takes, Types, gets, sets, tees}
 use Rattle.wa_types.specs.Points.{after}
 use Rattle.wasm_validate.specs.Walk.{Walk, Stays, TypedAt}
 use Rattle.wa_model.specs.declared.flat.Stmt.{Stmt}
-use Rattle.wa_model.specs.declared.flat.Stmt.TheVariants.{Move, BrIf as JumpIf}
+use Rattle.wa_model.specs.declared.flat.Stmt.TheVariants.{Move, Plain as Computes, BrIf as JumpIf}
+use Rattle.std.specs.declared.vec.Vec.{Vec}
+use Rattle.std.specs.declared.alloc.Global.{Global}
+use Rattle.wa_model.specs.Store.{takes, gives}
+use Rattle.wa_model.specs.declared.flat.Operand.{Operand}
 use Rattle.wa_model.specs.declared.flat.Operand.TheVariants.{Local}
-use Rattle.wa_model.specs.Flat.{Stmts, copies, leaps_if}
+use Rattle.wa_model.specs.Flat.{Stmts, computes, copies, leaps_if}
 use Rattle.wa_model.specs.FlatView.{stmt_in_front}
-use Rattle.flat_laws.specs.Flatten.{Names, slots, top, carry, flat, flat_plain}
+use Rattle.flat_laws.specs.Flatten.{Names, slots, top, top_of, carry, flat, flat_plain}
 use Rattle.flat_laws.proofs.OperandTypes.{after_all}
 use Rattle.flatten.proofs.OntoLemmas.{onto_more}
 use Rattle.flatten.specs.Emitting.{onto_stmts, all_of, flat_at, carried_to, first_or, label_locals, Ready, Put}
@@ -130,3 +134,10 @@ branched_if n ls locals old mid new condition l from ops k el h e ec ef =
     ap (λ z. onto_stmts z k) e ∙ onto_more mid (JumpIf (Local condition) l) k ∙ h (leaps_if (Local condition) l k) ∙ ap (λ y. onto_stmts old (carried_to (slice_get locals l) from (leaps_if (Local y) l k))) ec
     ∙ ap (λ y. onto_stmts old (carried_to (slice_get locals l) y (leaps_if (Local (top n ops)) l k))) ef ∙ ap (λ xs. onto_stmts old (carried_to (slice_get xs l) (top n (drop 1 ops)) (leaps_if (Local (top n ops)) l k))) el
     ∙ ap (onto_stmts old) (carry_is n ls (drop 1 ops) l (leaps_if (Local (top n ops)) l k))
+
+pub computed_is : (n : Names) (b : Basic) (old new : List Stmt) (op : Instr) (args : Vec Operand Global) (to : Option ℕ) (ops behind : List ValType) (k : Stmts) → ((rest : Code) → in_front op rest ≡ plain (basic b) rest) → new ≡ old ++ Computes op args to ∷ []
+    → args.items ≡ map Local (reverse (take (takes b) (slots n ops))) → to ≡ top_of n (gives b) behind → onto_stmts new k ≡ onto_stmts old (computes (plain (basic b) done) (map Local (reverse (take (takes b) (slots n ops)))) (top_of n (gives b) behind) k)
+unfolding stmt_in_front
+computed_is n b old new op args to ops behind k eo e ea et =
+    ap (λ z. onto_stmts z k) e ∙ onto_more old (Computes op args to) k ∙ ap (λ z. onto_stmts old (computes z args.items to k)) (eo done)
+    ∙ ap (λ z. onto_stmts old (computes (plain (basic b) done) z to k)) ea ∙ ap (λ z. onto_stmts old (computes (plain (basic b) done) (map Local (reverse (take (takes b) (slots n ops)))) z k)) et

@@ -1,5 +1,7 @@
+mod BasicLemmas
 mod CarryLemmas
 mod LeafLemmas
 mod NumberLemmas
 mod OntoLemmas
 mod PositionLemmas
+mod TakenLemmas

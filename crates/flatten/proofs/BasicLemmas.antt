@@ -1,0 +1,65 @@
+-- Which instructions take no part in control and access no local.
+use Rattle.std.proofs.Common.{◌≡◌, Option, Some, None, Bool, true, false, refl, ap}
+use Rattle.wa_types.specs.declared.instrs.Instr.{Instr}
+use Rattle.wa_types.specs.declared.instrs.Instr.TheVariants.{Unreachable, Nop, Drop, Select, Return, MemorySize, MemoryGrow, Const, Num, Br, BrIf, BrTable, Call, CallIndirect, LocalGet, LocalSet, LocalTee, GlobalGet, GlobalSet, Load, Store, Block', Loop', If'}
+use Rattle.wa_types.specs.Syntax.{Basic, basic, Code, plain}
+use Rattle.wa_types.specs.View.{in_front}
+use Rattle.wasm_tree.specs.Kinds.{is_leaf}
+use Rattle.flatten.specs.Emitting.{basic_of}
+
+same_basic : (a b : Basic) (rest : Code) → Some a ≡ Some b → plain (basic a) rest ≡ plain (basic b) rest
+same_basic a b rest e = let f : a ≡ b = cc in ap (λ z. plain (basic z) rest) f
+
+pub is_basic : (i : Instr) (b : Basic) → basic_of i ≡ Some b → (rest : Code) → in_front i rest ≡ plain (basic b) rest
+unfolding basic_of in_front
+is_basic Unreachable b e rest = absurd (cc)
+is_basic Nop b e rest = same_basic _ b rest e
+is_basic Drop b e rest = same_basic _ b rest e
+is_basic Select b e rest = same_basic _ b rest e
+is_basic Return b e rest = absurd (cc)
+is_basic MemorySize b e rest = same_basic _ b rest e
+is_basic MemoryGrow b e rest = same_basic _ b rest e
+is_basic (Const v) b e rest = same_basic _ b rest e
+is_basic (Num op) b e rest = same_basic _ b rest e
+is_basic (Br l) b e rest = absurd (cc)
+is_basic (BrIf l) b e rest = absurd (cc)
+is_basic (BrTable ls l) b e rest = absurd (cc)
+is_basic (Call x) b e rest = absurd (cc)
+is_basic (CallIndirect x) b e rest = absurd (cc)
+is_basic (LocalGet x) b e rest = absurd (cc)
+is_basic (LocalSet x) b e rest = absurd (cc)
+is_basic (LocalTee x) b e rest = absurd (cc)
+is_basic (GlobalGet x) b e rest = same_basic _ b rest e
+is_basic (GlobalSet x) b e rest = same_basic _ b rest e
+is_basic (Load op align offset) b e rest = same_basic _ b rest e
+is_basic (Store op align offset) b e rest = same_basic _ b rest e
+is_basic (Block' r s k) b e rest = absurd (cc)
+is_basic (Loop' r s k) b e rest = absurd (cc)
+is_basic (If' r s k t l) b e rest = absurd (cc)
+
+pub basic_leaf : (i : Instr) (b : Basic) → basic_of i ≡ Some b → is_leaf i ≡ true
+unfolding basic_of is_leaf
+basic_leaf Unreachable b e = refl
+basic_leaf Nop b e = refl
+basic_leaf Drop b e = refl
+basic_leaf Select b e = refl
+basic_leaf Return b e = refl
+basic_leaf MemorySize b e = refl
+basic_leaf MemoryGrow b e = refl
+basic_leaf (Const v) b e = refl
+basic_leaf (Num op) b e = refl
+basic_leaf (Br l) b e = refl
+basic_leaf (BrIf l) b e = refl
+basic_leaf (BrTable ls l) b e = refl
+basic_leaf (Call x) b e = refl
+basic_leaf (CallIndirect x) b e = refl
+basic_leaf (LocalGet x) b e = refl
+basic_leaf (LocalSet x) b e = refl
+basic_leaf (LocalTee x) b e = refl
+basic_leaf (GlobalGet x) b e = refl
+basic_leaf (GlobalSet x) b e = refl
+basic_leaf (Load op align offset) b e = refl
+basic_leaf (Store op align offset) b e = refl
+basic_leaf (Block' r s k) b e = absurd (cc)
+basic_leaf (Loop' r s k) b e = absurd (cc)
+basic_leaf (If' r s k t l) b e = absurd (cc)
