@@ -1,9 +1,12 @@
 -- Which instructions take no part in control and access no local.
-use Rattle.std.proofs.Common.{◌≡◌, Option, Some, None, Bool, true, false, refl, ap}
+use Rattle.std.proofs.Common.{◌≡◌, ℕ, Option, Some, None, Bool, true, false, refl, ap}
 use Rattle.wa_types.specs.declared.instrs.Instr.{Instr}
 use Rattle.wa_types.specs.declared.instrs.Instr.TheVariants.{Unreachable, Nop, Drop, Select, Return, MemorySize, MemoryGrow, Const, Num, Br, BrIf, BrTable, Call, CallIndirect, LocalGet, LocalSet, LocalTee, GlobalGet, GlobalSet, Load, Store, Block', Loop', If'}
 use Rattle.wa_types.specs.Syntax.{Basic, basic, Code, plain}
 use Rattle.wa_types.specs.View.{in_front}
+use Rattle.wa_types.specs.Pruned.{is_last_instr}
+use Rattle.std.specs.declared.vec.Vec.{Vec}
+use Rattle.std.specs.declared.alloc.Global.{Global}
 use Rattle.wasm_tree.specs.Kinds.{is_leaf}
 use Rattle.flatten.specs.Emitting.{basic_of}
 
@@ -63,3 +66,31 @@ basic_leaf (Store op align offset) b e = refl
 basic_leaf (Block' r s k) b e = absurd (cc)
 basic_leaf (Loop' r s k) b e = absurd (cc)
 basic_leaf (If' r s k t l) b e = absurd (cc)
+
+-- one of the four behind which control never goes on
+pub last_one : (i : Instr) → is_last_instr i ≡ true → (i ≡ Unreachable → ⊥) → (i ≡ Return → ⊥) → ((l : ℕ) → i ≡ Br l → ⊥) → ((ts : Vec ℕ Global) (l : ℕ) → i ≡ BrTable ts l → ⊥) → ⊥
+unfolding is_last_instr
+last_one Unreachable e a b d f = a refl
+last_one Nop e a b d f = cc
+last_one Drop e a b d f = cc
+last_one Select e a b d f = cc
+last_one Return e a b d f = b refl
+last_one MemorySize e a b d f = cc
+last_one MemoryGrow e a b d f = cc
+last_one (Const v) e a b d f = cc
+last_one (Num op) e a b d f = cc
+last_one (Br l) e a b d f = d l refl
+last_one (BrIf l) e a b d f = cc
+last_one (BrTable ls l) e a b d f = f ls l refl
+last_one (Call x) e a b d f = cc
+last_one (CallIndirect x) e a b d f = cc
+last_one (LocalGet x) e a b d f = cc
+last_one (LocalSet x) e a b d f = cc
+last_one (LocalTee x) e a b d f = cc
+last_one (GlobalGet x) e a b d f = cc
+last_one (GlobalSet x) e a b d f = cc
+last_one (Load op align offset) e a b d f = cc
+last_one (Store op align offset) e a b d f = cc
+last_one (Block' r s k) e a b d f = cc
+last_one (Loop' r s k) e a b d f = cc
+last_one (If' r s k t l) e a b d f = cc

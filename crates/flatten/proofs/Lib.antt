@@ -1,6 +1,11 @@
 mod BasicLemmas
+mod BodyLemmas
+mod CallLemmas
 mod CarryLemmas
+mod ConstructLemmas
+mod JumpLemmas
 mod LeafLemmas
+mod NestLemmas
 mod NumberLemmas
 mod OntoLemmas
 mod PositionLemmas

@@ -14,19 +14,9 @@ use Rattle.wa_model.proofs.FittingActs.{got_moves, set_moves, load_moves, store_
 use Rattle.wa_model.specs.Flat.{last_of}
 use Rattle.flat_laws.specs.Flatten.{Names, slots, top, top_of}
 use Rattle.flat_laws.proofs.GotLemmas.{last_reverse}
-use Rattle.flatten.specs.Emitting.{all_of, bit, HoldsBut}
+use Rattle.flatten.specs.Emitting.{all_of, bit, Given, Changed, HoldsBut}
 use Rattle.flatten.specs.declared.position.Position.{Position}
 use Rattle.flatten.proofs.PositionLemmas.{slots_long, slots_drop}
-
--- at most one is given in front of these
-abbrev pub Given : ℕ → (all rest : List ValType) → Type 0
-Given zero all rest = all ≡ rest
-Given (suc k) all rest = (t : ValType) × (all ≡ t ∷ rest)
-
--- so many operands are there, and at most one stands in front of the others afterwards
-pub record Changed (k given : ℕ) (all new : List ValType) : Type 0 where
-  pub there : k ≤ length all
-  pub then_all : Given given new (drop k all)
 
 moved : (ps own mids under : List ValType) → Takes (moves ps []) own mids → Changed (length ps) 0 (own ++ under) (mids ++ under)
 moved ps own mids under h =

@@ -1,18 +1,19 @@
 -- Where flattening stands in a body, and the statements that it puts.
-use Rattle.std.specs.Prelude.{◌≡◌, ℕ, suc, ◌<◌, ◌≤◌, ◌^◌, ◌++◌, List, [], ◌∷◌, length, reverse, Option, Some, None, Bool, true, false, slice_get}
+use Rattle.std.specs.Prelude.{◌≡◌, ℕ, suc, ◌<◌, ◌≤◌, ◌^◌, ◌++◌, zero, List, [], ◌∷◌, length, reverse, drop as without, Option, Some, None, Bool, true, false, slice_get}
 use Rattle.wa_types.specs.declared.values.ValType.{ValType}
 use Rattle.wa_types.specs.declared.instrs.Instr.{Instr}
 use Rattle.wa_types.specs.declared.instrs.Instr.TheVariants.{Nop, Drop, Select, MemorySize, MemoryGrow, Const, Num, GlobalGet, GlobalSet, Load, Store}
-use Rattle.wa_types.specs.Syntax.{Basic, nop, drop, select, const, num, global_get, global_set, load, store, memory_size, memory_grow, Code, done, FuncType}
+use Rattle.wa_types.specs.Syntax.{Basic, nop, drop, select, const, num, global_get, global_set, load, store, memory_size, memory_grow, Plain, Code, done, plain, FuncType, a_block, a_loop}
 use Rattle.wa_types.specs.View.{in_front}
-use Rattle.wa_types.specs.Typing.{Around, Types}
+use Rattle.wa_types.specs.Typing.{Around, listed, sig, Takes, Types}
+use Rattle.wa_types.specs.Pruned.{is_last}
 use Rattle.wa_types.specs.Modules.{or_empty}
 use Rattle.wasm_validate.specs.Walk.{Walk, Stays}
 use Rattle.wa_model.specs.declared.flat.Stmt.{Stmt}
 use Rattle.wa_model.specs.declared.flat.Operand.TheVariants.{Local}
-use Rattle.wa_model.specs.Flat.{Stmts, no_more, copies}
-use Rattle.wa_model.specs.FlatView.{stmt_in_front}
-use Rattle.flat_laws.specs.Flatten.{Names, slots, result_local, flat}
+use Rattle.wa_model.specs.Flat.{Stmts, no_more, copies, calls, nests, decides}
+use Rattle.wa_model.specs.FlatView.{stmt_in_front, stmts}
+use Rattle.flat_laws.specs.Flatten.{Names, slots, top_of, arrive, result_local, flat, flat_plain}
 use Rattle.flatten.specs.declared.position.Position.{Position}
 
 -- a list of statements, and then others
@@ -104,3 +105,51 @@ basic_of (GlobalSet x) = Some (global_set x)
 basic_of (Load op align offset) = Some (load op align offset)
 basic_of (Store op align offset) = Some (store op align offset)
 basic_of _ = None
+
+-- at most one is given in front of these
+abbrev pub Given : ℕ → (all rest : List ValType) → Type 0
+Given zero all rest = all ≡ rest
+Given (suc k) all rest = (t : ValType) × (all ≡ t ∷ rest)
+
+-- so many operands are there, and at most one stands in front of the others afterwards
+pub record Changed (k given : ℕ) (all new : List ValType) : Type 0 where
+  pub there : k ≤ length all
+  pub then_all : Given given new (without k all)
+
+-- What a call takes of the operands where a walk stands, so many, and whether it has a result; and the statement that it is.
+pub record CallAt (n : Names) (v : Walk) (i : Instr) (taken : ℕ) (given : Bool) : Type 0 where
+  pub call : Plain
+  pub is : (rest : Code) → in_front i rest ≡ plain call rest
+  pub goes_on : is_last call ≡ false
+  pub there : taken ≤ length (all_of v)
+  pub changed : (mids : List ValType) → Takes (sig v.around v.labels call) v.own mids → Changed taken (bit given) (all_of v) (mids ++ v.under)
+  pub flat_is : (behind : List ValType) (rest : Stmts) → flat_plain n v.around v.labels (all_of v) behind call rest ≡ calls (plain call done) (reverse (slots n (all_of v))) taken (top_of n (bit given) behind) rest
+
+-- ---- constructs
+
+-- Behind a construct with this result: all operands but the result have their slots.
+abbrev pub ArrivesAt : Names → Option ValType → Position → Type 0
+ArrivesAt n given p = (rest : List ValType) × (all_of p.typing ≡ listed given ++ rest) × (reverse p.slots.items ≡ slots n rest)
+
+-- the result has its slot too, and nothing else changed
+pub record HeldToo (n : Names) (p q : Position) : Type 0 where
+  pub typing : q.typing ≡ p.typing
+  pub labels : q.labels.items ≡ p.labels.items
+  pub held : reverse q.slots.items ≡ slots n (all_of p.typing)
+
+-- what goes behind a construct is put
+pub record Closed (n : Names) (given : Option ValType) (p q : Position) (old new : List Stmt) : Type 0 where
+  pub now : HeldToo n p q
+  pub puts : (rest : List ValType) (k : Stmts) → all_of p.typing ≡ listed given ++ rest → onto_stmts new k ≡ onto_stmts old (arrive n (length p.labels.items) given rest k)
+
+pub record PutBlock (n : Names) (given : Option ValType) (inner : List Stmt) (p q : Position) (old new : List Stmt) : Type 0 where
+  pub now : HeldToo n p q
+  pub puts : (rest : List ValType) (k : Stmts) → all_of p.typing ≡ listed given ++ rest → onto_stmts new k ≡ onto_stmts old (nests a_block (stmts inner) (arrive n (length p.labels.items) given rest k))
+
+pub record PutLoop (n : Names) (inner : List Stmt) (p q : Position) (old new : List Stmt) : Type 0 where
+  pub now : HeldToo n p q
+  pub puts : (k : Stmts) → onto_stmts new k ≡ onto_stmts old (nests a_loop (stmts inner) k)
+
+pub record PutIf (n : Names) (given : Option ValType) (condition : ℕ) (then_arm else_arm : List Stmt) (p q : Position) (old new : List Stmt) : Type 0 where
+  pub now : HeldToo n p q
+  pub puts : (rest : List ValType) (k : Stmts) → all_of p.typing ≡ listed given ++ rest → onto_stmts new k ≡ onto_stmts old (decides (Local condition) (stmts then_arm) (stmts else_arm) (arrive n (length p.labels.items) given rest k))

@@ -4,4 +4,7 @@
 
 mod numbers;
 mod position;
+mod calls;
+mod constructs;
+mod jumps;
 mod leaves;
