@@ -94,3 +94,32 @@ last_one (Store op align offset) e a b d f = cc
 last_one (Block' r s k) e a b d f = cc
 last_one (Loop' r s k) e a b d f = cc
 last_one (If' r s k t l) e a b d f = cc
+
+-- what holds no other, goes on and is none of these takes no part in control and accesses no local
+pub leaf_other : (i : Instr) → is_leaf i ≡ true → is_last_instr i ≡ false → basic_of i ≡ None → ((l : ℕ) → i ≡ BrIf l → ⊥) → ((x : ℕ) → i ≡ Call x → ⊥) → ((x : ℕ) → i ≡ CallIndirect x → ⊥)
+    → ((x : ℕ) → i ≡ LocalGet x → ⊥) → ((x : ℕ) → i ≡ LocalSet x → ⊥) → ((x : ℕ) → i ≡ LocalTee x → ⊥) → ⊥
+unfolding is_leaf is_last_instr basic_of
+leaf_other Unreachable a b c p q r t u v = cc
+leaf_other Nop a b c p q r t u v = cc
+leaf_other Drop a b c p q r t u v = cc
+leaf_other Select a b c p q r t u v = cc
+leaf_other Return a b c p q r t u v = cc
+leaf_other MemorySize a b c p q r t u v = cc
+leaf_other MemoryGrow a b c p q r t u v = cc
+leaf_other (Const y) a b c p q r t u v = cc
+leaf_other (Num op) a b c p q r t u v = cc
+leaf_other (Br l) a b c p q r t u v = cc
+leaf_other (BrIf l) a b c p q r t u v = p l refl
+leaf_other (BrTable ls l) a b c p q r t u v = cc
+leaf_other (Call x) a b c p q r t u v = q x refl
+leaf_other (CallIndirect x) a b c p q r t u v = r x refl
+leaf_other (LocalGet x) a b c p q r t u v = t x refl
+leaf_other (LocalSet x) a b c p q r t u v = u x refl
+leaf_other (LocalTee x) a b c p q r t u v = v x refl
+leaf_other (GlobalGet x) a b c p q r t u v = cc
+leaf_other (GlobalSet x) a b c p q r t u v = cc
+leaf_other (Load op align offset) a b c p q r t u v = cc
+leaf_other (Store op align offset) a b c p q r t u v = cc
+leaf_other (Block' y s k) a b c p q r t u v = cc
+leaf_other (Loop' y s k) a b c p q r t u v = cc
+leaf_other (If' y s k z l) a b c p q r t u v = cc

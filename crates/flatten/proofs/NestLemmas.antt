@@ -21,9 +21,10 @@ use Rattle.wa_model.specs.Flat.{Stmts, nests, decides}
 use Rattle.wa_model.specs.FlatView.{stmts}
 use Rattle.flat_laws.specs.Flatten.{Names, slots, top, arrive, flat}
 use Rattle.flatten.specs.declared.position.Position.{Position}
-use Rattle.flatten.specs.Emitting.{onto_stmts, all_of, flat_at, label_locals, result_at, ArrivesAt, HeldToo, PutBlock, PutLoop, PutIf, Put, Ready}
+use Rattle.flatten.specs.Emitting.{onto_stmts, all_of, flat_at, label_locals, result_at, ArrivesAt, HeldToo, PutBlock, PutLoop, PutIf, Put, Ready, SmallTypes}
 use Rattle.flatten.proofs.CarryLemmas.{locals_long}
-use Rattle.flatten.proofs.PositionLemmas.{slots_long}
+use Rattle.flatten.proofs.PositionLemmas.{slots_drop, slots_long}
+use Rattle.flatten.proofs.TakenLemmas.{kept_reversed}
 
 module _ (n : Names) (v : Walk) (lab given : Option ValType) (own0 : List ValType) where
   -- inside the construct, and behind it
@@ -40,6 +41,12 @@ module _ (n : Names) (v : Walk) (lab given : Option ValType) (own0 : List ValTyp
       let under : drop (length (own0 ++ v.under) - base) (own0 ++ v.under) ≡ v.under = ap (λ j. drop j (own0 ++ v.under)) k ∙ drop-append_seam own0 v.under in
       (λ j. record { around = v.around; labels = v.labels; own = own j; under = under j })
 
+  pub left_same : (q : Walk) (base : ℕ) → Stays inner q → left_at given base q ≡ left_at given base inner
+  left_same q base st =
+      let own : listed given ++ take (length q.under - base) q.under ≡ listed given ++ take (length (own0 ++ v.under) - base) (own0 ++ v.under) = ap (λ z. listed given ++ take (length z - base) z) st.under in
+      let under : drop (length q.under - base) q.under ≡ drop (length (own0 ++ v.under) - base) (own0 ++ v.under) = ap (λ z. drop (length z - base) z) st.under in
+      (λ j. record { around = st.around j; labels = drop 1 (st.labels j); own = own j; under = under j })
+
   module _ (ss : List ℕ) (ls : List (Option ℕ)) (held : reverse ss ≡ slots n (own0 ++ v.under)) (labels : reverse ls ≡ label_locals n v.labels) where
     pub labels_count : length ls ≡ length v.labels
     labels_count = sym (length-reverse ls) ∙ ap length labels ∙ locals_long n v.labels
@@ -54,20 +61,26 @@ module _ (n : Names) (v : Walk) (lab given : Option ValType) (own0 : List ValTyp
       pub typing : r.typing ≡ outer
       pub labels_are : reverse r.labels.items ≡ label_locals n v.labels
       pub arrives : ArrivesAt n given r
+      pub arrives_all : all_of r.typing ≡ listed given ++ (own0 ++ v.under)
 
-    pub closed : (q r : Position) (base height : ℕ) → Ready n q → q.typing ≡ inner → base ≡ length v.under → height ≡ length ss → r.typing ≡ left_at given base q.typing → r.slots.items ≡ take height q.slots.items → reverse r.labels.items ≡ drop 1 (reverse q.labels.items) → ClosedAt r
-    closed q r base height rd e eb eh et es el =
-        let ty : r.typing ≡ outer = et ∙ ap (left_at given base) e ∙ left_outer base eb in
-        let qs : reverse q.slots.items ≡ slots n (own0 ++ v.under) = rd.held ∙ ap (λ (w : Walk). slots n (all_of w)) e in
-        let long : length q.slots.items ≡ height = omega (arith, length-reverse q.slots.items, ap length qs, ap length held, length-reverse ss, eh) in
+    pub closed : (q r : Position) (base height : ℕ) → Ready n q → Stays inner q.typing → base ≡ length v.under → height ≡ length ss → r.typing ≡ left_at given base q.typing → r.slots.items ≡ take height q.slots.items → reverse r.labels.items ≡ drop 1 (reverse q.labels.items) → ClosedAt r
+    closed q r base height rd st eb eh et es el =
+        let k : ℕ = length q.typing.own in
+        let under : q.typing.under ≡ own0 ++ v.under = st.under in
+        let ty : r.typing ≡ outer = et ∙ left_same q.typing base st ∙ left_outer base eb in
+        let count : height ≡ length q.typing.under = omega (arith, eh, length-reverse ss, ap length held, slots_long n (own0 ++ v.under), ap length under) in
+        let long : height + k ≡ length q.slots.items = omega (arith, count, length-reverse q.slots.items, ap length rd.held, slots_long n (all_of q.typing), length-append q.typing.own q.typing.under) in
+        let kept : reverse r.slots.items ≡ slots n (own0 ++ v.under) =
+        ap reverse es ∙ kept_reversed height k q.slots.items long ∙ ap (drop k) rd.held ∙ slots_drop n k (all_of q.typing) ∙ ap (slots n) (drop-append_seam q.typing.own q.typing.under ∙ under) in
         record {
           typing = ty;
-          labels_are = el ∙ ap (drop 1) (rd.labels ∙ ap (λ (w : Walk). label_locals n w.labels) e);
-          arrives = (own0 ++ v.under, ap (λ (w : Walk). all_of w) ty ∙ append_assoc (listed given) own0 v.under, ap reverse (es ∙ take_all height q.slots.items (omega (arith, long))) ∙ qs);
+          labels_are = el ∙ ap (drop 1) (rd.labels ∙ ap (label_locals n) st.labels);
+          arrives = (own0 ++ v.under, ap (λ (w : Walk). all_of w) ty ∙ append_assoc (listed given) own0 v.under, kept);
+          arrives_all = ap (λ (w : Walk). all_of w) ty ∙ append_assoc (listed given) own0 v.under;
         }
 
-    pub base_within : (q : Position) (base : ℕ) → q.typing ≡ inner → base ≡ length v.under → base ≤ length q.typing.under
-    base_within q base e eb = omega (arith, eb, ap (λ (w : Walk). length w.under) e, length-append own0 v.under)
+    pub base_within : (q : Walk) (base : ℕ) → Stays inner q → base ≡ length v.under → base ≤ length q.under
+    base_within q base st eb = omega (arith, eb, ap length st.under, length-append own0 v.under)
 
     -- behind it, with the result's slot
     pub ready_again : (r t : Position) → ClosedAt r → HeldToo n r t → Ready n t
@@ -104,6 +117,10 @@ module _ (n : Names) (a : Position) (i : Instr) (s : Shape) (given : Option ValT
   pub nest_room : (size m : ℕ) → m + code_items (in_front i done) < size → suc m + code_items body < size
   unfolding code_items
   nest_room size m lt = omega (arith, lt, ap code_items (is done))
+
+  pub nest_fewer : code_items (in_front i done) ≡ 2 + code_items body
+  unfolding code_items
+  nest_fewer = ap code_items (is done) ∙ omega arith
 
   nest_behind : (w : Walk) → w ≡ outer n a.typing (label s given) given a.typing.own → Types a.typing.around a.typing.labels (in_front i done) w.own a.typing.own
   unfolding Types
@@ -163,6 +180,10 @@ module _ (n : Names) (a : Position) (i : Instr) (given : Option ValType) (one tw
   unfolding code_items
   if_room size m lt = (omega (arith, lt, ap code_items (is done)), omega (arith, lt, ap code_items (is done)))
 
+  pub if_fewer : (code_items one + 2 ≤ code_items (in_front i done)) × (code_items two + 2 ≤ code_items (in_front i done))
+  unfolding code_items
+  if_fewer = (omega (arith, ap code_items (is done)), omega (arith, ap code_items (is done)))
+
   if_behind : (w : Walk) → w ≡ outer n a.typing given given (drop 1 a.typing.own) → Types a.typing.around a.typing.labels (in_front i done) w.own a.typing.own
   unfolding Types
   if_behind w e =
@@ -215,3 +236,36 @@ loop_opens i r b e = ap is_leaf e
 pub if_opens : (i : Instr) (r : Option ValType) (b d : Vec Instr Global) → i ≡ If r b d → is_leaf i ≡ false
 unfolding is_leaf
 if_opens i r b d e = ap is_leaf e
+
+-- ---- the kinds
+
+module _ (n : Names) (a p q r t : Position) (i : Instr) (given : Option ValType) (body : Code) (old new : List Stmt) (inside : List Stmt) (ready : Ready n a) (typed : TypedAt a.typing (in_front i done)) where
+  pub block_done : (is : (rest : Code) → in_front i rest ≡ nest a_block given body rest) → ClosedAt n a.typing given given a.typing.own a.slots.items a.labels.items ready.held ready.labels r → p.typing ≡ inner n a.typing given given a.typing.own
+      → stmts inside ≡ flat_at n p.typing body → PutBlock n given inside r t old new → Put n a t i old new
+  block_done is c e ei pb =
+      nest_put n a i a_block given body is ready typed r t old new inside c pb.now (ei ∙ ap (λ (w : Walk). flat_at n w body) e)
+      (λ k. pb.puts (all_of a.typing) k (c.arrives_all) ∙ ap (λ d. onto_stmts old (nests a_block (stmts inside) (arrive n d given (all_of a.typing) k))) (depth_is n a.typing given given a.typing.own a.slots.items a.labels.items ready.held ready.labels r c))
+
+  pub loop_done : (is : (rest : Code) → in_front i rest ≡ nest a_loop given body rest) → ClosedAt n a.typing None given a.typing.own a.slots.items a.labels.items ready.held ready.labels r → p.typing ≡ inner n a.typing None given a.typing.own
+      → stmts inside ≡ flat_at n p.typing body → PutLoop n inside r t old new → Put n a t i old new
+  loop_done is c e ei pl =
+      nest_put n a i a_loop given body is ready typed r t old new inside c pl.now (ei ∙ ap (λ (w : Walk). flat_at n w body) e) (λ k. pl.puts k)
+
+module _ (n : Names) (a p q r t : Position) (i : Instr) (given : Option ValType) (one two : Code) (old new : List Stmt) (first second : List Stmt) (ss : List ℕ) (condition : ℕ) (ready : Ready n a) (typed : TypedAt a.typing (in_front i done)) (popped : reverse ss ≡ drop 1 (reverse a.slots.items)) (is : (rest : Code) → in_front i rest ≡ branch given one two rest) where
+  abbrev low_own : List ValType
+  low_own = drop 1 a.typing.own
+
+  pub if_done : ClosedAt n a.typing given given (drop 1 a.typing.own) ss a.labels.items (if_held n a i given one two is ready typed ss popped) ready.labels r → condition ≡ top n (all_of a.typing) → p.typing ≡ inner n a.typing given given (drop 1 a.typing.own) → q.typing ≡ inner n a.typing given given (drop 1 a.typing.own)
+      → stmts first ≡ flat_at n p.typing one → stmts second ≡ flat_at n q.typing two → PutIf n given condition first second r t old new → Put n a t i old new
+  if_done c ec e1 e2 s1 s2 pi =
+      if_put n a i given one two is ready typed ss popped r t old new first second condition ec c pi.now (s1 ∙ ap (λ (w : Walk). flat_at n w one) e1) (s2 ∙ ap (λ (w : Walk). flat_at n w two) e2)
+      (λ k. pi.puts (low_own ++ a.typing.under) k c.arrives_all ∙ ap (λ d. onto_stmts old (decides (Local condition) (stmts first) (stmts second) (arrive n d given (low_own ++ a.typing.under) k))) (depth_is n a.typing given given (drop 1 a.typing.own) ss a.labels.items (if_held n a i given one two is ready typed ss popped) ready.labels r c))
+
+-- what a body's statements ask for
+pub asks_of : (n : Names) (a p : Position) (k : Code) (xs : List Instr) → code xs ≡ k → TypedAt p.typing k → Ready n p → SmallTypes a.typing.around → p.typing.around ≡ a.typing.around → length p.labels.items ≡ suc (length a.labels.items) → suc (length a.labels.items) + code_items k < 2 ^ 32
+    → TypedAt p.typing (code xs) × (Ready n p × (SmallTypes p.typing.around × ((length p.labels.items + code_items (code xs) < 2 ^ 32) × (0 < length p.labels.items))))
+asks_of n a p k xs e t r s around size room =
+    (subst (TypedAt p.typing) (sym e) t, (r, (subst SmallTypes (sym around) s, (omega (arith, room, size, ap code_items e), omega (arith, size)))))
+
+pub one_label : (old new : List (Option ℕ)) (x : Option ℕ) → new ≡ old ++ x ∷ [] → length new ≡ suc (length old)
+one_label old new x e = omega (arith, ap length e, length-append old (x ∷ []))

@@ -52,6 +52,17 @@ pub(crate) fn open(
     Ok(Outer { base, height })
 }
 
+/// Goes back to the beginning of a construct, for its other arm.
+pub(crate) fn restart(at: &mut Position, outer: Outer)
+    ensures typing { at.new.typing ≡ record { around = at.old.typing.around; labels = at.old.typing.labels; own = []; under = at.old.typing.under } }
+    ensures slots { at.new.slots.items ≡ take outer.height at.old.slots.items }
+    ensures labels { at.new.labels ≡ at.old.labels }
+    ensures alloc { at.new.alloc ≡ at.old.alloc }
+{
+    at.slots.truncate(outer.height);
+    at.typing.restart();
+}
+
 /// Goes on behind a construct with this result, which has no slot yet.
 pub(crate) fn close(
     at: &mut Position,
