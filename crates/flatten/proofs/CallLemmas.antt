@@ -16,7 +16,8 @@ use Rattle.wa_model.specs.declared.flat.Stmt.TheVariants.{Call as Calls}
 use Rattle.wa_model.specs.Flat.{Stmts, calls}
 use Rattle.wa_model.specs.FlatView.{stmt_in_front}
 use Rattle.flat_laws.specs.Flatten.{Names, slots, top_of}
-use Rattle.flatten.specs.Emitting.{onto_stmts, all_of, bit, CallAt, Changed, SmallType, SmallTypes}
+use Rattle.flatten.specs.Emitting.{onto_stmts, all_of, CallAt, Changed, SmallType, SmallTypes}
+use Rattle.flatten.specs.Numbers.{bit}
 use Rattle.flatten.proofs.OntoLemmas.{onto_more}
 use Rattle.flatten.proofs.TakenLemmas.{call_changed, table_changed}
 use Rattle.flatten.proofs.LeafLemmas.{taken}

@@ -5,6 +5,7 @@ mod CarryLemmas
 mod ConstructLemmas
 mod JumpLemmas
 mod LeafLemmas
+mod MarkLemmas
 mod NestLemmas
 mod NumberLemmas
 mod OntoLemmas

@@ -14,7 +14,8 @@ use Rattle.wa_model.proofs.FittingActs.{got_moves, set_moves, load_moves, store_
 use Rattle.wa_model.specs.Flat.{last_of}
 use Rattle.flat_laws.specs.Flatten.{Names, slots, top, top_of}
 use Rattle.flat_laws.proofs.GotLemmas.{last_reverse}
-use Rattle.flatten.specs.Emitting.{all_of, bit, Given, Changed, HoldsBut}
+use Rattle.flatten.specs.Emitting.{all_of, Given, Changed, HoldsBut}
+use Rattle.flatten.specs.Numbers.{bit}
 use Rattle.flatten.specs.declared.position.Position.{Position}
 use Rattle.flatten.proofs.PositionLemmas.{slots_long, slots_drop}
 

@@ -15,6 +15,7 @@ use Rattle.wa_model.specs.Flat.{Stmts, no_more, copies, calls, nests, decides}
 use Rattle.wa_model.specs.FlatView.{stmt_in_front, stmts}
 use Rattle.flat_laws.specs.Flatten.{Names, slots, top_of, arrive, result_local, flat, flat_plain}
 use Rattle.flatten.specs.declared.position.Position.{Position}
+use Rattle.flatten.specs.Numbers.{bit}
 
 -- a list of statements, and then others
 unfoldable pub onto_stmts : List Stmt → Stmts → Stmts
@@ -81,10 +82,6 @@ all_carried locals (l ∷ targets) from rest = carried_to (slice_get locals l) f
 abbrev pub first_or : List ℕ → ℕ
 first_or [] = 0
 first_or (x ∷ xs) = x
-
-abbrev pub bit : Bool → ℕ
-bit true = 1
-bit false = 0
 
 -- All operands have their slots, but for a result that an instruction has just given.
 abbrev pub HoldsBut : Bool → Names → Position → Type 0

@@ -9,3 +9,4 @@ mod calls;
 mod constructs;
 mod jumps;
 mod leaves;
+mod marks;

@@ -8,7 +8,7 @@ use wa_types::ValType;
 /// A type at a number: a height or a depth.
 #[derive(Clone, Copy)]
 pub(crate) struct TypeAt {
-    pub(crate) number: u32,
+    pub(crate) number: usize,
     pub(crate) ty: ValType,
 }
 

@@ -3,7 +3,8 @@ use Rattle.std.proofs.lemmas.List.{reverse-reverse}
 use Rattle.std.specs.declared.vec.Vec.{Vec}
 use Rattle.std.specs.declared.alloc.Global.{Global}
 use Rattle.flat_laws.specs.Flatten.{slots, top_of}
-use Rattle.flatten.specs.Emitting.{all_of, bit, onto_stmts}
+use Rattle.flatten.specs.Emitting.{all_of, onto_stmts}
+use Rattle.flatten.specs.Numbers.{bit}
 use Rattle.flatten.proofs.TakenLemmas.{kept_slots, holds_but, bit_few}
 use Rattle.flatten.proofs.LeafLemmas.{moved, emits, put_is, slots_are_long}
 use Rattle.flatten.proofs.CallLemmas.{called_is}

@@ -1,7 +1,7 @@
 use Rattle.std.proofs.Common.{ap, arith, ◌≡◌, ◌+◌, ◌≤◌, ◌∙◌, suc, nat_lt, length, slice_get}
 use Rattle.wa_types.specs.Syntax.{FuncType}
 use Rattle.wa_types.specs.View.{func_type_of}
-use Rattle.flatten.specs.Emitting.{bit}
+use Rattle.flatten.specs.Numbers.{bit}
 use Rattle.flatten.proofs.CallLemmas.{sort_there, indirect_at, call_indirect_leaf, given_is, few_results}
 use Rattle.flatten.proofs.calls.put_call_indirect.Goals as goal
 

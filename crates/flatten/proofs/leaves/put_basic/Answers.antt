@@ -7,7 +7,8 @@ use Rattle.wa_types.specs.Syntax.{basic}
 use Rattle.wa_model.specs.Store.{takes, gives}
 use Rattle.wa_model.specs.declared.flat.Operand.TheVariants.{Local}
 use Rattle.flat_laws.specs.Flatten.{slots, top_of}
-use Rattle.flatten.specs.Emitting.{all_of, bit, Given}
+use Rattle.flatten.specs.Emitting.{all_of, Given}
+use Rattle.flatten.specs.Numbers.{bit}
 use Rattle.flatten.proofs.BasicLemmas.{is_basic, basic_leaf}
 use Rattle.flatten.proofs.TakenLemmas.{basic_changed, new_long, kept_slots, taken_slots, holds_but, bit_few}
 use Rattle.flatten.proofs.LeafLemmas.{moved, emits, taken, computed_is, put_is, slots_are_long}
