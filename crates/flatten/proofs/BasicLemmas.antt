@@ -2,9 +2,9 @@
 use Rattle.std.proofs.Common.{◌≡◌, ℕ, Option, Some, None, Bool, true, false, refl, ap}
 use Rattle.wa_types.specs.declared.instrs.Instr.{Instr}
 use Rattle.wa_types.specs.declared.instrs.Instr.TheVariants.{Unreachable, Nop, Drop, Select, Return, MemorySize, MemoryGrow, Const, Num, Br, BrIf, BrTable, Call, CallIndirect, LocalGet, LocalSet, LocalTee, GlobalGet, GlobalSet, Load, Store, Block', Loop', If'}
-use Rattle.wa_types.specs.Syntax.{Basic, basic, Code, plain}
+use Rattle.wa_types.specs.Syntax.{Basic, nop, drop, select, const, num, global_get, global_set, load, store, memory_size, memory_grow, basic, Plain, local_get, local_set, local_tee, br, br_if, br_table, return, unreachable, call, call_indirect, Code, plain}
 use Rattle.wa_types.specs.View.{in_front}
-use Rattle.wa_types.specs.Pruned.{is_last_instr}
+use Rattle.wa_types.specs.Pruned.{is_last, is_last_instr}
 use Rattle.std.specs.declared.vec.Vec.{Vec}
 use Rattle.std.specs.declared.alloc.Global.{Global}
 use Rattle.wasm_tree.specs.Kinds.{is_leaf}
@@ -123,3 +123,59 @@ leaf_other (Store op align offset) a b c p q r t u v = cc
 leaf_other (Block' y s k) a b c p q r t u v = cc
 leaf_other (Loop' y s k) a b c p q r t u v = cc
 leaf_other (If' y s k z l) a b c p q r t u v = cc
+
+-- one behind which control never goes on holds no other
+pub last_plain : (i : Instr) → is_last_instr i ≡ true → (p : Plain) × ((rest : Code) → in_front i rest ≡ plain p rest) × (is_last p ≡ true)
+unfolding is_last_instr in_front
+last_plain Unreachable e = (unreachable, (λ rest. refl), refl)
+last_plain Nop e = absurd (cc)
+last_plain Drop e = absurd (cc)
+last_plain Select e = absurd (cc)
+last_plain Return e = (return, (λ rest. refl), refl)
+last_plain MemorySize e = absurd (cc)
+last_plain MemoryGrow e = absurd (cc)
+last_plain (Const y) e = absurd (cc)
+last_plain (Num op) e = absurd (cc)
+last_plain (Br l) e = (br l, (λ rest. refl), refl)
+last_plain (BrIf l) e = absurd (cc)
+last_plain (BrTable ls l) e = (br_table ls.items l, (λ rest. refl), refl)
+last_plain (Call x) e = absurd (cc)
+last_plain (CallIndirect x) e = absurd (cc)
+last_plain (LocalGet x) e = absurd (cc)
+last_plain (LocalSet x) e = absurd (cc)
+last_plain (LocalTee x) e = absurd (cc)
+last_plain (GlobalGet x) e = absurd (cc)
+last_plain (GlobalSet x) e = absurd (cc)
+last_plain (Load op align offset) e = absurd (cc)
+last_plain (Store op align offset) e = absurd (cc)
+last_plain (Block' y s k) e = absurd (cc)
+last_plain (Loop' y s k) e = absurd (cc)
+last_plain (If' y s k z l) e = absurd (cc)
+
+-- what holds no other and goes on
+pub leaf_goes_on : (i : Instr) → is_leaf i ≡ true → is_last_instr i ≡ false → (p : Plain) × ((rest : Code) → in_front i rest ≡ plain p rest) × (is_last p ≡ false)
+unfolding is_leaf is_last_instr in_front
+leaf_goes_on Unreachable a e = absurd (cc)
+leaf_goes_on Nop a e = (basic nop, (λ rest. refl), refl)
+leaf_goes_on Drop a e = (basic drop, (λ rest. refl), refl)
+leaf_goes_on Select a e = (basic select, (λ rest. refl), refl)
+leaf_goes_on Return a e = absurd (cc)
+leaf_goes_on MemorySize a e = (basic memory_size, (λ rest. refl), refl)
+leaf_goes_on MemoryGrow a e = (basic memory_grow, (λ rest. refl), refl)
+leaf_goes_on (Const y) a e = (basic (const y), (λ rest. refl), refl)
+leaf_goes_on (Num op) a e = (basic (num op), (λ rest. refl), refl)
+leaf_goes_on (Br l) a e = absurd (cc)
+leaf_goes_on (BrIf l) a e = (br_if l, (λ rest. refl), refl)
+leaf_goes_on (BrTable ls l) a e = absurd (cc)
+leaf_goes_on (Call x) a e = (call x, (λ rest. refl), refl)
+leaf_goes_on (CallIndirect x) a e = (call_indirect x, (λ rest. refl), refl)
+leaf_goes_on (LocalGet x) a e = (local_get x, (λ rest. refl), refl)
+leaf_goes_on (LocalSet x) a e = (local_set x, (λ rest. refl), refl)
+leaf_goes_on (LocalTee x) a e = (local_tee x, (λ rest. refl), refl)
+leaf_goes_on (GlobalGet x) a e = (basic (global_get x), (λ rest. refl), refl)
+leaf_goes_on (GlobalSet x) a e = (basic (global_set x), (λ rest. refl), refl)
+leaf_goes_on (Load op align offset) a e = (basic (load op align offset), (λ rest. refl), refl)
+leaf_goes_on (Store op align offset) a e = (basic (store op align offset), (λ rest. refl), refl)
+leaf_goes_on (Block' y s k) a e = absurd (cc)
+leaf_goes_on (Loop' y s k) a e = absurd (cc)
+leaf_goes_on (If' y s k z l) a e = absurd (cc)

@@ -35,7 +35,7 @@ unfolding onto_stmts stmts
 onto_all [] = refl
 onto_all (x ∷ xs) = ap (stmt_in_front x) (onto_all xs)
 
-items_front : (x : Instr) (rest : Code) → code_items (in_front x rest) ≡ code_items (in_front x done) + code_items rest
+pub items_front : (x : Instr) (rest : Code) → code_items (in_front x rest) ≡ code_items (in_front x done) + code_items rest
 unfolding code_items
 items_front x rest = elim (kind x) [
   | is_block r v e ↦ ap (λ y. code_items (in_front y rest)) e ∙ ap code_items (in_block r v rest) ∙ omega (arith, ap (λ y. code_items (in_front y done)) e ∙ ap code_items (in_block r v done))
@@ -132,3 +132,6 @@ small_still a p st h = subst SmallTypes (sym st.around) h
 
 pub same_labels : (n : Names) (p s : Position) → Ready n p → Ready n s → s.typing ≡ p.typing → length s.labels.items ≡ length p.labels.items
 same_labels n p s rp rs e = labels_long n s rs ∙ ap (λ (w : Walk). length w.labels) e ∙ sym (labels_long n p rp)
+
+pub told : (b c : Bool) → b ≡ c → b ≡ true → c ≡ true
+told b c e f = sym e ∙ f

@@ -10,4 +10,6 @@ mod NestLemmas
 mod NumberLemmas
 mod OntoLemmas
 mod PositionLemmas
+mod SurveyLemmas
+mod SurveyedLemmas
 mod TakenLemmas

@@ -4,6 +4,7 @@
 
 mod numbers;
 mod position;
+mod survey;
 mod body;
 mod calls;
 mod constructs;
