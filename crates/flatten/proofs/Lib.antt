@@ -3,8 +3,10 @@ mod BodyLemmas
 mod CallLemmas
 mod CarryLemmas
 mod ConstructLemmas
+mod FindLemmas
 mod JumpLemmas
 mod LeafLemmas
+mod LocalLemmas
 mod MarkLemmas
 mod NestLemmas
 mod NumberLemmas

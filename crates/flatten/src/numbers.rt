@@ -1,4 +1,4 @@
-ghost use Rattle.std.specs.Prelude.{◌≡◌};
+ghost use Rattle.std.specs.Prelude.{◌≡◌, ◌+◌, length};
 ghost use Rattle.flat_laws.specs.Flatten.{result_local, slot};
 ghost use Rattle.flatten.specs.Numbers.{local_of};
 
@@ -43,6 +43,14 @@ impl Model for Numbered {
 }
 
 impl Numbered {
+    /// One more than the last of these locals.
+    #[tactic(auto, using(crate::proofs::NumberLemmas::finding))]
+    pub(crate) fn end(&self) -> u32
+        ensures { result ≡ self.now.first + length self.now.pairs }
+    {
+        self.end
+    }
+
     /// The local for this type at this number. Where there is none, one more than the last.
     #[tactic(auto, using(crate::proofs::NumberLemmas::finding))]
     pub(crate) fn local(&self, number: usize, ty: ValType) -> u32

@@ -39,7 +39,7 @@ fn visit(slots: &mut Vec<Seen>, typing: &Typing) -> Result<(), AllocError>
 }
 
 /// Marks a construct's result, where it has one.
-fn visit_result(
+pub(crate) fn visit_result(
     results: &mut Vec<Seen>,
     depth: usize,
     given: Option<ValType>,
