@@ -4,6 +4,7 @@ mod CallLemmas
 mod CarryLemmas
 mod ConstructLemmas
 mod FindLemmas
+mod FuncLemmas
 mod JumpLemmas
 mod LeafLemmas
 mod LocalLemmas

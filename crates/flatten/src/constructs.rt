@@ -19,7 +19,7 @@ pub(crate) struct Outer {
 }
 
 /// The result local of a construct at this depth, where it has a result.
-fn label_local(names: &Names, depth: usize, label: Option<ValType>) -> Option<u32>
+pub(crate) fn label_local(names: &Names, depth: usize, label: Option<ValType>) -> Option<u32>
     ensures { result ≡ result_at names.now depth label }
 {
     match label {

@@ -14,3 +14,4 @@ mod jumps;
 mod leaves;
 mod locals;
 mod marks;
+mod whole;
