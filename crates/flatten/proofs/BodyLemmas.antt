@@ -1,10 +1,9 @@
 -- Bodies, instruction by instruction.
-use Rattle.std.proofs.Common.{◌≡◌, ℕ, zero, suc, ◌+◌, ◌-◌, ◌<◌, ◌≤◌, ◌^◌, ◌++◌, List, [], ◌∷◌, length, reverse, take, drop, get_or, slice_get, Option, Some, None, Bool, true, false, refl, subst, arith, ap, sym, ◌∙◌, length-append}
+use Rattle.std.proofs.Common.{◌≡◌, ℕ, ◌+◌, ◌<◌, ◌≤◌, ◌++◌, List, [], ◌∷◌, length, reverse, take, drop, get_or, slice_get, Option, Bool, true, false, refl, subst, arith, ap, sym, ◌∙◌, length-append}
 use Rattle.std.proofs.lemmas.List.{length-reverse}
 use Rattle.std.proofs.Math.Seq.{drop-append_seam}
-use Rattle.wa_types.specs.declared.values.ValType.{ValType}
 use Rattle.wa_types.specs.declared.instrs.Instr.{Instr}
-use Rattle.wa_types.specs.Syntax.{Code, done, plain, nest, branch}
+use Rattle.wa_types.specs.Syntax.{Code, done}
 use Rattle.wa_types.specs.View.{code, in_front}
 use Rattle.wa_types.specs.Pruned.{is_last_instr}
 use Rattle.wa_types.specs.Sizes.{code_items}
@@ -14,10 +13,10 @@ use Rattle.wasm_validate.proofs.WalkUses.{alone, onward}
 use Rattle.wa_model.specs.declared.flat.Stmt.{Stmt}
 use Rattle.wa_model.specs.Flat.{Stmts, no_more}
 use Rattle.wa_model.specs.FlatView.{stmt_in_front, stmts}
-use Rattle.flat_laws.specs.Flatten.{Names, slots, carry, flat, top}
+use Rattle.flat_laws.specs.Flatten.{Names, slots, flat, top}
 use Rattle.flatten.specs.declared.position.Position.{Position}
 use Rattle.flatten.specs.Emitting.{onto_stmts, all_of, flat_at, carried_to, label_locals, Ready, Put, PutLast, SmallTypes}
-use Rattle.flatten.proofs.CarryLemmas.{carry_is, locals_long}
+use Rattle.flatten.proofs.CarryLemmas.{carry_is}
 use Rattle.flatten.proofs.PositionLemmas.{slots_drop, slots_long}
 use Rattle.flatten.proofs.TakenLemmas.{kept_reversed}
 use Rattle.flatten.proofs.LeafLemmas.{labels_long}

@@ -1,5 +1,5 @@
 -- Statements of calls.
-use Rattle.std.proofs.Common.{◌≡◌, ℕ, zero, suc, ◌+◌, ◌<◌, ◌≤◌, ◌++◌, List, [], ◌∷◌, length, reverse, slice_get, nat_lt, Option, Some, None, Bool, true, false, refl, subst, arith, ap, sym, ◌∙◌}
+use Rattle.std.proofs.Common.{◌≡◌, ℕ, zero, suc, ◌≤◌, ◌++◌, List, [], ◌∷◌, length, reverse, slice_get, nat_lt, Option, Some, None, Bool, true, refl, subst, arith, ap, sym, ◌∙◌}
 use Rattle.std.specs.declared.vec.Vec.{Vec}
 use Rattle.std.specs.declared.alloc.Global.{Global}
 use Rattle.wa_types.specs.declared.values.ValType.{ValType}
@@ -7,7 +7,7 @@ use Rattle.wa_types.specs.declared.instrs.Instr.{Instr}
 use Rattle.wa_types.specs.declared.instrs.Instr.TheVariants.{Call, CallIndirect}
 use Rattle.wa_types.specs.Syntax.{Plain, call, call_indirect, Code, done, plain, FuncType}
 use Rattle.wa_types.specs.View.{in_front}
-use Rattle.wa_types.specs.Typing.{Around, calls as calls_sig, calls_at, sig, Takes}
+use Rattle.wa_types.specs.Typing.{calls as calls_sig, calls_at, sig, Takes}
 use Rattle.wa_types.specs.Modules.{or_empty}
 use Rattle.wasm_tree.specs.Kinds.{is_leaf}
 use Rattle.wasm_validate.specs.Walk.{Walk, TypedAt}
@@ -16,7 +16,7 @@ use Rattle.wa_model.specs.declared.flat.Stmt.TheVariants.{Call as Calls}
 use Rattle.wa_model.specs.Flat.{Stmts, calls}
 use Rattle.wa_model.specs.FlatView.{stmt_in_front}
 use Rattle.flat_laws.specs.Flatten.{Names, slots, top_of}
-use Rattle.flatten.specs.Emitting.{onto_stmts, all_of, CallAt, Changed, SmallType, SmallTypes}
+use Rattle.flatten.specs.Emitting.{onto_stmts, all_of, CallAt, Changed, SmallTypes}
 use Rattle.flatten.specs.Numbers.{bit}
 use Rattle.flatten.proofs.OntoLemmas.{onto_more}
 use Rattle.flatten.proofs.TakenLemmas.{call_changed, table_changed}

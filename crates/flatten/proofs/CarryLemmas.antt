@@ -1,15 +1,15 @@
 -- Moves of results to the locals of labels.
-use Rattle.std.proofs.Common.{◌≡◌, ℕ, zero, suc, ◌+◌, ◌-◌, ◌<◌, ◌≤◌, ◌++◌, List, [], ◌∷◌, length, reverse, get_or, drop, All, slice_get, add-one, drop-cons, Option, Some, None, refl, arith, ap, sym, ◌∙◌}
+use Rattle.std.proofs.Common.{◌≡◌, ℕ, zero, suc, ◌+◌, ◌-◌, ◌<◌, ◌≤◌, ◌++◌, List, [], ◌∷◌, length, reverse, get_or, drop, slice_get, add-one, drop-cons, Option, Some, None, refl, arith, ap, sym, ◌∙◌}
 use Rattle.std.proofs.lemmas.List.{length-reverse, get_or-reverse, drop_all}
 use Rattle.std.proofs.lemmas.Option.{slice_get-get_or}
 use Rattle.wa_types.specs.declared.values.ValType.{ValType}
 use Rattle.wa_model.specs.declared.flat.Stmt.{Stmt}
 use Rattle.wa_model.specs.declared.flat.Stmt.TheVariants.{Move}
 use Rattle.wa_model.specs.declared.flat.Operand.TheVariants.{Local}
-use Rattle.wa_model.specs.Flat.{Stmts, copies}
+use Rattle.wa_model.specs.Flat.{Stmts}
 use Rattle.wa_model.specs.FlatView.{stmt_in_front}
 use Rattle.flat_laws.specs.Flatten.{Names, top, carry, carry_all, carry_to}
-use Rattle.flatten.specs.Emitting.{onto_stmts, carried_to, all_carried, label_locals, result_at}
+use Rattle.flatten.specs.Emitting.{onto_stmts, carried_to, all_carried, label_locals}
 use Rattle.flatten.proofs.OntoLemmas.{onto_more}
 
 -- counted from the end

@@ -1,12 +1,11 @@
 -- Statements of constructs.
-use Rattle.std.proofs.Common.{◌≡◌, ℕ, zero, suc, ◌+◌, ◌-◌, ◌<◌, ◌≤◌, ◌++◌, List, [], ◌∷◌, length, reverse, take, drop, Option, Some, None, refl, arith, ap, sym, ◌∙◌}
+use Rattle.std.proofs.Common.{◌≡◌, ℕ, ◌++◌, List, [], ◌∷◌, length, Option, Some, None, refl, arith, ap, sym, ◌∙◌}
 use Rattle.std.proofs.Common.{Result, Ok, Err, OnOk}
 use Rattle.std.specs.Vec.{vec_len}
 use Rattle.std.specs.declared.vec.Vec.{Vec}
 use Rattle.std.specs.declared.alloc.Global.{Global}
 use Rattle.wa_types.specs.declared.values.ValType.{ValType}
 use Rattle.wa_types.specs.Syntax.{a_block, a_loop}
-use Rattle.wa_types.specs.Typing.{listed}
 use Rattle.wa_model.specs.declared.flat.Stmt.{Stmt, Row_of-Stmt, end_of-Stmt, more_of-Stmt, items-the_row-Stmt, items_hidden-the_row-Stmt-0}
 use Rattle.wa_model.specs.declared.flat.Stmt.TheBlock.{hidden-the_row-Stmt-0}
 use Rattle.wa_model.specs.declared.flat.Stmt.TheVariants.{Move, Block, Loop, If}
@@ -15,9 +14,9 @@ use Rattle.wa_model.specs.Flat.{Stmts, copies, nests, decides}
 use Rattle.wa_model.specs.FlatView.{stmt_in_front, row_stmts, stmts}
 use Rattle.flat_laws.specs.Flatten.{Names, slot, slots, top, result_local, arrive}
 use Rattle.flatten.specs.declared.position.Position.{Position}
-use Rattle.flatten.specs.Emitting.{onto_stmts, all_of, HoldsBelow, ArrivesAt, HeldToo, Closed, PutBlock, PutLoop, PutIf}
+use Rattle.flatten.specs.Emitting.{onto_stmts, all_of, HoldsBelow, ArrivesAt, Closed, PutBlock, PutLoop, PutIf}
 use Rattle.flatten.proofs.OntoLemmas.{onto_more}
-use Rattle.flatten.proofs.PositionLemmas.{slot_more, less_one}
+use Rattle.flatten.proofs.PositionLemmas.{slot_more}
 
 row_is : {m : _} → (k : Row_of-Stmt m) → row_stmts k ≡ stmts (items-the_row-Stmt m k)
 unfolding stmts row_stmts stmt_in_front

@@ -1,26 +1,25 @@
 -- What a survey finds is what the definition numbers.
-use Rattle.std.proofs.Common.{◌≡◌, ℕ, zero, suc, ◌+◌, ◌-◌, ◌^◌, ◌<◌, ◌≤◌, ◌||◌, ◌&&◌, ◌++◌, max, List, [], ◌∷◌, length, drop, nat_eq, slice_get, Option, Some, None, Bool, true, false, if◌then◌else◌, refl, subst, arith, ap, sym, ◌∙◌, ◌⊎◌, inl, inr, length-append}
+use Rattle.std.proofs.Common.{◌≡◌, ℕ, zero, suc, ◌+◌, ◌<◌, ◌||◌, ◌&&◌, ◌++◌, max, List, [], ◌∷◌, length, drop, nat_eq, Option, Some, None, Bool, true, false, if◌then◌else◌, refl, arith, ap, sym, ◌∙◌, ◌⊎◌, inl, inr, length-append}
 use Rattle.std.specs.List.{list_any}
 use Rattle.std.proofs.lemmas.Bool.{eqb-true}
 use Rattle.std.proofs.lemmas.List.Folds.{list_any-append}
 use Rattle.wa_types.specs.declared.values.ValType.{ValType}
 use Rattle.wa_types.specs.declared.values.ValType.TheVariants.{I32, I64}
 use Rattle.wa_types.specs.Encoding.{same_type}
-use Rattle.wa_types.specs.Syntax.{Plain, basic, local_get, local_set, local_tee, br, br_if, br_table, return, unreachable, call, call_indirect, Shape, a_block, a_loop, Code, done, plain, nest, branch}
+use Rattle.wa_types.specs.Syntax.{Shape, a_block, a_loop, Code, done, plain, nest, branch}
 use Rattle.wa_types.specs.Pruned.{is_last, pruned}
 use Rattle.wa_types.specs.Counts.{depth_of}
 use Rattle.wa_types.specs.Typing.{Around, label, listed, sig}
 use Rattle.wa_types.specs.Points.{after, unless_last, points}
 use Rattle.wa_types.specs.Frames.{Pair, pair_onto, pairs_from, pair_of, shape_pair, same_pair, stands_at, greatest, results_in}
 use Rattle.wa_types.proofs.SlotLemmas.{stands_splits}
-use Rattle.wasm_validate.specs.Walk.{Walk, Stays}
-use Rattle.flat_laws.specs.Flatten.{Names}
+use Rattle.wasm_validate.specs.Walk.{Walk}
 use Rattle.flatten.specs.declared.marks.Seen.{Seen}
 use Rattle.flatten.specs.declared.survey.Found.{Found}
-use Rattle.flatten.specs.Numbers.{is_marked, of_seen, pairs_in}
+use Rattle.flatten.specs.Numbers.{is_marked, pairs_in}
 use Rattle.flatten.specs.Emitting.{all_of}
-use Rattle.flatten.specs.Surveying.{Covers, any_point, any_result, found_count, Surveyed}
-use Rattle.flatten.specs.Whole.{points_at, results_at, names_at}
+use Rattle.flatten.specs.Surveying.{Covers, any_point, any_result, Surveyed}
+use Rattle.flatten.specs.Whole.{points_at, results_at}
 
 -- ---- the same pairs
 

@@ -1,5 +1,5 @@
 -- Functions of valid modules, flattened.
-use Rattle.std.proofs.Common.{◌≡◌, ℕ, zero, suc, ◌+◌, ◌-◌, ◌^◌, ◌<◌, ◌≤◌, ◌++◌, List, [], ◌∷◌, length, reverse, map, drop, slice_get, Option, Some, None, refl, subst, arith, ap, sym, ◌∙◌, All}
+use Rattle.std.proofs.Common.{◌≡◌, ℕ, ◌++◌, List, [], ◌∷◌, reverse, map, Option, refl, ap, sym, ◌∙◌}
 use Rattle.wa_types.specs.declared.values.ValType.{ValType}
 use Rattle.wasm_validate.specs.Walk.{Walk}
 use Rattle.flat_laws.specs.Flatten.{Names, slots}

@@ -1,5 +1,5 @@
 -- Statements behind which control never goes on.
-use Rattle.std.proofs.Common.{◌≡◌, ℕ, zero, suc, ◌+◌, ◌-◌, ◌<◌, ◌≤◌, ◌++◌, List, [], ◌∷◌, length, reverse, take, drop, get_or, slice_get, Option, Some, None, Bool, true, false, refl, subst, arith, ap, sym, ◌∙◌, length-append}
+use Rattle.std.proofs.Common.{◌≡◌, ℕ, zero, suc, ◌<◌, ◌++◌, List, [], ◌∷◌, length, drop, get_or, slice_get, Option, Some, None, arith, ap, sym, ◌∙◌, length-append}
 use Rattle.std.proofs.lemmas.Option.{slice_get_within}
 use Rattle.std.specs.declared.vec.Vec.{Vec}
 use Rattle.std.specs.declared.alloc.Global.{Global}
@@ -8,7 +8,7 @@ use Rattle.wa_types.specs.declared.instrs.Instr.{Instr}
 use Rattle.wa_types.specs.declared.instrs.Instr.TheVariants.{Br, BrTable, Return, Unreachable}
 use Rattle.wa_types.specs.Syntax.{Plain, br, br_table, return, unreachable, Code, plain}
 use Rattle.wa_types.specs.View.{in_front}
-use Rattle.wa_types.specs.Typing.{Around, listed, jump, jumps, sig, Takes}
+use Rattle.wa_types.specs.Typing.{jump, jumps, sig, Takes}
 use Rattle.wa_types.specs.Points.{after}
 use Rattle.wasm_validate.specs.Walk.{Walk}
 use Rattle.wa_model.specs.declared.flat.Stmt.{Stmt}
@@ -16,7 +16,7 @@ use Rattle.wa_model.specs.declared.flat.Stmt.TheVariants.{Br as Jump, BrTable as
 use Rattle.wa_model.specs.declared.flat.Operand.TheVariants.{Local}
 use Rattle.wa_model.specs.Flat.{Stmts, no_more, leaps, leaps_by, halts}
 use Rattle.wa_model.specs.FlatView.{stmt_in_front}
-use Rattle.flat_laws.specs.Flatten.{Names, slots, top, carry, carry_all, flat, flat_plain}
+use Rattle.flat_laws.specs.Flatten.{Names, top, carry, carry_all, flat, flat_plain}
 use Rattle.flat_laws.proofs.TableLabels.{AllLabels, table_typed}
 use Rattle.flatten.specs.Emitting.{onto_stmts, all_of, flat_at, carried_to, all_carried, label_locals}
 use Rattle.flatten.proofs.OntoLemmas.{onto_more}

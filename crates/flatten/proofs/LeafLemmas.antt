@@ -1,6 +1,6 @@
 -- Statements of instructions that hold no other.
-use Rattle.std.proofs.Common.{◌≡◌, ℕ, ◌+◌, ◌-◌, ◌<◌, ◌≤◌, ◌++◌, List, [], ◌∷◌, length, reverse, take, drop, map, slice_get, Option, Some, None, Bool, true, false, refl, subst, arith, ap, sym, ◌∙◌}
-use Rattle.std.proofs.lemmas.List.{append_assoc, length-reverse}
+use Rattle.std.proofs.Common.{◌≡◌, ℕ, ◌<◌, ◌++◌, List, [], ◌∷◌, length, reverse, take, drop, map, slice_get, Option, Some, None, false, refl, subst, arith, ap, sym, ◌∙◌}
+use Rattle.std.proofs.lemmas.List.{length-reverse}
 use Rattle.std.proofs.lemmas.Option.{slice_get_within}
 use Rattle.wa_types.specs.declared.values.ValType.{ValType}
 use Rattle.wa_types.specs.declared.instrs.Instr.{Instr}
@@ -8,7 +8,7 @@ use Rattle.wa_types.specs.declared.instrs.Instr.TheVariants.{BrIf, LocalGet, Loc
 use Rattle.wa_types.specs.Syntax.{Basic, basic, Plain, br_if, local_get, local_set, local_tee, Code, done, plain}
 use Rattle.wa_types.specs.View.{in_front}
 use Rattle.wa_types.specs.Pruned.{is_last}
-use Rattle.wa_types.specs.Typing.{Around, sig, may_jump, Takes, Types, gets, sets, tees}
+use Rattle.wa_types.specs.Typing.{sig, may_jump, Takes, Types, gets, sets, tees}
 use Rattle.wa_types.specs.Points.{after}
 use Rattle.wasm_validate.specs.Walk.{Walk, Stays, TypedAt}
 use Rattle.wa_model.specs.declared.flat.Stmt.{Stmt}

@@ -1,15 +1,15 @@
 -- What was found, and its locals.
-use Rattle.std.proofs.Common.{◌≡◌, ◌≢◌, ℕ, zero, suc, ◌+◌, ◌-◌, ◌<◌, ◌≤◌, ◌||◌, ◌&&◌, ◌++◌, List, [], ◌∷◌, length, map, drop, slice_get, slice_set, get_or, nat_eq, Option, Some, None, Bool, true, false, add-one, drop-cons, refl, subst, arith, ap, sym, ◌∙◌}
+use Rattle.std.proofs.Common.{◌≡◌, ◌≢◌, ℕ, zero, suc, ◌+◌, ◌<◌, ◌≤◌, ◌||◌, ◌&&◌, ◌++◌, List, [], ◌∷◌, length, drop, slice_set, get_or, nat_eq, Some, Bool, true, false, add-one, drop-cons, refl, arith, ap, sym, ◌∙◌}
 use Rattle.std.proofs.lemmas.Bool.{eq-eqb, eqb-true, eqb-false, ne_eqb}
 use Rattle.std.proofs.lemmas.List.{append-nil, append_assoc, drop_all}
 use Rattle.wa_types.specs.declared.values.ValType.{ValType}
 use Rattle.wa_types.specs.declared.values.ValType.TheVariants.{I32, I64}
 use Rattle.wa_types.specs.Encoding.{same_type}
-use Rattle.wa_types.specs.Frames.{Pair, pair_onto, pairs_from, same_pair}
+use Rattle.wa_types.specs.Frames.{Pair, pair_onto, same_pair}
 use Rattle.flat_laws.specs.Flatten.{place, past}
 use Rattle.flatten.specs.declared.marks.Seen.{Seen}
 use Rattle.flatten.specs.declared.numbers.Spot.{Spot}
-use Rattle.flatten.specs.Numbers.{same_at, of_seen, is_marked, with_one, pairs_in, bit, pick, spots_in, of_spot, spot_at}
+use Rattle.flatten.specs.Numbers.{same_at, of_seen, is_marked, with_one, pairs_in, bit, pick, spots_in, spot_at}
 
 not_same : (n m : ℕ) (t ty : ValType) (b : Bool) → n ≢ m → (nat_eq n m && same_type t ty || b) ≡ b
 not_same n m t ty b ne = ap (λ z. (z && same_type t ty) || b) (ne_eqb n m ne)

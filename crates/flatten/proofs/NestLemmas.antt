@@ -1,6 +1,6 @@
 -- Into constructs and behind them.
-use Rattle.std.proofs.Common.{◌≡◌, ℕ, zero, suc, ◌+◌, ◌-◌, ◌^◌, ◌<◌, ◌≤◌, ◌++◌, List, [], ◌∷◌, length, reverse, take, drop, Option, Some, None, Bool, true, false, refl, subst, arith, ap, sym, ◌∙◌, length-append}
-use Rattle.std.proofs.lemmas.List.{append_assoc, length-reverse, reverse-append, reverse-reverse, take_all}
+use Rattle.std.proofs.Common.{◌≡◌, ℕ, suc, ◌+◌, ◌-◌, ◌^◌, ◌<◌, ◌≤◌, ◌++◌, List, [], ◌∷◌, length, reverse, take, drop, Option, None, false, subst, arith, ap, sym, ◌∙◌, length-append}
+use Rattle.std.proofs.lemmas.List.{append_assoc, length-reverse, reverse-append}
 use Rattle.std.proofs.Math.Seq.{drop-append_seam, take-append_seam}
 use Rattle.std.specs.declared.vec.Vec.{Vec}
 use Rattle.std.specs.declared.alloc.Global.{Global}
@@ -11,7 +11,7 @@ use Rattle.wa_types.specs.declared.instrs.Instr.TheVariants.{Block, Loop, If}
 use Rattle.wa_types.specs.Syntax.{Shape, a_block, a_loop, Code, done, nest, branch}
 use Rattle.wa_types.specs.View.{code, in_front}
 use Rattle.wa_types.specs.Sizes.{code_items}
-use Rattle.wa_types.specs.Typing.{Around, label, listed, Types}
+use Rattle.wa_types.specs.Typing.{label, listed, Types}
 use Rattle.wa_types.proofs.ViewLemmas.{in_block, in_loop, in_if}
 use Rattle.wasm_tree.specs.Kinds.{is_leaf}
 use Rattle.wasm_validate.specs.Walk.{Walk, Stays, Inside, TypedAt, left_at}

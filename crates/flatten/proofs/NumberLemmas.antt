@@ -1,10 +1,9 @@
 -- Locals of pairs.
-use Rattle.std.proofs.Common.{◌≡◌, ℕ, ◌+◌, List, length, arith, ap, sym, ◌∙◌}
+use Rattle.std.proofs.Common.{◌≡◌, ℕ, ◌+◌, List, length, arith}
 use Rattle.std.proofs.lemmas.List.{length-map}
 use Rattle.wa_types.specs.declared.values.ValType.{ValType}
 use Rattle.wa_types.specs.Frames.{Pair}
-use Rattle.flat_laws.specs.Flatten.{Names, place, slot, result_local}
-use Rattle.flatten.specs.Numbers.{Locals, local_of}
+use Rattle.flat_laws.specs.Flatten.{place}
 
 -- the local of a result
 pub result_is : (first number : ℕ) (t : ValType) (slots results : List Pair) (from : ℕ) → from ≡ first + length slots → from + place number t results ≡ first + (length slots + place number t results)

@@ -9,4 +9,3 @@ pub onto_more : (xs : List Stmt) (s : Stmt) (k : Stmts) → onto_stmts (xs ++ s 
 unfolding onto_stmts
 onto_more [] s k = refl
 onto_more (x ∷ xs) s k = ap (stmt_in_front x) (onto_more xs s k)
-

@@ -1,10 +1,10 @@
 -- Slots and labels where flattening stands.
-use Rattle.std.proofs.Common.{◌≡◌, ℕ, zero, suc, ◌+◌, ◌-◌, ◌<◌, ◌≤◌, ◌++◌, List, [], ◌∷◌, length, reverse, take, drop, get_or, length-drop, refl, arith, ap, sym, ◌∙◌}
+use Rattle.std.proofs.Common.{◌≡◌, ℕ, zero, suc, ◌+◌, ◌-◌, ◌<◌, ◌++◌, List, [], ◌∷◌, length, reverse, take, drop, get_or, length-drop, refl, arith, ap, sym, ◌∙◌}
 use Rattle.std.proofs.lemmas.List.{length-reverse, reverse-append, reverse-reverse, get_or-append_right, take-append-drop}
 use Rattle.std.proofs.Math.Seq.{drop-append_seam}
 use Rattle.wa_types.specs.declared.values.ValType.{ValType}
 use Rattle.flatten.specs.Emitting.{first_or}
-use Rattle.flat_laws.specs.Flatten.{Names, place, slot, slots, top}
+use Rattle.flat_laws.specs.Flatten.{Names, slots, top}
 
 -- the topmost of types that stand the deepest first
 pub last_of : {X : Type 0} (types rest : List X) (t d : X) → reverse types ≡ t ∷ rest → get_or types (length types - 1) d ≡ t

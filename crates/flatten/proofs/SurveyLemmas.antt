@@ -1,15 +1,13 @@
 -- What a survey finds.
-use Rattle.std.proofs.Common.{◌≡◌, ◌≢◌, ℕ, zero, suc, ◌+◌, ◌-◌, ◌<◌, ◌≤◌, ◌||◌, ◌&&◌, ◌++◌, List, [], ◌∷◌, length, reverse, map, take, drop, slice_get, get_or, nat_eq, Option, Some, None, Bool, true, false, refl, subst, arith, ap, sym, ◌∙◌, ◌⊎◌, inl, inr}
-use Rattle.std.specs.List.{list_any}
-use Rattle.std.proofs.lemmas.List.{length-reverse, append-nil, append_assoc, take-append-drop}
-use Rattle.std.proofs.lemmas.List.Folds.{list_any-append}
+use Rattle.std.proofs.Common.{◌≡◌, ℕ, ◌-◌, ◌<◌, ◌||◌, ◌&&◌, ◌++◌, List, [], ◌∷◌, length, reverse, take, drop, get_or, nat_eq, Bool, true, false, refl, arith, ap, sym, ◌∙◌, ◌⊎◌, inl, inr}
+use Rattle.std.proofs.lemmas.List.{length-reverse, append_assoc, take-append-drop}
 use Rattle.wa_types.specs.declared.values.ValType.{ValType}
 use Rattle.wa_types.specs.declared.values.ValType.TheVariants.{I32, I64}
 use Rattle.wa_types.specs.Encoding.{same_type}
 use Rattle.wa_types.specs.Syntax.{Code, done, plain, nest, branch}
 use Rattle.wa_types.specs.Points.{points}
 use Rattle.std.proofs.lemmas.Bool.{eq-eqb, eqb-true}
-use Rattle.wa_types.specs.Frames.{Pair, pair_of, same_pair, stands_at}
+use Rattle.wa_types.specs.Frames.{stands_at}
 use Rattle.wa_types.proofs.SlotLemmas.{stands_splits, splits_stands}
 use Rattle.wasm_validate.specs.Walk.{Walk}
 use Rattle.flatten.specs.declared.marks.Seen.{Seen}

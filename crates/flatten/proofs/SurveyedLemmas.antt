@@ -1,16 +1,15 @@
 -- A survey, instruction by instruction.
-use Rattle.std.proofs.Common.{◌≡◌, ℕ, zero, suc, ◌+◌, ◌-◌, ◌^◌, ◌<◌, ◌≤◌, ◌||◌, ◌++◌, List, [], ◌∷◌, length, drop, get_or, slice_get, Option, Some, None, Bool, true, false, if◌then◌else◌, refl, subst, arith, ap, sym, ◌∙◌, length-append, Result, Ok, Err, OnOk}
+use Rattle.std.proofs.Common.{◌≡◌, ℕ, zero, suc, ◌+◌, ◌<◌, ◌≤◌, ◌||◌, ◌++◌, List, [], ◌∷◌, length, drop, get_or, slice_get, Option, Some, None, Bool, true, false, if◌then◌else◌, refl, subst, arith, ap, sym, ◌∙◌, length-append, Result, Ok, Err, OnOk}
 use Rattle.std.specs.List.{list_any}
 use Rattle.std.proofs.lemmas.List.{append-nil, append_assoc}
 use Rattle.std.proofs.lemmas.List.Folds.{list_any-append}
 use Rattle.wa_types.specs.declared.values.ValType.{ValType}
-use Rattle.wa_types.specs.declared.values.ValType.TheVariants.{I32}
 use Rattle.wa_types.specs.declared.instrs.Instr.{Instr}
-use Rattle.wa_types.specs.Syntax.{Basic, basic, Plain, local_get, local_set, local_tee, br, br_if, br_table, return, unreachable, call, call_indirect, Shape, a_block, a_loop, Code, done, plain, nest, branch}
+use Rattle.wa_types.specs.Syntax.{Basic, basic, Plain, local_get, local_set, local_tee, br, br_if, br_table, return, unreachable, call, call_indirect, Shape, Code, done, plain, nest, branch}
 use Rattle.wa_types.specs.View.{code, onto, in_front}
 use Rattle.wa_types.specs.Pruned.{is_last, is_last_instr, pruned}
 use Rattle.wa_types.specs.Sizes.{code_items}
-use Rattle.wa_types.specs.Typing.{Around, gets, sets, tees, may_jump, label, listed, sig, Takes, Types}
+use Rattle.wa_types.specs.Typing.{gets, sets, tees, may_jump, label, listed, sig, Takes, Types}
 use Rattle.wa_types.specs.Points.{after, unless_last, points}
 use Rattle.wa_types.specs.Frames.{Pair, pair_of, shape_pair, same_pair, stands_at, results_in}
 use Rattle.wa_types.proofs.ViewLemmas.{code_step, code_empty}
@@ -21,7 +20,7 @@ use Rattle.flat_laws.proofs.OperandTypes.{after_all}
 use Rattle.flatten.specs.declared.marks.Seen.{Seen}
 use Rattle.flatten.specs.declared.survey.Found.{Found}
 use Rattle.flatten.specs.Numbers.{is_marked, pairs_in}
-use Rattle.flatten.specs.Emitting.{all_of, Changed, Given, SmallTypes}
+use Rattle.flatten.specs.Emitting.{all_of, Changed, SmallTypes}
 use Rattle.flatten.specs.Surveying.{is_top, Covers, any_point, any_result, found_count, Surveyed, SurveyedOne}
 use Rattle.flatten.proofs.TakenLemmas.{basic_changed, call_changed, table_changed}
 use Rattle.flat_laws.specs.Flatten.{Names}

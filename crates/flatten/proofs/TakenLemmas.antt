@@ -1,5 +1,5 @@
 -- What instructions take of all operands, and what they give.
-use Rattle.std.proofs.Common.{◌≡◌, ℕ, zero, suc, ◌+◌, ◌-◌, ◌<◌, ◌≤◌, ◌++◌, List, [], ◌∷◌, length, reverse, take, drop, map, slice_get, Option, Some, None, Bool, true, false, refl, subst, arith, ap, sym, ◌∙◌, length-append, length-drop}
+use Rattle.std.proofs.Common.{◌≡◌, ℕ, zero, suc, ◌+◌, ◌-◌, ◌≤◌, ◌++◌, List, [], ◌∷◌, length, reverse, take, drop, slice_get, Option, Some, None, Bool, true, false, refl, subst, arith, ap, sym, ◌∙◌, length-append, length-drop}
 use Rattle.std.proofs.lemmas.List.{append_assoc, length-reverse, reverse-append, reverse-reverse, take-append-drop}
 use Rattle.std.proofs.Math.Seq.{drop-append_seam}
 use Rattle.wa_types.specs.declared.values.ValType.{ValType}
@@ -11,8 +11,7 @@ use Rattle.wa_types.specs.Typing.{Around, basic_sig, calls, calls_at, moves, Tak
 use Rattle.wa_types.specs.Modules.{or_empty}
 use Rattle.wa_model.specs.Store.{takes, gives}
 use Rattle.wa_model.proofs.FittingActs.{got_moves, set_moves, load_moves, store_moves, memory_moves}
-use Rattle.wa_model.specs.Flat.{last_of}
-use Rattle.flat_laws.specs.Flatten.{Names, slots, top, top_of}
+use Rattle.flat_laws.specs.Flatten.{Names, slots}
 use Rattle.flat_laws.proofs.GotLemmas.{last_reverse}
 use Rattle.flatten.specs.Emitting.{all_of, Given, Changed, HoldsBut}
 use Rattle.flatten.specs.Numbers.{bit}

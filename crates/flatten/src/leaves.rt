@@ -117,7 +117,11 @@ fn bit(told: bool) -> usize
 }
 
 /// Gives the topmost operand its slot, where an instruction has just given one.
-pub(crate) fn put_to(names: &Names, at: &mut Position, given: bool) -> Result<Option<u32>, AllocError>
+pub(crate) fn put_to(
+    names: &Names,
+    at: &mut Position,
+    given: bool,
+) -> Result<Option<u32>, AllocError>
     requires { HoldsBut given names.now at.old }
     ensures to { IfOk result (λ to. to ≡ top_of names.now (bit given) (all_of at.old.typing)) }
     ensures typing { at.new.typing ≡ at.old.typing }

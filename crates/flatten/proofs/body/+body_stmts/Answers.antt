@@ -1,5 +1,4 @@
-use Rattle.std.proofs.Common.{rules, arith, drop, sym, refl, ap, subst, None, ◌∙◌, length, reverse, ◌^◌, List, ℕ, Option}
-use Rattle.wa_types.specs.declared.instrs.Instr.{the_lemmas}
+use Rattle.std.proofs.Common.{arith, drop, sym, refl, ap, subst, None, ◌∙◌, length, reverse, ◌^◌, List, ℕ, Option}
 use Rattle.flatten.specs.Emitting.{first_or, flat_at}
 use Rattle.flatten.proofs.LeafLemmas.{top_slot_is}
 use Rattle.flatten.proofs.BodyLemmas.{walked_first, one_typed, one_room, one_inside, last_stmts, walked_next, end_stmts, goes_on, small_still, one_fewer, arm_ready, restarted, same_labels}
@@ -72,11 +71,10 @@ put_instr-body_stmts-requires t c =
     let is = block_is c.args.instr.now c.in-Block.result c.in-Block.body c.in-Block.is in
     let ready = c.requires.ready in
     let typed = c.requires.typed in
-    let e = nest_inside n a c.args.instr.now a_block c.in-Block.result (code c.in-Block.body.items) is ready typed c.open.new.at.typing c.in_ok-outer-in-Block.ensures.inside in
-    (
+    let e = nest_inside n a c.args.instr.now a_block c.in-Block.result (code c.in-Block.body.items) is ready typed c.open.new.at.typing c.in_ok-outer-in-Block.ensures.inside in (
       omega (arith, c.decreases, nest_fewer n a c.args.instr.now a_block c.in-Block.result (code c.in-Block.body.items) is ready typed, ap (λ xs. code_items (code xs)) c.deref.ensures.value),
       asks_of n a c.open.new.at (code c.in-Block.body.items) c.deref.result.now (ap code c.deref.ensures.value) (nest_body n a c.args.instr.now a_block c.in-Block.result (code c.in-Block.body.items) is ready typed c.open.new.at.typing e) (opened n a.typing c.in-Block.result c.in-Block.result a.typing.own a.slots.items a.labels.items ready.held ready.labels c.open.new.at e (ap (λ (z : Vec ℕ Global). z.items) c.in_ok-outer-in-Block.ensures.slots) c.in_ok-outer-in-Block.ensures.labels)
-      c.requires.small (ap (λ (w : Walk). w.around) e) (one_label a.labels.items c.open.new.at.labels.items _ c.in_ok-outer-in-Block.ensures.labels) (nest_room n a c.args.instr.now a_block c.in-Block.result (code c.in-Block.body.items) is ready typed (2 ^ 32) (length a.labels.items) c.requires.room),
+          c.requires.small (ap (λ (w : Walk). w.around) e) (one_label a.labels.items c.open.new.at.labels.items _ c.in_ok-outer-in-Block.ensures.labels) (nest_room n a c.args.instr.now a_block c.in-Block.result (code c.in-Block.body.items) is ready typed (2 ^ 32) (length a.labels.items) c.requires.room),
     )
 
 pub put_instr-close-requires : goal.put_instr-close-requires
@@ -117,11 +115,10 @@ put_instr-body_stmts-requires-in-Loop t c =
     let is = loop_is c.args.instr.now c.in-Loop.result c.in-Loop.body c.in-Loop.is in
     let ready = c.requires.ready in
     let typed = c.requires.typed in
-    let e = nest_inside n a c.args.instr.now a_loop c.in-Loop.result (code c.in-Loop.body.items) is ready typed c.open-in-Loop.new.at.typing c.in_ok-outer-in-Loop.ensures.inside in
-    (
+    let e = nest_inside n a c.args.instr.now a_loop c.in-Loop.result (code c.in-Loop.body.items) is ready typed c.open-in-Loop.new.at.typing c.in_ok-outer-in-Loop.ensures.inside in (
       omega (arith, c.decreases, nest_fewer n a c.args.instr.now a_loop c.in-Loop.result (code c.in-Loop.body.items) is ready typed, ap (λ xs. code_items (code xs)) c.deref-in-Loop.ensures.value),
       asks_of n a c.open-in-Loop.new.at (code c.in-Loop.body.items) c.deref-in-Loop.result.now (ap code c.deref-in-Loop.ensures.value) (nest_body n a c.args.instr.now a_loop c.in-Loop.result (code c.in-Loop.body.items) is ready typed c.open-in-Loop.new.at.typing e) (opened n a.typing None c.in-Loop.result a.typing.own a.slots.items a.labels.items ready.held ready.labels c.open-in-Loop.new.at e (ap (λ (z : Vec ℕ Global). z.items) c.in_ok-outer-in-Loop.ensures.slots) c.in_ok-outer-in-Loop.ensures.labels)
-      c.requires.small (ap (λ (w : Walk). w.around) e) (one_label a.labels.items c.open-in-Loop.new.at.labels.items _ c.in_ok-outer-in-Loop.ensures.labels) (nest_room n a c.args.instr.now a_loop c.in-Loop.result (code c.in-Loop.body.items) is ready typed (2 ^ 32) (length a.labels.items) c.requires.room),
+          c.requires.small (ap (λ (w : Walk). w.around) e) (one_label a.labels.items c.open-in-Loop.new.at.labels.items _ c.in_ok-outer-in-Loop.ensures.labels) (nest_room n a c.args.instr.now a_loop c.in-Loop.result (code c.in-Loop.body.items) is ready typed (2 ^ 32) (length a.labels.items) c.requires.room),
     )
 
 pub put_instr-close-requires-in-Loop : goal.put_instr-close-requires-in-Loop
@@ -172,11 +169,10 @@ put_instr-body_stmts-requires-in-If t c =
     let p = c.open-in-If.new.at in
     let low = drop 1 a.typing.own in
     let e = if_inside n a i given one two is ready typed p.typing c.in_ok-outer-in-If.ensures.inside in
-    let first_ready = opened n a.typing given given low ss a.labels.items held ready.labels p e (ap (λ (z : Vec ℕ Global). z.items) c.in_ok-outer-in-If.ensures.slots) c.in_ok-outer-in-If.ensures.labels in
-    (
+    let first_ready = opened n a.typing given given low ss a.labels.items held ready.labels p e (ap (λ (z : Vec ℕ Global). z.items) c.in_ok-outer-in-If.ensures.slots) c.in_ok-outer-in-If.ensures.labels in (
       omega (arith, c.decreases, (if_fewer n a i given one two is ready typed).0, ap (λ xs. code_items (code xs)) c.deref-in-If.ensures.value),
       asks_of n a p one c.deref-in-If.result.now (ap code c.deref-in-If.ensures.value) (if_first n a i given one two is ready typed p.typing e) first_ready
-      c.requires.small (ap (λ (w : Walk). w.around) e) (one_label a.labels.items p.labels.items _ c.in_ok-outer-in-If.ensures.labels) (if_room n a i given one two is ready typed (2 ^ 32) (length a.labels.items) c.requires.room).0,
+          c.requires.small (ap (λ (w : Walk). w.around) e) (one_label a.labels.items p.labels.items _ c.in_ok-outer-in-If.ensures.labels) (if_room n a i given one two is ready typed (2 ^ 32) (length a.labels.items) c.requires.room).0,
     )
 
 pub put_instr-body_stmts-requires-in-If-2 : goal.put_instr-body_stmts-requires-in-If-2
@@ -202,11 +198,10 @@ put_instr-body_stmts-requires-in-If-2 t c =
     let e2 = c.restart.ensures.typing ∙ restarted (inner n a.typing given given low) q.typing (subst (λ (w : Walk). Stays w q.typing) e c.in_ok-first-in-If.ensures.stays) refl in
     let same = ap (λ (z : Vec (Option ℕ) Global). z.items) c.restart.ensures.labels in
     let height = c.in_ok-outer-in-If.ensures.height ∙ ap length (ap (λ (z : Vec ℕ Global). z.items) (sym c.in_ok-outer-in-If.ensures.slots)) in
-    let again = arm_ready n p q s c.in_ok-outer-in-If.outer.height first_ready c.in_ok-first-in-If.ensures.ready c.in_ok-first-in-If.ensures.stays (ap (λ (w : Walk). w.own) e) height (e2 ∙ sym e) same c.restart.ensures.slots in
-    (
+    let again = arm_ready n p q s c.in_ok-outer-in-If.outer.height first_ready c.in_ok-first-in-If.ensures.ready c.in_ok-first-in-If.ensures.stays (ap (λ (w : Walk). w.own) e) height (e2 ∙ sym e) same c.restart.ensures.slots in (
       omega (arith, c.decreases, (if_fewer n a i given one two is ready typed).1, ap (λ xs. code_items (code xs)) c.deref-in-If-2.ensures.value),
       asks_of n a s two c.deref-in-If-2.result.now (ap code c.deref-in-If-2.ensures.value) (if_second n a i given one two is ready typed s.typing e2) again
-      c.requires.small (ap (λ (w : Walk). w.around) e2) (same_labels n p s first_ready again (e2 ∙ sym e) ∙ one_label a.labels.items p.labels.items _ c.in_ok-outer-in-If.ensures.labels) (if_room n a i given one two is ready typed (2 ^ 32) (length a.labels.items) c.requires.room).1,
+          c.requires.small (ap (λ (w : Walk). w.around) e2) (same_labels n p s first_ready again (e2 ∙ sym e) ∙ one_label a.labels.items p.labels.items _ c.in_ok-outer-in-If.ensures.labels) (if_room n a i given one two is ready typed (2 ^ 32) (length a.labels.items) c.requires.room).1,
     )
 
 pub put_instr-close-requires-in-If : goal.put_instr-close-requires-in-If

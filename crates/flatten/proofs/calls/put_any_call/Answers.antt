@@ -1,8 +1,7 @@
-use Rattle.std.proofs.Common.{refl, ap, sym, arith, ◌≡◌, ◌+◌, ◌-◌, ◌≤◌, ◌∙◌, ◌++◌, drop, reverse, length, List, ℕ, Option}
+use Rattle.std.proofs.Common.{refl, ap, sym, arith, ◌≡◌, ◌+◌, ◌-◌, ◌∙◌, ◌++◌, drop, reverse, length, ℕ, Option}
 use Rattle.std.proofs.lemmas.List.{reverse-reverse}
 use Rattle.std.specs.declared.vec.Vec.{Vec}
 use Rattle.std.specs.declared.alloc.Global.{Global}
-use Rattle.flat_laws.specs.Flatten.{slots, top_of}
 use Rattle.flatten.specs.Emitting.{all_of, onto_stmts}
 use Rattle.flatten.specs.Numbers.{bit}
 use Rattle.flatten.proofs.TakenLemmas.{kept_slots, holds_but, bit_few}

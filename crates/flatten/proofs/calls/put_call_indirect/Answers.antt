@@ -1,4 +1,4 @@
-use Rattle.std.proofs.Common.{ap, arith, ◌≡◌, ◌+◌, ◌≤◌, ◌∙◌, suc, nat_lt, length, slice_get}
+use Rattle.std.proofs.Common.{ap, arith, ◌≡◌, ◌+◌, ◌≤◌, ◌∙◌, nat_lt, length, slice_get}
 use Rattle.wa_types.specs.Syntax.{FuncType}
 use Rattle.wa_types.specs.View.{func_type_of}
 use Rattle.flatten.specs.Numbers.{bit}

@@ -1,12 +1,10 @@
-use Rattle.std.proofs.Common.{ap, ◌∙◌, ◌+◌, ◌≡◌, ◌||◌, length, sym, ℕ, false}
+use Rattle.std.proofs.Common.{ap, ◌∙◌, ◌≡◌, ◌||◌, ℕ, false}
 use Rattle.wa_types.specs.declared.values.ValType.{ValType}
 use Rattle.std.specs.List.{list_any}
-use Rattle.wa_types.specs.Frames.{Pair, pair_of, same_pair}
+use Rattle.wa_types.specs.Frames.{pair_of, same_pair}
 use Rattle.wa_types.specs.View.{code}
-use Rattle.flat_laws.specs.Flatten.{Names}
 use Rattle.flatten.specs.declared.survey.Found.{Found}
 use Rattle.flatten.specs.Numbers.{is_marked, pairs_in, Locals}
-use Rattle.flatten.specs.Whole.{names_at}
 use Rattle.flatten.proofs.FindLemmas.{slots_are, results_are, no_marks}
 use Rattle.flatten.proofs.find.find_names.Goals as goal
 

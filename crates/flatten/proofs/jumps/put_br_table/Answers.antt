@@ -1,6 +1,5 @@
-use Rattle.std.proofs.Common.{refl, ap, arith, subst, sym, ◌≡◌, ◌<◌, ◌-◌, ◌∙◌, slice_get, get_or, length, reverse, drop, take, List, ℕ, Option}
+use Rattle.std.proofs.Common.{refl, ap, arith, ◌≡◌, ◌<◌, ◌-◌, ◌∙◌, slice_get, get_or, length, reverse, drop, take, List, ℕ, Option}
 use Rattle.wa_types.specs.Syntax.{br_table}
-use Rattle.flat_laws.specs.Flatten.{top}
 use Rattle.flatten.specs.Emitting.{all_of, first_or, all_carried, carried_to, onto_stmts}
 use Rattle.flatten.proofs.PositionLemmas.{less_one, top_is}
 use Rattle.flatten.proofs.LeafLemmas.{taken, labels_long, slots_are_long, top_slot_is, one_less}

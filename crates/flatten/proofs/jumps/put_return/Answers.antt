@@ -1,4 +1,4 @@
-use Rattle.std.proofs.Common.{refl, ap, arith, subst, sym, ◌≡◌, ◌-◌, ◌∙◌, slice_get, length, reverse, List, ℕ, Option}
+use Rattle.std.proofs.Common.{ap, arith, ◌≡◌, ◌-◌, ◌∙◌, length, reverse, List, ℕ, Option}
 use Rattle.wa_types.specs.Syntax.{return}
 use Rattle.wa_model.specs.Flat.{leaps, no_more}
 use Rattle.flat_laws.specs.Flatten.{carry}

@@ -1,17 +1,15 @@
-use Rattle.std.proofs.Common.{refl, ap, sym, arith, subst, ◌≡◌, ◌+◌, ◌-◌, ◌≤◌, ◌∙◌, ◌++◌, drop, reverse, length, map, List, ℕ, Option}
+use Rattle.std.proofs.Common.{refl, ap, sym, arith, subst, ◌≡◌, ◌+◌, ◌-◌, ◌∙◌, ◌++◌, drop, reverse, length, map, ℕ, Option}
 use Rattle.std.specs.declared.vec.Vec.{Vec}
 use Rattle.std.specs.declared.alloc.Global.{Global}
 use Rattle.std.proofs.lemmas.List.{length-reverse}
-use Rattle.wa_types.specs.declared.values.ValType.{ValType}
 use Rattle.wa_types.specs.Syntax.{basic}
 use Rattle.wa_model.specs.Store.{takes, gives}
 use Rattle.wa_model.specs.declared.flat.Operand.TheVariants.{Local}
-use Rattle.flat_laws.specs.Flatten.{slots, top_of}
+use Rattle.flat_laws.specs.Flatten.{top_of}
 use Rattle.flatten.specs.Emitting.{all_of, Given}
-use Rattle.flatten.specs.Numbers.{bit}
 use Rattle.flatten.proofs.BasicLemmas.{is_basic, basic_leaf}
 use Rattle.flatten.proofs.TakenLemmas.{basic_changed, new_long, kept_slots, taken_slots, holds_but, bit_few}
-use Rattle.flatten.proofs.LeafLemmas.{moved, emits, taken, computed_is, put_is, slots_are_long}
+use Rattle.flatten.proofs.LeafLemmas.{moved, emits, computed_is, put_is, slots_are_long}
 use Rattle.flatten.proofs.leaves.put_basic.Goals as goal
 
 pub copy_leaf-requires : goal.copy_leaf-requires

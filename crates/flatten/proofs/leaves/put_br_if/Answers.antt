@@ -1,8 +1,7 @@
-use Rattle.std.proofs.Common.{refl, ap, sym, arith, subst, ◌≡◌, ◌<◌, ◌∙◌, ◌++◌, slice_get, drop, reverse, length, List, ℕ, Option}
+use Rattle.std.proofs.Common.{refl, ap, sym, arith, ◌∙◌, ◌++◌, slice_get, drop, reverse, length, List, ℕ, Option}
 use Rattle.wa_types.specs.Syntax.{br_if}
-use Rattle.wa_model.specs.Flat.{Stmts}
 use Rattle.flat_laws.specs.Flatten.{slots}
-use Rattle.flatten.specs.Emitting.{all_of, first_or, carried_to, onto_stmts}
+use Rattle.flatten.specs.Emitting.{all_of, first_or}
 use Rattle.flatten.proofs.PositionLemmas.{top_is}
 use Rattle.flatten.proofs.LeafLemmas.{moved, emits, is_br_if, taken, br_if_one, may_jump_there, branched_if, put_is, slots_are_long, labels_long, top_slot_is, one_less}
 use Rattle.flatten.proofs.leaves.put_br_if.Goals as goal

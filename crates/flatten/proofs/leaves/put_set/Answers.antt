@@ -1,4 +1,4 @@
-use Rattle.std.proofs.Common.{refl, ap, sym, arith, ◌∙◌, ◌++◌, slice_get, drop}
+use Rattle.std.proofs.Common.{refl, ap, sym, arith, ◌∙◌, ◌++◌, slice_get}
 use Rattle.wa_types.specs.Syntax.{local_set}
 use Rattle.flat_laws.specs.Flatten.{slots}
 use Rattle.flatten.specs.Emitting.{all_of}

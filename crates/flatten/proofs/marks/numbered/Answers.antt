@@ -1,4 +1,4 @@
-use Rattle.std.proofs.Common.{arith, ap, length, map}
+use Rattle.std.proofs.Common.{arith, map}
 use Rattle.std.proofs.lemmas.List.{length-map}
 use Rattle.flatten.specs.Numbers.{pair_of}
 use Rattle.flatten.proofs.MarkLemmas.{table_is}

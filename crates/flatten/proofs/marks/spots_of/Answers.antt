@@ -1,5 +1,5 @@
-use Rattle.std.proofs.Common.{ap, arith, ◌≡◌, ◌+◌, ◌∙◌, ◌++◌, length, drop, get_or, false}
-use Rattle.flatten.specs.Numbers.{bit, pairs_in, pick, spots_in}
+use Rattle.std.proofs.Common.{ap, ◌+◌, ◌∙◌, ◌++◌, length, drop, get_or, false}
+use Rattle.flatten.specs.Numbers.{pairs_in, pick, spots_in}
 use Rattle.flatten.specs.declared.marks.Seen.{Seen}
 use Rattle.flatten.proofs.MarkLemmas.{room_step, spots_on, next_is, get_either}
 use Rattle.flatten.proofs.marks.spots_of.Goals as goal

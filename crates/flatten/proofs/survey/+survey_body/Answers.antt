@@ -1,7 +1,7 @@
-use Rattle.std.proofs.Common.{arith, ap, sym, subst, refl, drop, length, [], None, ◌∙◌, ◌+◌, ◌^◌, ◌||◌}
+use Rattle.std.proofs.Common.{arith, ap, sym, subst, refl, drop, length, None, ◌∙◌, ◌||◌}
 use Rattle.wa_types.specs.View.{code}
 use Rattle.flatten.proofs.BodyLemmas.{goes_on, small_still, told}
-use Rattle.flatten.proofs.SurveyedLemmas.{went_end, went_last, went_next, went_fewer, next_typed, next_fewer, nest_in, nest_first, nest_items, nest_one, branch_in, branch_first, branch_second, branch_items, branch_one, plain_one, no_names, inside_of, left_behind, base_within, on_both}
+use Rattle.flatten.proofs.SurveyedLemmas.{went_end, went_last, went_next, went_fewer, next_typed, next_fewer, nest_in, nest_first, nest_items, nest_one, branch_in, branch_first, branch_second, branch_items, branch_one, plain_one, inside_of, left_behind, base_within, on_both}
 use Rattle.std.specs.List.{list_any}
 use Rattle.wa_types.specs.Sizes.{code_items}
 use Rattle.wa_types.specs.Frames.{pair_of, same_pair}
@@ -24,11 +24,15 @@ pub survey_body-survey_instr-requires : goal.survey_body-survey_instr-requires
 survey_body-survey_instr-requires t c =
     let w = c.loop-instr.invariant in
     let fewer = next_fewer c.args.typing.now c.loop-instr.typing c.args.body.now c.loop-instr.instr-index c.args.found.now c.loop-instr.found w c.instr-item.result (omega (arith, c.loop-instr-test.true)) c.instr-item.is in
-    let all = went_fewer c.args.body.now c.loop-instr.instr-index in
-    (
+    let all = went_fewer c.args.body.now c.loop-instr.instr-index in (
       omega (arith, c.decreases, fewer, all),
-      (goes_on c.is_last.result _ c.is_last.ensures c.if-is_last.false, (next_typed c.args.typing.now c.loop-instr.typing c.args.body.now c.loop-instr.instr-index c.args.found.now c.loop-instr.found w c.instr-item.result (omega (arith, c.loop-instr-test.true)) c.instr-item.is,
-      (small_still c.args.typing.now c.loop-instr.typing w.stays c.requires.small, (c.requires.depth ∙ sym (ap length w.stays.labels), omega (arith, c.requires.room, fewer, all))))),
+      (
+        goes_on c.is_last.result _ c.is_last.ensures c.if-is_last.false,
+        (
+          next_typed c.args.typing.now c.loop-instr.typing c.args.body.now c.loop-instr.instr-index c.args.found.now c.loop-instr.found w c.instr-item.result (omega (arith, c.loop-instr-test.true)) c.instr-item.is,
+          (small_still c.args.typing.now c.loop-instr.typing w.stays c.requires.small, (c.requires.depth ∙ sym (ap length w.stays.labels), omega (arith, c.requires.room, fewer, all))),
+        ),
+      ),
     )
 
 pub survey_body-loop-instr-preserved : goal.survey_body-loop-instr-preserved
@@ -39,7 +43,6 @@ survey_body-loop-instr-preserved t c =
 pub survey_body-returns : goal.survey_body-returns
 survey_body-returns t c =
     went_end c.args.typing.now c.loop-instr.typing c.args.body.now c.loop-instr.instr-index c.args.found.now c.loop-instr.found c.loop-instr.invariant (omega (arith, c.loop-instr-test.false))
-
 
 pub survey_instr-enter-requires-clause-opens : goal.survey_instr-enter-requires-clause-opens
 survey_instr-enter-requires-clause-opens t c = block_opens c.args.instr.now c.in-Block.result c.in-Block.body c.in-Block.is
@@ -67,11 +70,15 @@ survey_instr-survey_body-requires t c =
     let e = c.enter.new.self in
     let ee = nest_in v v v i a_block given body is typed e c.in_ok-enter-in-Block.ensures in
     let items = nest_items v v v i a_block given body is typed in
-    let same = ap (λ xs. code_items (code xs)) c.deref.ensures.value in
-    (
+    let same = ap (λ xs. code_items (code xs)) c.deref.ensures.value in (
       omega (arith, c.decreases, items, same),
-      (subst (λ xs. TypedAt e (code xs)) (sym c.deref.ensures.value) (nest_first v v v i a_block given body is typed e ee), (subst SmallTypes (sym (ap (λ (w : Walk). w.around) ee)) c.requires.small,
-      (omega (arith, c.requires.depth, ap (λ (w : Walk). length w.labels) ee), omega (arith, c.requires.room, items, same)))),
+      (
+        subst (λ xs. TypedAt e (code xs)) (sym c.deref.ensures.value) (nest_first v v v i a_block given body is typed e ee),
+        (
+          subst SmallTypes (sym (ap (λ (w : Walk). w.around) ee)) c.requires.small,
+          (omega (arith, c.requires.depth, ap (λ (w : Walk). length w.labels) ee), omega (arith, c.requires.room, items, same)),
+        ),
+      ),
     )
 
 pub survey_instr-leave-requires : goal.survey_instr-leave-requires
@@ -132,11 +139,15 @@ survey_instr-survey_body-requires-in-Loop t c =
     let e = c.enter-in-Loop.new.self in
     let ee = nest_in v v v i a_loop given body is typed e c.in_ok-enter-in-Loop.ensures in
     let items = nest_items v v v i a_loop given body is typed in
-    let same = ap (λ xs. code_items (code xs)) c.deref-in-Loop.ensures.value in
-    (
+    let same = ap (λ xs. code_items (code xs)) c.deref-in-Loop.ensures.value in (
       omega (arith, c.decreases, items, same),
-      (subst (λ xs. TypedAt e (code xs)) (sym c.deref-in-Loop.ensures.value) (nest_first v v v i a_loop given body is typed e ee), (subst SmallTypes (sym (ap (λ (w : Walk). w.around) ee)) c.requires.small,
-      (omega (arith, c.requires.depth, ap (λ (w : Walk). length w.labels) ee), omega (arith, c.requires.room, items, same)))),
+      (
+        subst (λ xs. TypedAt e (code xs)) (sym c.deref-in-Loop.ensures.value) (nest_first v v v i a_loop given body is typed e ee),
+        (
+          subst SmallTypes (sym (ap (λ (w : Walk). w.around) ee)) c.requires.small,
+          (omega (arith, c.requires.depth, ap (λ (w : Walk). length w.labels) ee), omega (arith, c.requires.room, items, same)),
+        ),
+      ),
     )
 
 pub survey_instr-leave-requires-in-Loop : goal.survey_instr-leave-requires-in-Loop
@@ -215,11 +226,15 @@ survey_instr-survey_body-requires-in-If t c =
     let low = drop 1 v.own in
     let ee = branch_in v v v v i given one two is typed e c.in_ok-enter-in-If.ensures in
     let items = branch_items v v v v i given one two is typed in
-    let same = ap (λ xs. code_items (code xs)) c.deref-in-If.ensures.value in
-    (
+    let same = ap (λ xs. code_items (code xs)) c.deref-in-If.ensures.value in (
       omega (arith, c.decreases, items, same),
-      (subst (λ xs. TypedAt e (code xs)) (sym c.deref-in-If.ensures.value) (branch_first v v v v i given one two is typed e ee), (subst SmallTypes (sym (ap (λ (w : Walk). w.around) ee)) c.requires.small,
-      (omega (arith, c.requires.depth, ap (λ (w : Walk). length w.labels) ee), omega (arith, c.requires.room, items, same)))),
+      (
+        subst (λ xs. TypedAt e (code xs)) (sym c.deref-in-If.ensures.value) (branch_first v v v v i given one two is typed e ee),
+        (
+          subst SmallTypes (sym (ap (λ (w : Walk). w.around) ee)) c.requires.small,
+          (omega (arith, c.requires.depth, ap (λ (w : Walk). length w.labels) ee), omega (arith, c.requires.room, items, same)),
+        ),
+      ),
     )
 
 pub survey_instr-survey_body-requires-in-If-2 : goal.survey_instr-survey_body-requires-in-If-2
@@ -238,11 +253,15 @@ survey_instr-survey_body-requires-in-If-2 t c =
     let e2 = c.restart.new.self in
     let ee2 = c.restart.ensures ∙ restarted (inside_of v given low) u (subst (λ (w : Walk). Stays w u) ee c.in_ok-survey_body-in-If.ensures.stays) refl in
     let items = branch_items v v v v i given one two is typed in
-    let same = ap (λ xs. code_items (code xs)) c.deref-in-If-2.ensures.value in
-    (
+    let same = ap (λ xs. code_items (code xs)) c.deref-in-If-2.ensures.value in (
       omega (arith, c.decreases, items, same),
-      (subst (λ xs. TypedAt e2 (code xs)) (sym c.deref-in-If-2.ensures.value) (branch_second v v v v i given one two is typed e2 ee2), (subst SmallTypes (sym (ap (λ (w : Walk). w.around) ee2)) c.requires.small,
-      (omega (arith, c.requires.depth, ap (λ (w : Walk). length w.labels) ee2), omega (arith, c.requires.room, items, same)))),
+      (
+        subst (λ xs. TypedAt e2 (code xs)) (sym c.deref-in-If-2.ensures.value) (branch_second v v v v i given one two is typed e2 ee2),
+        (
+          subst SmallTypes (sym (ap (λ (w : Walk). w.around) ee2)) c.requires.small,
+          (omega (arith, c.requires.depth, ap (λ (w : Walk). length w.labels) ee2), omega (arith, c.requires.room, items, same)),
+        ),
+      ),
     )
 
 pub survey_instr-leave-requires-in-If : goal.survey_instr-leave-requires-in-If
