@@ -16,3 +16,4 @@ mod PositionLemmas
 mod SurveyLemmas
 mod SurveyedLemmas
 mod TakenLemmas
+mod ToldLemmas

@@ -2,6 +2,9 @@
 //! statements.
 #![tactic(auto)]
 
+mod numbers;
+mod position;
+mod survey;
 mod body;
 mod calls;
 mod constructs;
@@ -11,7 +14,7 @@ mod jumps;
 mod leaves;
 mod locals;
 mod marks;
-mod numbers;
-mod position;
-mod survey;
 mod whole;
+
+pub use fault::FlatFault;
+pub use whole::flatten;

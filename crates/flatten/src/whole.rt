@@ -1,6 +1,6 @@
 ghost use Rattle.std.specs.Prelude.{◌≡◌, ◌+◌, ◌<◌, ◌^◌, ◌∷◌, ◌++◌, [], length, map, slice_get, Some, IfOk, OnOk};
 ghost use Rattle.flat_laws.specs.Flatten.{Names as FlatNames};
-ghost use Rattle.wa_model.specs.FlatView.{stmts};
+ghost use Rattle.wa_model.specs.FlatView.{flat_func_of, stmts};
 ghost use Rattle.wa_types.specs.Frames.{Pair};
 ghost use Rattle.wa_types.specs.Modules.{declared_locals, func_imports};
 ghost use Rattle.wa_types.specs.Sizes.{code_items, StrictSizeRule};
@@ -24,7 +24,7 @@ use wa_types::{FuncType, Instr, Run, ValType};
 use wasm_validate::{Typing, Valid};
 
 /// So many parameters and locals a rewritten function has at most.
-const MOST_LOCALS: u32 = 50_000;
+const MOST_LOCALS: u64 = 50_000;
 
 /// Puts the types of these.
 fn put_each_type(out: &mut Vec<ValType>, pairs: &[TypeAt]) -> Result<(), AllocError>
@@ -103,4 +103,76 @@ fn flat_body(
 {
     let mut at = beginning(alloc, typing, names, given)?;
     body_stmts(names, &mut at, body)
+}
+
+/// The result of a type, if it has one.
+fn first_result(ty: &FuncType) -> Option<ValType>
+    ensures { result ≡ slice_get ty.now.results.items 0 }
+{
+    ty.results.get(0).copied()
+}
+
+/// The flat function of a defined function, by its index among the defined ones.
+fn flat_func(
+    alloc: Global,
+    valid: &Valid,
+    imports: usize,
+    index: usize,
+) -> Result<FlatFunc, FlatFault>
+    requires sizes { StrictSizeRule (module_of valid.now) }
+    requires imports { imports ≡ func_imports (module_of valid.now) }
+    requires within { index < length valid.now.funcs.items }
+    ensures { (f : PlainFunc) → slice_get (module_of valid.now).funcs index ≡ Some f → FlatAnswer (module_of valid.now) (imports + index) f result }
+{
+    let module = valid.module();
+    let source = &module.funcs[index];
+    let ty = &module.types[source.sort as usize];
+    let func = (imports + index) as u32;
+    let given = first_result(ty);
+    let first = ty.params.len() as u32 + count_runs(&source.locals);
+    let typing = Typing::start(alloc, valid, func)?;
+    let names = find_names(alloc, typing, given, first, &source.body)?;
+    let count = u64::from(names.results.end()) + 3;
+    if count > MOST_LOCALS {
+        return Err(FlatFault::Locals { func, count });
+    }
+    let locals = all_locals(alloc, &ty.params, &source.locals, &names)?;
+    let typing = Typing::start(alloc, valid, func)?;
+    let body = flat_body(alloc, typing, &names, given, &source.body)?;
+    Ok(FlatFunc {
+        func,
+        sort: source.sort,
+        locals,
+        result: label_local(&names, 0, given),
+        body,
+    })
+}
+
+/// Puts a flat function behind others.
+fn put_func(funcs: &mut Vec<FlatFunc>, flat: FlatFunc) -> Result<(), AllocError>
+    ensures { OnOk result (map flat_func_of funcs.new.items ≡ map flat_func_of funcs.old.items ++ flat_func_of flat ∷ []) }
+{
+    funcs.push(flat)?;
+    Ok(())
+}
+
+/// The flat functions of the defined functions that `which` tells, in index order. It has one answer for each function of
+/// the module, imports first: those count for nothing. Where a told function would have too many locals, the first such.
+/// Takes time linear in the bodies and in what is written.
+pub fn flatten(alloc: Global, valid: &Valid, which: &[bool]) -> Result<FlatModule, FlatFault>
+    requires sizes { StrictSizeRule (module_of valid.now) }
+    requires which { length which.now ≡ func_imports (module_of valid.now) + length (module_of valid.now).funcs }
+    ensures { Flattens (module_of valid.now) which.now result }
+{
+    let module = valid.module();
+    let imports = which.len() - module.funcs.len();
+    let mut funcs = Vec::new(alloc);
+    for index in 0..module.funcs.len() {
+        if !which[imports + index] {
+            continue;
+        }
+        let flat = flat_func(alloc, valid, imports, index)?;
+        put_func(&mut funcs, flat)?;
+    }
+    Ok(FlatModule { funcs })
 }
