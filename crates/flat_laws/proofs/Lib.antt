@@ -1,0 +1,8 @@
+mod Depths
+mod Example
+pub mod GotLemmas
+pub mod OperandTypes
+mod Sizes
+pub mod TableLabels
+mod Typing
+mod ValidModules

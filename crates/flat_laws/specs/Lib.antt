@@ -1,0 +1,4 @@
+pub mod FlatModule
+pub mod Flatten
+pub mod Placed
+pub mod StmtsTyped

@@ -1,0 +1,22 @@
+ghost use Rattle.flat_laws.specs.StmtsTyped.{FlatStmtsTyped};
+ghost use Rattle.flat_laws.specs.FlatModule.{FlatIsShallow, FlatIsSmall, FlatIsTyped, FlatOfPruned, StacksAreSlots, ValidIsFlattened, ValidStays};
+
+/// A valid module and its flat one meet all that the laws of runs ask for.
+pub fn valid_modules_are_flattened()
+    ensures { ValidIsFlattened }
+{}
+
+/// Flat code is that of the pruned code, weighs little, and has the slots of the operands at its calls.
+pub fn flat_code_is_small()
+    ensures of_pruned { FlatOfPruned }
+    ensures shallow { FlatIsShallow }
+    ensures small { FlatIsSmall }
+    ensures stacks { StacksAreSlots }
+{}
+
+/// Flat bodies are typed, and the flat module is valid.
+pub fn flat_bodies_are_typed()
+    ensures typed { FlatIsTyped }
+    ensures stmts { FlatStmtsTyped }
+    ensures valid { ValidStays }
+{}

@@ -1,0 +1,12 @@
+mod BranchSteps
+mod CallSteps
+mod EachReduction
+mod Follows
+mod Leaving
+mod PlainSteps
+mod Reductions
+mod ResultMoves
+mod Shapes
+mod Slots
+mod Stretches
+mod WaitingCalls
