@@ -43,14 +43,17 @@ some_told (true ∷ which) h = (0, refl)
 some_told (false ∷ which) h = let r = some_told which h in (suc r.0, r.1)
 
 -- the parts of an accepted source
-pub made_source : (s : Settings) (bytes : List ℕ) (m v n : ModuleValue) → n ≡ v → v ≡ m → IsAccepted source_bounds bytes (module_of m) → reserved_at (module_of m) ≡ None → Valid (module_of m) → NeverPauses (module_of v) s → IsSource s bytes (module_of n)
+pub made_source : (s : Settings) (bytes : List ℕ) (m v n : ModuleValue) → n ≡ v → v ≡ m → IsAccepted source_bounds bytes (module_of m)
+    → reserved_at (module_of m) ≡ None → Valid (module_of m) → NeverPauses (module_of v) s → IsSource s bytes (module_of n)
 made_source s bytes m v n e f a r d q =
     let same : m ≡ n = sym (e ∙ f) in
     subst (λ (z : ModuleValue). IsSource s bytes (module_of z)) same
     (record { accepted = record { unreserved = record { read = a; free = r }; valid = d }; quiet = subst (λ (z : ModuleValue). NeverPauses (module_of z) s) f q })
 
 -- a valid source of which something may pause
-pub made_pausing : (s : Settings) (bytes : List ℕ) (m v : ModuleValue) (which : List Bool) → v ≡ m → IsAccepted source_bounds bytes (module_of m) → reserved_at (module_of m) ≡ None → Valid (module_of m) → TellsMayPause (module_of v) s which → list_any (λ b. b) which ≡ true → IsRefusedFor s bytes not_built
+pub made_pausing : (s : Settings) (bytes : List ℕ) (m v : ModuleValue) (which : List Bool) → v ≡ m → IsAccepted source_bounds bytes (module_of m)
+    → reserved_at (module_of m) ≡ None → Valid (module_of m) → TellsMayPause (module_of v) s which → list_any (λ b. b) which ≡ true
+    → IsRefusedFor s bytes not_built
 made_pausing s bytes m v which f a r d tells h =
     let t = some_told which h in
     (module_of m, record { unreserved = record { read = a; free = r }; valid = d }, t.0, subst (λ (z : ModuleValue). MayPause (module_of z) s t.0) f ((tells.each t.0).0 t.1))

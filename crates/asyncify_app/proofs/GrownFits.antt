@@ -69,7 +69,8 @@ pub grown_fits : (m : Module) → WellFormed m → length m.types < 2 ^ 31 → f
 unfolding with_runtime
 grown_fits m w t f g = record {
   imports = w.imports;
-  funcs = All-append FuncFits m.funcs (runtime_funcs (length m.types) (global_space m) (global_space m + 1)) w.funcs (funcs_fit (length m.types) (global_space m) (global_space m + 1) (omega (arith, t)) (omega (arith, g)) (omega (arith, g)));
+  funcs = All-append FuncFits m.funcs (runtime_funcs (length m.types) (global_space m) (global_space m + 1))
+      w.funcs (funcs_fit (length m.types) (global_space m) (global_space m + 1) (omega (arith, t)) (omega (arith, g)) (omega (arith, g)));
   tables = w.tables;
   memories = All-append LimitsFit m.memories (added_memories (all_memories m)) w.memories (memories_fit (all_memories m));
   globals = All-append (λ (d : GlobalDef). CodeFits d.init) m.globals runtime_globals w.globals globals_fit;

@@ -29,16 +29,20 @@ source_held s input output None (Some b) h = tt
 source_held s input output (Some a) None h = absurd h
 source_held s input output (Some a) (Some b) h = (h.«module», h.source)
 
-refused_not_held : (s : Settings) (input : List ℕ) (files : Option Files) (cause : Cause) → WhereTold files (λ all. HoldsSource s (bytes_of all input)) → ToldThat files (λ all. IsRefusedFor s (bytes_of all input) cause) → ⊥
+refused_not_held : (s : Settings) (input : List ℕ) (files : Option Files) (cause : Cause)
+    → WhereTold files (λ all. HoldsSource s (bytes_of all input)) → ToldThat files (λ all. IsRefusedFor s (bytes_of all input) cause) → ⊥
 unfolding HoldsSource
 refused_not_held s input None cause h r = r
 refused_not_held s input (Some a) cause h r = source_passes s (bytes_of a input) h.0 cause h.1 r
 
-one_cause : (s : Settings) (input : List ℕ) (files : Option Files) (c d : Cause) → WhereTold files (λ all. IsRefusedFor s (bytes_of all input) c) → ToldThat files (λ all. IsRefusedFor s (bytes_of all input) d) → status_of c ≡ status_of d
+one_cause : (s : Settings) (input : List ℕ) (files : Option Files) (c d : Cause) → WhereTold files (λ all. IsRefusedFor s (bytes_of all input) c)
+    → ToldThat files (λ all. IsRefusedFor s (bytes_of all input) d) → status_of c ≡ status_of d
 one_cause s input None c d h k = absurd k
 one_cause s input (Some a) c d h k = one_status s (bytes_of a input) c d h k
 
-held_not_refused : (s : Settings) (input : List ℕ) (files : Option Files) (cause : Cause) → ToldThat files (λ all. IsSome (all input) × HoldsSource s (bytes_of all input)) → WhereTold files (λ all. IsRefusedFor s (bytes_of all input) cause) → ⊥
+held_not_refused : (s : Settings) (input : List ℕ) (files : Option Files) (cause : Cause)
+    → ToldThat files (λ all. IsSome (all input) × HoldsSource s (bytes_of all input))
+    → WhereTold files (λ all. IsRefusedFor s (bytes_of all input) cause) → ⊥
 unfolding HoldsSource
 held_not_refused s input None cause h r = h
 held_not_refused s input (Some a) cause h r = source_passes s (bytes_of a input) h.1.0 cause h.1.1 r
@@ -52,7 +56,8 @@ held_not_missing s input None h m = h
 held_not_missing s input (Some a) h m = some_not_none (a input) h.0 m
 
 -- the refusals of a `transform`
-refusals_of : (s : Settings) (input output : List ℕ) (c : Call) (status : ℕ) → Known s input output c status → (cause : Cause) → ToldThat c.files (λ all. IsRefusedFor s (bytes_of all input) cause) → (status ≡ status_of cause) ⊎ (status ≡ 9) ⊎ (status ≡ 10)
+refusals_of : (s : Settings) (input output : List ℕ) (c : Call) (status : ℕ) → Known s input output c status → (cause : Cause)
+    → ToldThat c.files (λ all. IsRefusedFor s (bytes_of all input) cause) → (status ≡ status_of cause) ⊎ (status ≡ 9) ⊎ (status ≡ 10)
 refusals_of s input output c status k cause r = elim k.statuses [
   | inl zero ↦ absurd (refused_not_held s input c.files cause (source_held s input output c.files c.files' (k.done (inl zero))) r)
   | inr x ↦ elim x [
@@ -70,7 +75,8 @@ refusals_of s input output c status k cause r = elim k.statuses [
   ]
 ]
 
-accepted_of : (s : Settings) (input output : List ℕ) (c : Call) (status : ℕ) → Known s input output c status → ToldThat c.files (λ all. IsSome (all input) × HoldsSource s (bytes_of all input)) → NothingFails c → (status ≡ 0) ⊎ (status ≡ 9)
+accepted_of : (s : Settings) (input output : List ℕ) (c : Call) (status : ℕ) → Known s input output c status
+    → ToldThat c.files (λ all. IsSome (all input) × HoldsSource s (bytes_of all input)) → NothingFails c → (status ≡ 0) ⊎ (status ≡ 9)
 accepted_of s input output c status k h n = elim k.statuses [
   | inl zero ↦ inl zero
   | inr x ↦ elim x [

@@ -61,7 +61,8 @@ pub told_memory : (line text : List ℕ) (old new : Option (List ℕ)) → line 
 told_memory line text old new e h = subst (λ l. Becomes old new (PrintsMemory l)) (sym e) h
 
 -- the line on memory alone, whatever the words spell
-pub memory_unread : (c : Option Command) (files : Option Files) (status : ℕ) (old new : Option (List ℕ)) → Becomes old new EndsInMemory → OnTransform c (λ s input output. status ≡ 9 → Becomes old new (RunsOutOfMemory s files input output))
+pub memory_unread : (c : Option Command) (files : Option Files) (status : ℕ) (old new : Option (List ℕ)) → Becomes old new EndsInMemory
+    → OnTransform c (λ s input output. status ≡ 9 → Becomes old new (RunsOutOfMemory s files input output))
 memory_unread None files status old new h = tt
 memory_unread (Some (transform s input output)) files status old new h = λ n. memory_any s files input output old new h
 
@@ -75,7 +76,9 @@ never_nine (invalid func rule at) e = absurd (omega (arith, e))
 never_nine not_built e = absurd (omega (arith, e))
 
 -- a refusal's status is that of its cause
-pub refused_has_cause : (s : Settings) (files : Option Files) (input : List ℕ) (status : ℕ) (cause : Cause) → (status ≡ status_of cause) ⊎ (status ≡ 9) → IsRefusal status → WhereTold files (λ all. IsRefusedFor s (bytes_of all input) cause) → HasCause s files input status
+pub refused_has_cause : (s : Settings) (files : Option Files) (input : List ℕ) (status : ℕ) (cause : Cause)
+    → (status ≡ status_of cause) ⊎ (status ≡ 9) → IsRefusal status → WhereTold files (λ all. IsRefusedFor s (bytes_of all input) cause)
+    → HasCause s files input status
 refused_has_cause s files input status cause e h told = elim e [
   | inl a ↦ (cause, a, told)
   | inr n ↦ absurd (never_nine h.0 (sym n ∙ h.1))

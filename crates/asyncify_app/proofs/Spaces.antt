@@ -11,13 +11,17 @@ use Rattle.wa_types.specs.Sizes.{is_func, is_global, imported as counted}
 use Rattle.wa_types.specs.Modules.{imported, imported_func, imported_global, global_type}
 use Rattle.wa_types.specs.Runtime.{func_space, global_space}
 
-func_step : (i : Import) (is : List Import) (kind : ImportKind) → i.kind ≡ kind → length (filter_map (λ (x : Import). imported_func x.kind) (i ∷ is)) ≡ cond (is_func i.kind) (1 + length (filter_map (λ (x : Import). imported_func x.kind) is)) (length (filter_map (λ (x : Import). imported_func x.kind) is))
+func_step : (i : Import) (is : List Import) (kind : ImportKind) → i.kind ≡ kind
+    → length (filter_map (λ (x : Import). imported_func x.kind) (i ∷ is))
+    ≡ cond (is_func i.kind) (1 + length (filter_map (λ (x : Import). imported_func x.kind) is)) (length (filter_map (λ (x : Import). imported_func x.kind) is))
 func_step i is (a_func_import sort) e = rw e (omega arith)
 func_step i is (a_table_import l) e = rw e refl
 func_step i is (a_memory_import l) e = rw e refl
 func_step i is (a_global_import t mutable) e = rw e refl
 
-global_step : (i : Import) (is : List Import) (kind : ImportKind) → i.kind ≡ kind → length (filter_map (λ (x : Import). imported_global x.kind) (i ∷ is)) ≡ cond (is_global i.kind) (1 + length (filter_map (λ (x : Import). imported_global x.kind) is)) (length (filter_map (λ (x : Import). imported_global x.kind) is))
+global_step : (i : Import) (is : List Import) (kind : ImportKind) → i.kind ≡ kind
+    → length (filter_map (λ (x : Import). imported_global x.kind) (i ∷ is))
+    ≡ cond (is_global i.kind) (1 + length (filter_map (λ (x : Import). imported_global x.kind) is)) (length (filter_map (λ (x : Import). imported_global x.kind) is))
 global_step i is (a_func_import sort) e = rw e refl
 global_step i is (a_table_import l) e = rw e refl
 global_step i is (a_memory_import l) e = rw e refl

@@ -76,7 +76,8 @@ becomes_by P Q (Some a) None f h = h
 told : (P : Files → Type 0) (old : Option Files) (a : Files) → old ≡ Some a → WhereTold old P → P a
 told P old a e h = subst (λ (o : Option Files). WhereTold o P) e h
 
-transformed_at : (s : Settings) (input output bytes text : List ℕ) (functions : ℕ) (a b : Files) → bytes ≡ take 8388609 (bytes_of a input) → IsRewritten s bytes functions text → ChangesOnly output text a b → IsTransformed s input output a b
+transformed_at : (s : Settings) (input output bytes text : List ℕ) (functions : ℕ) (a b : Files) → bytes ≡ take 8388609 (bytes_of a input)
+    → IsRewritten s bytes functions text → ChangesOnly output text a b → IsTransformed s input output a b
 transformed_at s input output bytes text functions a b e w c = record {
   «module» = w.0;
   source = source_of s bytes (bytes_of a input) w.0 e w.1;
@@ -86,11 +87,16 @@ transformed_at s input output bytes text functions a b e w c = record {
 }
 
 -- after the save
-pub transformed : (s : Settings) (input output bytes text : List ℕ) (functions : ℕ) (old mid new : Option Files) → mid ≡ old → WhereTold old (λ all. bytes ≡ take 8388609 (bytes_of all input)) → IsRewritten s bytes functions text → Becomes mid new (ChangesOnly output text) → Becomes old new (IsTransformed s input output)
+pub transformed : (s : Settings) (input output bytes text : List ℕ) (functions : ℕ) (old mid new : Option Files) → mid ≡ old
+    → WhereTold old (λ all. bytes ≡ take 8388609 (bytes_of all input)) → IsRewritten s bytes functions text
+    → Becomes mid new (ChangesOnly output text) → Becomes old new (IsTransformed s input output)
 transformed s input output bytes text functions old mid new same read w saved =
-    becomes_by (ChangesOnly output text) (IsTransformed s input output) old new (λ a b e c. transformed_at s input output bytes text functions a b (told (λ all. bytes ≡ take 8388609 (bytes_of all input)) old a e read) w c) (subst (λ (o : Option Files). Becomes o new (ChangesOnly output text)) same saved)
+    becomes_by (ChangesOnly output text) (IsTransformed s input output) old new
+    (λ a b e c. transformed_at s input output bytes text functions a b (told (λ all. bytes ≡ take 8388609 (bytes_of all input)) old a e read) w c)
+    (subst (λ (o : Option Files). Becomes o new (ChangesOnly output text)) same saved)
 
-left_at : (s : Settings) (input output bytes text : List ℕ) (functions : ℕ) (a b : Files) → bytes ≡ take 8388609 (bytes_of a input) → IsRewritten s bytes functions text → HoldsFrontAtMost output text a b → IsCutShort s input output a b
+left_at : (s : Settings) (input output bytes text : List ℕ) (functions : ℕ) (a b : Files) → bytes ≡ take 8388609 (bytes_of a input)
+    → IsRewritten s bytes functions text → HoldsFrontAtMost output text a b → IsCutShort s input output a b
 left_at s input output bytes text functions a b e w h = record {
   left = elim h.changed [
     | inl front ↦ inr (w.0, source_of s bytes (bytes_of a input) w.0 e w.1, front.0, subst (λ (bs : List ℕ). b output ≡ Some (take front.0 bs)) w.3 front.1)
@@ -100,9 +106,13 @@ left_at s input output bytes text functions a b e w h = record {
 }
 
 -- after a save that failed
-pub cut_short : (s : Settings) (input output bytes text : List ℕ) (functions : ℕ) (old mid new : Option Files) → mid ≡ old → WhereTold old (λ all. bytes ≡ take 8388609 (bytes_of all input)) → IsRewritten s bytes functions text → Becomes mid new (HoldsFrontAtMost output text) → Becomes old new (IsCutShort s input output)
+pub cut_short : (s : Settings) (input output bytes text : List ℕ) (functions : ℕ) (old mid new : Option Files) → mid ≡ old
+    → WhereTold old (λ all. bytes ≡ take 8388609 (bytes_of all input)) → IsRewritten s bytes functions text
+    → Becomes mid new (HoldsFrontAtMost output text) → Becomes old new (IsCutShort s input output)
 cut_short s input output bytes text functions old mid new same read w saved =
-    becomes_by (HoldsFrontAtMost output text) (IsCutShort s input output) old new (λ a b e c. left_at s input output bytes text functions a b (told (λ all. bytes ≡ take 8388609 (bytes_of all input)) old a e read) w c) (subst (λ (o : Option Files). Becomes o new (HoldsFrontAtMost output text)) same saved)
+    becomes_by (HoldsFrontAtMost output text) (IsCutShort s input output) old new
+    (λ a b e c. left_at s input output bytes text functions a b (told (λ all. bytes ≡ take 8388609 (bytes_of all input)) old a e read) w c)
+    (subst (λ (o : Option Files). Becomes o new (HoldsFrontAtMost output text)) same saved)
 
 -- of files that did not change
 pub uncut : (s : Settings) (input output : List ℕ) (old new : Option Files) → new ≡ old → Becomes old new (IsCutShort s input output)
@@ -110,17 +120,23 @@ uncut s input output None new e = subst (λ (o : Option Files). Becomes None o (
 uncut s input output (Some a) new e = subst (λ (o : Option Files). Becomes (Some a) o (IsCutShort s input output)) (sym e) (record { left = inl refl; others = λ other d. refl })
 
 -- what is counted
-pub counted : (s : Settings) (input bytes text : List ℕ) (functions len : ℕ) (old : Option Files) → len ≡ length text → WhereTold old (λ all. bytes ≡ take 8388609 (bytes_of all input)) → IsRewritten s bytes functions text → WhereTold old (λ all. IsCount s (bytes_of all input) functions len)
+pub counted : (s : Settings) (input bytes text : List ℕ) (functions len : ℕ) (old : Option Files) → len ≡ length text
+    → WhereTold old (λ all. bytes ≡ take 8388609 (bytes_of all input)) → IsRewritten s bytes functions text
+    → WhereTold old (λ all. IsCount s (bytes_of all input) functions len)
 counted s input bytes text functions len None l read w = tt
 counted s input bytes text functions len (Some a) l read w = (w.0, source_of s bytes (bytes_of a input) w.0 read w.1, w.2, l ∙ ap length w.3)
 
 -- what the front is refused for, the file is
-pub refused_for : (s : Settings) (input bytes : List ℕ) (old : Option Files) (cause : Cause) → WhereTold old (λ all. bytes ≡ take 8388609 (bytes_of all input)) → IsRefusedFor s bytes cause → WhereTold old (λ all. IsRefusedFor s (bytes_of all input) cause)
+pub refused_for : (s : Settings) (input bytes : List ℕ) (old : Option Files) (cause : Cause)
+    → WhereTold old (λ all. bytes ≡ take 8388609 (bytes_of all input)) → IsRefusedFor s bytes cause
+    → WhereTold old (λ all. IsRefusedFor s (bytes_of all input) cause)
 refused_for s input bytes None cause read h = tt
 refused_for s input bytes (Some a) cause read h = cause_whole s (bytes_of a input) cause (subst (λ bs. IsRefusedFor s bs cause) read h)
 
 -- an accepted source is in the file
-pub held : (s : Settings) (input bytes text : List ℕ) (functions : ℕ) (old : Option Files) → WhereTold old (λ all. bytes ≡ take 8388609 (bytes_of all input)) → IsRewritten s bytes functions text → WhereTold old (λ all. HoldsSource s (bytes_of all input))
+pub held : (s : Settings) (input bytes text : List ℕ) (functions : ℕ) (old : Option Files)
+    → WhereTold old (λ all. bytes ≡ take 8388609 (bytes_of all input)) → IsRewritten s bytes functions text
+    → WhereTold old (λ all. HoldsSource s (bytes_of all input))
 unfolding HoldsSource
 held s input bytes text functions None read w = tt
 held s input bytes text functions (Some a) read w = (w.0, source_of s bytes (bytes_of a input) w.0 read w.1)

@@ -66,5 +66,8 @@ pub record HasOneEnd (c : Call) (status : ℕ) : Type 0 where
   pub which : End
   pub by_status : status ≡ status_of_end which
   pub why : IsWhy c which
-  pub refusals : (cause : Cause) → ForTransform c.spelled (λ s input output. ToldThat c.files (λ all. IsRefusedFor s (bytes_of all input) cause)) → (status ≡ status_of cause) ⊎ (status ≡ 9) ⊎ (status ≡ 10)
-  pub accepted : ForTransform c.spelled (λ s input output. ToldThat c.files (λ all. IsSome (all input) × HoldsSource s (bytes_of all input))) → NothingFails c → (status ≡ 0) ⊎ (status ≡ 9)
+  pub refusals : (cause : Cause)
+      → ForTransform c.spelled (λ s input output. ToldThat c.files (λ all. IsRefusedFor s (bytes_of all input) cause))
+      → (status ≡ status_of cause) ⊎ (status ≡ 9) ⊎ (status ≡ 10)
+  pub accepted : ForTransform c.spelled (λ s input output. ToldThat c.files (λ all. IsSome (all input) × HoldsSource s (bytes_of all input)))
+      → NothingFails c → (status ≡ 0) ⊎ (status ≡ 9)

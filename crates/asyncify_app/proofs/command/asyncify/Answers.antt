@@ -31,8 +31,13 @@ returns-in-Err-Memory-clause-one_end g c = memory_ends _ c.out_of_memory.result 
 pub returns-in-Ok-Transform-clause-one_end : goal.returns-in-Ok-Transform-clause-one_end
 returns-in-Ok-Transform-clause-one_end g c =
     let words = command (map string_bytes c.args.words.now) in
-    let done : OnTransform words (λ s input output. (c.run_transform.result ≡ 0) ⊎ (c.run_transform.result ≡ 12) → Becomes (g.V.Vault.files c.args.vault.now) (g.V.Vault.files c.run_transform.new.vault) (IsTransformed s input output)) = search rules in
-    let read : OnTransform words (λ s input output. c.run_transform.result ≡ 10 → HasRisen (g.V.Vault.fetch_faults c.args.vault.now) (g.V.Vault.fetch_faults c.run_transform.new.vault) ⊎ IsMissing (g.V.Vault.files c.args.vault.now) input) = search rules in
-    let refused : OnTransform words (λ s input output. IsRefusal c.run_transform.result → HasCause s (g.V.Vault.files c.args.vault.now) input c.run_transform.result) = search rules in
-    let held : OnTransform words (λ s input output. c.run_transform.result ≡ 11 → WhereTold (g.V.Vault.files c.args.vault.now) (λ all. HoldsSource s (bytes_of all input))) = search rules in
-    transform_ends_on _ c.run_transform.result (command_of c.in-Ok-Transform.field-0) c.in-Ok-Transform.ensures c.run_transform.ensures.status done read refused held c.run_transform.ensures.write_fault c.run_transform.ensures.sink_fault
+    let done : OnTransform words (λ s input output. (c.run_transform.result ≡ 0) ⊎ (c.run_transform.result ≡ 12)
+    → Becomes (g.V.Vault.files c.args.vault.now) (g.V.Vault.files c.run_transform.new.vault) (IsTransformed s input output)) = search rules in
+    let read : OnTransform words (λ s input output. c.run_transform.result ≡ 10
+    → HasRisen (g.V.Vault.fetch_faults c.args.vault.now) (g.V.Vault.fetch_faults c.run_transform.new.vault) ⊎ IsMissing (g.V.Vault.files c.args.vault.now) input) = search rules in
+    let refused : OnTransform words (λ s input output. IsRefusal c.run_transform.result
+    → HasCause s (g.V.Vault.files c.args.vault.now) input c.run_transform.result) = search rules in
+    let held : OnTransform words (λ s input output. c.run_transform.result ≡ 11
+    → WhereTold (g.V.Vault.files c.args.vault.now) (λ all. HoldsSource s (bytes_of all input))) = search rules in
+    transform_ends_on _ c.run_transform.result (command_of c.in-Ok-Transform.field-0) c.in-Ok-Transform.ensures
+    c.run_transform.ensures.status done read refused held c.run_transform.ensures.write_fault c.run_transform.ensures.sink_fault

@@ -57,5 +57,11 @@ returns-in-Ok-encode-clause-done c =
     let s = settings_of c.args.settings.now in
     let m = module_of c.in_ok-module.module in
     let text : c.in-Ok-encode.text.items ≡ Enc (with_runtime m) = c.in-Ok-encode.ensures.ok ∙ ap Enc c.in-Ok.ensures.added in
-    let functions : c.len-functions.result ≡ length m.funcs = search (rules, length-map) in
-    (m, c.in_ok-module.ensures.source, functions, text, subst (λ (bs : List ℕ). SpellsModule bs (Norm (with_runtime m))) (sym text) (grown_spelled s c.args.bytes.now m (λ i. omega (arith, c.type_inv.bytes i)) c.in_ok-module.ensures.source))
+    let functions : c.len-functions.result ≡ length m.funcs = search (rules, length-map) in (
+      m,
+      c.in_ok-module.ensures.source,
+      functions,
+      text,
+      subst (λ (bs : List ℕ). SpellsModule bs (Norm (with_runtime m))) (sym text)
+          (grown_spelled s c.args.bytes.now m (λ i. omega (arith, c.type_inv.bytes i)) c.in_ok-module.ensures.source),
+    )
