@@ -1,37 +1,31 @@
 -- Constructs with a numbered call inside, and without.
-use Rattle.std.proofs.Common.{◌≡◌, ℕ, zero, suc, ◌+◌, ◌-◌, ◌<◌, ◌≤◌, ◌^◌, ◌∷◌, ◌++◌, List, [], length, Option, Some, None, Bool, true, false, refl, sym, ap, ◌∙◌, subst, arith}
+use Rattle.std.proofs.Common.{◌≡◌, ℕ, suc, ◌+◌, ◌≤◌, ◌∷◌, ◌++◌, List, [], Option, Some, None, Bool, true, false, refl, sym, ap, ◌∙◌, arith}
 use Rattle.std.specs.Prelude.{◌||◌, if◌then◌else◌}
 use Rattle.std.specs.Option.{is_some}
-use Rattle.std.specs.declared.vec.Vec.{Vec}
-use Rattle.std.specs.declared.alloc.Global.{Global}
-use Rattle.wa_types.specs.declared.values.ValType.TheVariants.{I32}
-use Rattle.wa_types.specs.declared.values.Value.TheVariants as V
-use Rattle.wa_types.specs.declared.operators.NumOp.TheVariants.{I32LtU}
 use Rattle.wa_types.specs.declared.instrs.Instr.{Instr}
-use Rattle.wa_types.specs.declared.instrs.Instr.TheVariants.{Block, Loop, If}
-use Rattle.wa_types.specs.Syntax.{const, num, global_get, basic, a_block, a_loop, Shape, Code, done, plain, nest, branch}
+use Rattle.wa_types.specs.Syntax.{a_block, Shape, Code, done, nest}
 use Rattle.wa_types.specs.View.{in_front, onto, code}
 use Rattle.wa_types.proofs.ViewLemmas.{in_block, in_loop, in_if, onto_done, onto_none}
 use Rattle.wa_model.specs.declared.flat.Operand.{Operand}
 use Rattle.wa_model.specs.Flat.{Stmts, no_more, computes, copies, calls, leaps, leaps_if, leaps_by, nests, decides, halts, followed_by, got, last_of, code_of}
-use Rattle.guard_form.specs.Pieces.{Units, no_unit, nest_unit, if_unit, numbers_in, call_total, numbered, holds_call, first_piece, unit_call, units, flat_units}
-use Rattle.guard_form.specs.Guarded.{GuardIndices, index_with, raised, guarded, choice, arm, front}
+use Rattle.guard_form.specs.Pieces.{no_unit, nest_unit, if_unit, numbers_in, call_total, numbered, holds_call, first_piece, unit_call, units, flat_units}
+use Rattle.guard_form.specs.Guarded.{GuardIndices, raised, guarded, arm, front}
 use Rattle.guard_form.proofs.CodeLemmas.{then_done}
 use Rattle.guard_form.proofs.Grouped.{joins, has_unit}
 use Rattle.wa_types.proofs.ViewLemmas.{is_block, is_loop, is_if, is_plain, kind}
 use Rattle.wa_types.specs.Counts.{depth_of}
 use Rattle.wa_model.specs.declared.flat.Operand.TheVariants.{Local, Const}
-use Rattle.guard_form.proofs.UnitLemmas.{Some_unit, arm_is, choice_is, choice_one, choice_two}
+use Rattle.guard_form.proofs.UnitLemmas.{Some_unit, arm_is}
 use Rattle.flow_rewrite.specs.declared.guards.Guards.{Guards}
 use Rattle.flow_rewrite.specs.declared.sequence.Sequence.{Sequence}
 use Rattle.flow_rewrite.specs.declared.sequence.Part.{Part}
 use Rattle.flow_rewrite.specs.Raising.{Raisable}
 use Rattle.flow_rewrite.specs.Statements.{with_rest, one_code, one_place, one_holds, Fits}
-use Rattle.flow_rewrite.specs.Emitting.{Puts, indices, first_of, written_with, Same, Good, Settled, IsPart, Stepped, choice_code}
-use Rattle.flow_rewrite.proofs.StmtLemmas.{if_true, if_false, fits_one}
+use Rattle.flow_rewrite.specs.Emitting.{Puts, indices, first_of, written_with, Same, Good, Settled, IsPart, Stepped}
+use Rattle.flow_rewrite.proofs.StmtLemmas.{if_true, if_false}
 use Rattle.flow_rewrite.proofs.FitLemmas.{raisable_puts, one_raisable}
 use Rattle.flow_rewrite.proofs.PutLemmas.{put_one}
-use Rattle.flow_rewrite.proofs.SequenceLemmas.{same_on, step_piece, raisable_none}
+use Rattle.flow_rewrite.proofs.SequenceLemmas.{step_piece, raisable_none}
 
 pub or_false : (x y : Bool) → (x || y) ≡ false → (x ≡ false) × (y ≡ false)
 or_false true y e = cc
@@ -123,13 +117,13 @@ module _ (g : Guards) (d : ℕ) (a0 a b : Sequence) (y : Shape) (body : Stmts) (
       let pl : b.place ≡ m = place ∙ part.place in
       let nu : b.number ≡ k + numbers_in (units ps n body) = number ∙ part.number in
       let ua : units ps a.place (nests y body s)
-          ≡ nest_unit y (first_piece ps n body) (units ps n body) (first_piece ps m s) (units ps m s) = ap (λ z. units ps z (nests y body s)) st.place ∙ unit s in
+      ≡ nest_unit y (first_piece ps n body) (units ps n body) (first_piece ps m s) (units ps m s) = ap (λ z. units ps z (nests y body s)) st.place ∙ unit s in
       let fa : first_of ps a (nests y body s)
-          ≡ code a.piece.items = ap (onto a.piece.items) (ap (λ z. first_piece ps z (nests y body s)) st.place ∙ nothing s) ∙ onto_done a.piece.items in
+      ≡ code a.piece.items = ap (onto a.piece.items) (ap (λ z. first_piece ps z (nests y body s)) st.place ∙ nothing s) ∙ onto_done a.piece.items in
       let fb : first_of ps b s ≡ first_piece ps m s = (λ j. onto (piece j) (first_piece ps (pl j) s)) ∙ onto_none (first_piece ps m s) in
       let behind_code = front i d (k + numbers_in (units ps n body)) (first_piece ps m s) (units ps m s) in
       let one : written_with i ps d a (nests y body s)
-          ≡ onto a.out.items (guarded i (code a.piece.items) (nest y None (front i (suc d) k (first_piece ps n body) (units ps n body)) behind_code)) =
+      ≡ onto a.out.items (guarded i (code a.piece.items) (nest y None (front i (suc d) k (first_piece ps n body) (units ps n body)) behind_code)) =
       (λ j. onto a.out.items (if st.closed j then nest a_block None (onto a.call.items (raised 0 1 (first_of ps a (nests y body s)))) (front i d a.number done (units ps a.place (nests y body s))) else front i d (st.number j) (fa j) (ua j))) in
       let two : written_with i ps d b s ≡ onto b.out.items behind_code =
       (λ j. onto b.out.items (if behind j then nest a_block None (onto b.call.items (raised 0 1 (first_of ps b s))) (front i d b.number done (units ps b.place s)) else front i d (nu j) (fb j) (units ps (pl j) s))) in

@@ -1,19 +1,17 @@
 -- A whole function.
-use Rattle.std.proofs.Common.{◌≡◌, ℕ, suc, ◌+◌, ◌<◌, ◌≤◌, ◌^◌, List, [], length, Bool, true, false, refl, sym, ap, ◌∙◌, subst, arith}
+use Rattle.std.proofs.Common.{◌≡◌, ◌<◌, ◌^◌, List, [], length, Bool, true, false, refl, sym, ap, ◌∙◌, subst, arith}
 use Rattle.std.specs.Prelude.{if◌then◌else◌}
 use Rattle.wa_types.specs.declared.instrs.Instr.{Instr}
 use Rattle.wa_types.specs.Syntax.{Code, done}
 use Rattle.wa_types.specs.View.{onto, code}
-use Rattle.wa_types.specs.Counts.{depth_of}
 use Rattle.wa_types.proofs.ViewLemmas.{onto_done, onto_none}
-use Rattle.wa_model.specs.Flat.{FlatFunc, code_of}
+use Rattle.wa_model.specs.Flat.{FlatFunc}
 use Rattle.wa_model.specs.FlatFits.{StmtsFit, FlatFits}
 use Rattle.guard_form.specs.Pieces.{call_total, first_piece, units}
 use Rattle.guard_form.specs.Guarded.{GuardIndices, guarded, guarded_code, front}
 use Rattle.flow_rewrite.specs.declared.guards.Guards.{Guards}
 use Rattle.flow_rewrite.specs.declared.sequence.Part.{Part}
 use Rattle.flow_rewrite.specs.Raising.{Raisable}
-use Rattle.flow_rewrite.specs.Statements.{Fits}
 use Rattle.flow_rewrite.specs.Emitting.{Puts, Rises, indices, IsPart, Ready}
 use Rattle.flow_rewrite.proofs.StmtLemmas.{if_true, if_false}
 use Rattle.flow_rewrite.proofs.ConstructSteps.{part_held, part_plain, part_none, first_is}

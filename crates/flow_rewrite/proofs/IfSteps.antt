@@ -1,37 +1,23 @@
 -- An `if` with a numbered call inside, and without.
-use Rattle.std.proofs.Common.{◌≡◌, ℕ, zero, suc, ◌+◌, ◌-◌, ◌<◌, ◌≤◌, ◌^◌, ◌∷◌, ◌++◌, List, [], length, Option, Some, None, Bool, true, false, refl, sym, ap, ◌∙◌, subst, arith}
+use Rattle.std.proofs.Common.{◌≡◌, ℕ, suc, ◌+◌, ◌∷◌, ◌++◌, List, [], Some, None, Bool, true, false, refl, sym, ap, ◌∙◌, subst, arith}
 use Rattle.std.specs.Prelude.{◌||◌, if◌then◌else◌}
-use Rattle.std.specs.Option.{is_some}
-use Rattle.std.specs.declared.vec.Vec.{Vec}
-use Rattle.std.specs.declared.alloc.Global.{Global}
 use Rattle.wa_types.specs.declared.values.ValType.TheVariants.{I32}
-use Rattle.wa_types.specs.declared.values.Value.TheVariants as V
-use Rattle.wa_types.specs.declared.operators.NumOp.TheVariants.{I32LtU}
 use Rattle.wa_types.specs.declared.instrs.Instr.{Instr}
-use Rattle.wa_types.specs.declared.instrs.Instr.TheVariants.{Block, Loop, If}
-use Rattle.wa_types.specs.Syntax.{const, num, global_get, basic, a_block, a_loop, Shape, Code, done, plain, nest, branch}
+use Rattle.wa_types.specs.Syntax.{global_get, basic, a_block, Code, done, plain, nest, branch}
 use Rattle.wa_types.specs.View.{in_front, onto, code}
-use Rattle.wa_types.proofs.ViewLemmas.{in_block, in_loop, in_if, onto_done, onto_none}
+use Rattle.wa_types.proofs.ViewLemmas.{onto_done, onto_none}
 use Rattle.wa_model.specs.declared.flat.Operand.{Operand}
-use Rattle.wa_model.specs.Flat.{Stmts, no_more, computes, copies, calls, leaps, leaps_if, leaps_by, nests, decides, halts, followed_by, got, last_of, code_of}
-use Rattle.guard_form.specs.Pieces.{Units, no_unit, nest_unit, if_unit, numbers_in, call_total, numbered, holds_call, first_piece, unit_call, units, flat_units}
-use Rattle.guard_form.specs.Guarded.{GuardIndices, index_with, raised, guarded, choice, arm, front}
-use Rattle.guard_form.proofs.CodeLemmas.{then_done}
-use Rattle.guard_form.proofs.Grouped.{joins, has_unit}
-use Rattle.wa_types.proofs.ViewLemmas.{is_block, is_loop, is_if, is_plain, kind}
-use Rattle.wa_types.specs.Counts.{depth_of}
-use Rattle.wa_model.specs.declared.flat.Operand.TheVariants.{Local, Const}
-use Rattle.guard_form.proofs.UnitLemmas.{Some_unit, arm_is, choice_is, choice_one, choice_two}
+use Rattle.wa_model.specs.Flat.{Stmts, no_more, decides, followed_by, got}
+use Rattle.guard_form.specs.Pieces.{Units, no_unit, if_unit, numbers_in, call_total, holds_call, first_piece, units}
+use Rattle.guard_form.specs.Guarded.{GuardIndices, raised, choice, arm, front}
+use Rattle.guard_form.proofs.UnitLemmas.{Some_unit, choice_is, choice_one, choice_two}
 use Rattle.flow_rewrite.specs.declared.guards.Guards.{Guards}
 use Rattle.flow_rewrite.specs.declared.sequence.Sequence.{Sequence}
 use Rattle.flow_rewrite.specs.declared.sequence.Part.{Part}
-use Rattle.flow_rewrite.specs.Raising.{Raisable}
-use Rattle.flow_rewrite.specs.Statements.{with_rest, one_code, one_place, one_holds, Fits}
+use Rattle.flow_rewrite.specs.Statements.{Fits}
 use Rattle.flow_rewrite.specs.Emitting.{Puts, indices, first_of, written_with, Same, Good, Settled, IsPart, Stepped, choice_code}
-use Rattle.flow_rewrite.proofs.StmtLemmas.{if_true, if_false, fits_one}
-use Rattle.flow_rewrite.proofs.FitLemmas.{raisable_puts, one_raisable}
+use Rattle.flow_rewrite.proofs.StmtLemmas.{if_true}
 use Rattle.flow_rewrite.proofs.PutLemmas.{put_one}
-use Rattle.flow_rewrite.proofs.SequenceLemmas.{same_on, step_piece, raisable_none}
 use Rattle.flow_rewrite.proofs.ConstructSteps.{or_false, not_both, true_or, part_some, part_none, part_plain, part_arm, piece_stepped, numbers_few, good_behind, condition_is}
 
 choice_by : (i : GuardIndices) (k : ℕ) (ua ub : Units) (b1 b2 : Bool) → (b1 ≡ true → Some_unit ua) → (b1 ≡ false → ua ≡ no_unit) → (b2 ≡ true → Some_unit ub)
@@ -105,7 +91,7 @@ module _ (g : Guards) (d : ℕ) (a0 a b : Sequence) (o : Operand) (sa sb : Stmts
       let two : written_with i ps d b s ≡ onto b.out.items behind_code =
       (λ j. onto b.out.items (if closed j then nest a_block None (onto b.call.items (raised 0 1 (first_of ps b s))) (front i d b.number done (units ps b.place s)) else front i d (nu j) (fb j) (units ps (pl j) s))) in
       let three : onto b.out.items behind_code
-          ≡ onto a.out.items (plain (basic (global_get g.state)) (branch (Some I32) (code chosen) (code piece) (branch None (code p.code.items) (code q.code.items) behind_code))) =
+      ≡ onto a.out.items (plain (basic (global_get g.state)) (branch (Some I32) (code chosen) (code piece) (branch None (code p.code.items) (code q.code.items) behind_code))) =
       put_one l1 b.out.items x (λ z. branch None (code p.code.items) (code q.code.items) z) pushed is behind_code ∙ p1 (branch None (code p.code.items) (code q.code.items) behind_code) in
       let pa = part_arm i ps (suc d) n k sa p part1 p.held refl in
       let pb = part_arm i ps (suc d) n2 k2 sb q part2 q.held refl in

@@ -1,15 +1,12 @@
 -- What is put behind a list of instructions.
-use Rattle.std.proofs.Common.{◌≡◌, ℕ, suc, ◌+◌, ◌<◌, ◌≤◌, ◌∷◌, ◌++◌, List, [], length, get_or, take, drop, Option, Some, None, refl, sym, ap, ◌∙◌, subst, arith}
+use Rattle.std.proofs.Common.{◌≡◌, ℕ, ◌+◌, ◌<◌, ◌≤◌, ◌∷◌, ◌++◌, List, [], length, get_or, take, Option, Some, refl, sym, ap, ◌∙◌}
 use Rattle.std.proofs.lemmas.List.{take_more, take_all}
-use Rattle.std.specs.declared.vec.Vec.{Vec}
-use Rattle.std.specs.declared.alloc.Global.{Global}
-use Rattle.wa_types.specs.declared.values.ValType.{ValType}
 use Rattle.wa_types.specs.declared.values.Value.{Value}
 use Rattle.wa_types.specs.declared.values.Value.TheVariants as V
 use Rattle.wa_types.specs.declared.instrs.Instr.{Instr}
 use Rattle.wa_types.specs.declared.operators.NumOp.{NumOp}
 use Rattle.wa_types.specs.declared.instrs.Instr.TheVariants.{Unreachable, Const as ConstInstr, Num, Br, BrIf, LocalGet, LocalSet, GlobalGet}
-use Rattle.wa_types.specs.Syntax.{const, num, global_get, basic, local_get, local_set, br, br_if, unreachable, Plain, Code, done, plain}
+use Rattle.wa_types.specs.Syntax.{const, num, global_get, basic, local_get, local_set, br, br_if, unreachable, Code, done, plain}
 use Rattle.wa_types.specs.View.{in_front, onto, code}
 use Rattle.wa_types.proofs.ViewLemmas.{is_block, is_loop, is_if, is_plain, kind, in_block, in_loop, in_if, onto_append, onto_done, onto_none}
 use Rattle.wa_model.specs.declared.flat.Operand.{Operand}

@@ -1,16 +1,16 @@
 -- What is written of a sequence, statement by statement.
-use Rattle.std.proofs.Common.{◌≡◌, ℕ, zero, suc, ◌+◌, ◌<◌, ◌≤◌, ◌^◌, ◌∷◌, ◌++◌, List, [], length, get_or, Option, Some, None, Bool, true, false, refl, sym, ap, ◌∙◌, subst, arith}
+use Rattle.std.proofs.Common.{◌≡◌, ℕ, ◌+◌, ◌<◌, ◌≤◌, ◌^◌, ◌∷◌, ◌++◌, List, [], length, None, Bool, true, false, refl, sym, ap, ◌∙◌, subst, arith}
 use Rattle.std.specs.Prelude.{◌||◌, nat_eq, not, if◌then◌else◌}
 use Rattle.std.specs.declared.vec.Vec.{Vec}
 use Rattle.std.specs.declared.alloc.Global.{Global}
 use Rattle.wa_types.specs.declared.instrs.Instr.{Instr}
 use Rattle.wa_types.specs.declared.instrs.Instr.TheVariants.{Block}
-use Rattle.wa_types.specs.Syntax.{Plain, basic, a_block, Shape, Code, done, plain, nest, branch}
+use Rattle.wa_types.specs.Syntax.{a_block, Code, done, nest}
 use Rattle.wa_types.specs.Counts.{depth_of}
 use Rattle.wa_types.specs.View.{in_front, onto, code}
 use Rattle.wa_types.proofs.ViewLemmas.{is_block, is_loop, is_if, is_plain, kind, in_block, in_loop, in_if, onto_append, onto_done, onto_none}
 use Rattle.wa_model.specs.Flat.{Stmts, no_more}
-use Rattle.guard_form.specs.Pieces.{Units, no_unit, numbers_in, call_total, holds_call, first_piece, units}
+use Rattle.guard_form.specs.Pieces.{no_unit, numbers_in, call_total, holds_call, first_piece, units}
 use Rattle.guard_form.specs.Guarded.{GuardIndices, by_state, raised, guarded, front}
 use Rattle.flow_rewrite.specs.declared.sequence.Sequence.{Sequence}
 use Rattle.flow_rewrite.specs.Raising.{Raisable}
@@ -88,7 +88,7 @@ pub step_piece : (i : GuardIndices) (ps : List ℕ) (d : ℕ) (a b : Sequence) (
 step_piece i ps d a b u s free out behind call held number place puts =
     let us : units ps a.place (with_rest u s) ≡ units ps b.place s = units_with ps a.place u s free ∙ ap (λ n. units ps n s) (sym place) in
     let fi : first_of ps a (with_rest u s)
-        ≡ first_of ps b s = ap (onto a.piece.items) (first_with ps a.place u s free ∙ ap (λ n. one_code u (first_piece ps n s)) (sym place)) ∙ sym (puts (first_piece ps b.place s)) in
+    ≡ first_of ps b s = ap (onto a.piece.items) (first_with ps a.place u s free ∙ ap (λ n. one_code u (first_piece ps n s)) (sym place)) ∙ sym (puts (first_piece ps b.place s)) in
     record {
       written = (λ j. onto (sym out j) (if sym behind j then nest a_block None (onto (sym call j) (raised 0 1 (fi j))) (front i d (sym number j) done (us j)) else front i d (sym number j) (fi j) (us j)));
       held = ap (λ z. a.held || z) (holds_with ps a.place u s ∙ ap (λ z. z || holds_call ps (one_place a.place u) s) free) ∙ (λ j. sym held j || holds_call ps (sym place j) s);

@@ -1,27 +1,23 @@
 -- Statements, one by one.
-use Rattle.std.proofs.Common.{◌≡◌, ℕ, zero, suc, ◌+◌, ◌<◌, ◌≤◌, ◌^◌, ◌∷◌, ◌++◌, List, [], length, get_or, take, drop, Option, Some, None, Bool, true, false, max, refl, sym, ap, ◌∙◌, subst, arith, add-one, drop-cons}
-use Rattle.std.specs.Prelude.{◌||◌, if◌then◌else◌, All}
+use Rattle.std.proofs.Common.{◌≡◌, ℕ, zero, suc, ◌+◌, ◌<◌, ◌≤◌, ◌∷◌, List, [], length, get_or, drop, Option, Some, None, Bool, true, false, refl, sym, ap, ◌∙◌, arith, add-one, drop-cons}
+use Rattle.std.specs.Prelude.{◌||◌, if◌then◌else◌}
 use Rattle.std.specs.Option.{is_some}
 use Rattle.std.specs.declared.vec.Vec.{Vec}
 use Rattle.std.specs.declared.alloc.Global.{Global}
 use Rattle.wa_types.specs.declared.instrs.Instr.{Instr}
 use Rattle.wa_types.specs.declared.instrs.Instr.TheVariants.{Block' as BlockInstr', Loop' as LoopInstr', If' as IfInstr'}
-use Rattle.wa_types.specs.Syntax.{Plain, basic, local_get, local_set, local_tee, br, br_if, br_table, return, unreachable, call, call_indirect, a_block, a_loop, Code, done, plain, nest, branch}
-use Rattle.wa_types.specs.View.{in_front, onto, code}
-use Rattle.wa_types.specs.Pausing.{Callee}
-use Rattle.wa_types.specs.Counts.{depth_of}
-use Rattle.wa_types.proofs.ViewLemmas.{onto_append}
+use Rattle.wa_types.specs.Syntax.{Plain, basic, local_get, local_set, local_tee, a_block, a_loop, Code, done, plain, nest, branch}
+use Rattle.wa_types.specs.View.{in_front}
 use Rattle.wasm_tree.specs.Kinds.{is_leaf}
 use Rattle.wa_model.specs.declared.flat.Operand.{Operand}
-use Rattle.wa_model.specs.declared.flat.Operand.TheVariants.{Local, Const}
 use Rattle.wa_model.specs.declared.flat.Stmt.{Stmt, Row_of-Stmt, end_of-Stmt, more_of-Stmt, items-the_row-Stmt, items_hidden-the_row-Stmt-0}
 use Rattle.wa_model.specs.declared.flat.Stmt.TheBlock.{hidden-the_row-Stmt-0}
 use Rattle.wa_model.specs.declared.flat.Stmt.TheVariants.{Plain as PlainStmt, Move, Call, Br as BrStmt, BrIf as BrIfStmt, BrTable as BrTableStmt, Block, Loop, If, Unreachable as UnreachableStmt, Block', Loop', If'}
-use Rattle.wa_model.specs.Flat.{Stmts, no_more, computes, copies, calls, leaps, leaps_if, leaps_by, nests, decides, halts, followed_by, got, all_got, set_to, slots_got, last_of, code_of}
+use Rattle.wa_model.specs.Flat.{Stmts, no_more, computes, copies, calls, leaps, leaps_if, leaps_by, nests, decides, halts, followed_by, got, set_to, slots_got, last_of, code_of}
 use Rattle.wa_model.specs.FlatView.{stmt_in_front, row_stmts, stmts}
 use Rattle.wa_model.specs.FlatFits.{StmtsFit, ComputesFit}
-use Rattle.guard_form.specs.Pieces.{Units, call_total, numbered, holds_call, piece_call, first_piece, unit_call, units}
-use Rattle.flow_rewrite.specs.Statements.{with_rest, one_code, one_place, one_holds, IsSimple, Fits}
+use Rattle.guard_form.specs.Pieces.{call_total, numbered, holds_call, piece_call, first_piece, unit_call, units}
+use Rattle.flow_rewrite.specs.Statements.{with_rest, one_code, one_place, one_holds}
 
 -- ---- the view
 

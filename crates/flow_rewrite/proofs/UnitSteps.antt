@@ -1,31 +1,27 @@
 -- Units: numbered calls, and constructs with one inside.
-use Rattle.std.proofs.Common.{◌≡◌, ℕ, zero, suc, ◌+◌, ◌-◌, ◌<◌, ◌≤◌, ◌^◌, ◌∷◌, ◌++◌, List, [], length, get_or, take, drop, Option, Some, None, Bool, true, false, refl, sym, ap, ◌∙◌, subst, arith}
+use Rattle.std.proofs.Common.{◌≡◌, ℕ, suc, ◌+◌, ◌-◌, ◌≤◌, ◌∷◌, ◌++◌, List, [], length, take, drop, Option, Some, None, Bool, true, false, refl, sym, ap, ◌∙◌, arith}
 use Rattle.std.specs.Prelude.{◌||◌, if◌then◌else◌}
 use Rattle.std.proofs.lemmas.List.{take_all}
 use Rattle.std.proofs.Common.{length-drop}
 use Rattle.std.specs.Option.{is_some}
-use Rattle.wa_types.specs.declared.values.ValType.TheVariants.{I32}
 use Rattle.wa_types.specs.declared.instrs.Instr.{Instr}
 use Rattle.wa_types.specs.declared.values.Value.TheVariants as V
-use Rattle.wa_types.specs.declared.operators.NumOp.TheVariants.{I32Ne, I32LtU}
+use Rattle.wa_types.specs.declared.operators.NumOp.TheVariants.{I32Ne}
 use Rattle.wa_types.specs.declared.instrs.Instr.TheVariants.{BrIf}
-use Rattle.wa_types.specs.Syntax.{const, num, global_get, local_get, local_set, br_if, Plain, basic, call, call_indirect, a_block, Shape, Code, done, plain, nest, branch}
-use Rattle.wa_types.specs.View.{in_front, onto, code}
-use Rattle.wa_types.specs.Pausing.{Callee, direct, indirect, callee}
+use Rattle.wa_types.specs.Syntax.{const, num, global_get, local_get, local_set, br_if, basic, call, call_indirect, a_block, Code, done, plain, nest, branch}
+use Rattle.wa_types.specs.View.{onto, code}
+use Rattle.wa_types.specs.Pausing.{Callee, direct, indirect}
 use Rattle.wa_types.proofs.ViewLemmas.{onto_done, onto_none}
-use Rattle.wa_model.specs.Flat.{Stmts, no_more, calls, nests, decides, followed_by, set_to, slots_got, last_of, code_of}
+use Rattle.wa_model.specs.Flat.{Stmts, no_more, calls, followed_by, set_to, slots_got, last_of}
 use Rattle.wa_model.specs.FlatFits.{IsCallCode}
-use Rattle.guard_form.specs.Pieces.{Units, no_unit, numbers_in, call_to, call_total, sole_callee, numbered, holds_call, piece_call, first_piece, unit_call, units}
-use Rattle.guard_form.specs.Guarded.{GuardIndices, index_with, raised, guarded, sought, noted, arm, front}
+use Rattle.guard_form.specs.Pieces.{numbers_in, call_to, call_total, sole_callee, numbered, holds_call, piece_call, first_piece, unit_call, units}
+use Rattle.guard_form.specs.Guarded.{GuardIndices, index_with, raised, sought, noted, front}
 use Rattle.guard_form.specs.Grouping.{is_place}
 use Rattle.flow_rewrite.specs.declared.guards.Guards.{Guards}
 use Rattle.flow_rewrite.specs.declared.sequence.Sequence.{Sequence}
-use Rattle.flow_rewrite.specs.declared.sequence.Part.{Part}
-use Rattle.flow_rewrite.specs.Raising.{Raisable}
-use Rattle.flow_rewrite.specs.Statements.{with_rest, one_code, one_place, one_holds, Fits}
-use Rattle.flow_rewrite.specs.Emitting.{Puts, indices, first_of, written_with, Same, Good, Settled, IsPart, Stepped}
+use Rattle.flow_rewrite.specs.Statements.{one_code, Fits}
+use Rattle.flow_rewrite.specs.Emitting.{Puts, indices, first_of, written_with, Same, Good, Settled, Stepped}
 use Rattle.flow_rewrite.proofs.PutLemmas.{put_one, br_if_is}
-use Rattle.flow_rewrite.proofs.StmtLemmas.{if_true, if_false}
 use Rattle.flow_rewrite.proofs.FitLemmas.{raisable_puts, one_raisable}
 use Rattle.flow_rewrite.proofs.SequenceLemmas.{same_on, step_piece, raisable_none}
 
@@ -88,14 +84,14 @@ module _ (g : Guards) (d : ℕ) (a0 a b : Sequence) (op : Code) (x : Callee) (st
       let pl : b.place ≡ suc a.place = place ∙ omega arith in
       let nu : b.number ≡ suc a.number = number ∙ omega arith in
       let fa : first_of ps a (calls op stack args to s)
-          ≡ code a.piece.items = ap (λ o. onto a.piece.items (piece_call o (slots_got (last_of args stack) (followed_by op (set_to to (first_piece ps (suc a.place) s)))))) some ∙ onto_done a.piece.items in
+      ≡ code a.piece.items = ap (λ o. onto a.piece.items (piece_call o (slots_got (last_of args stack) (followed_by op (set_to to (first_piece ps (suc a.place) s)))))) some ∙ onto_done a.piece.items in
       let ua = ap (λ o. unit_call o (last_of args stack) to (first_piece ps (suc a.place) s) (units ps (suc a.place) s)) some in
       let fb : first_of ps b s ≡ first_piece ps (suc a.place) s = (λ j. onto (piece j) (first_piece ps (pl j) s)) ∙ onto_none (first_piece ps (suc a.place) s) in
       let one : written_with (indices g) ps d a (calls op stack args to s)
-          ≡ onto a.out.items (front (indices g) d a.number (code a.piece.items) (unit_call (Some x) (last_of args stack) to (first_piece ps (suc a.place) s) (units ps (suc a.place) s))) =
+      ≡ onto a.out.items (front (indices g) d a.number (code a.piece.items) (unit_call (Some x) (last_of args stack) to (first_piece ps (suc a.place) s) (units ps (suc a.place) s))) =
       (λ j. onto a.out.items (if st.closed j then nest a_block None (onto a.call.items (raised 0 1 (first_of ps a (calls op stack args to s)))) (front (indices g) d a.number done (units ps a.place (calls op stack args to s))) else front (indices g) d a.number (fa j) (ua j))) in
       let two : written_with (indices g) ps d b s
-          ≡ onto a.out.items (nest a_block None (onto b.call.items (raised 0 1 (first_piece ps (suc a.place) s))) (front (indices g) d (suc a.number) done (units ps (suc a.place) s))) =
+      ≡ onto a.out.items (nest a_block None (onto b.call.items (raised 0 1 (first_piece ps (suc a.place) s))) (front (indices g) d (suc a.number) done (units ps (suc a.place) s))) =
       (λ j. onto (out j) (if behind j then nest a_block None (onto b.call.items (raised 0 1 (fb j))) (front (indices g) d (nu j) done (units ps (pl j) s)) else front (indices g) d b.number (first_of ps b s) (units ps b.place s))) in
       record {
         written = one ∙ sym (two ∙ ap (λ z. onto a.out.items (nest a_block None z (front (indices g) d (suc a.number) done (units ps (suc a.place) s)))) (block (raised 0 1 (first_piece ps (suc a.place) s))));

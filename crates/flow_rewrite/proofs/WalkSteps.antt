@@ -1,10 +1,10 @@
 -- Along the statements of a sequence.
-use Rattle.std.proofs.Common.{◌≡◌, ℕ, zero, suc, ◌+◌, ◌-◌, ◌<◌, ◌≤◌, ◌^◌, ◌∷◌, ◌++◌, List, [], length, get_or, take, drop, Option, Some, None, Bool, true, false, Result, Ok, Err, OnOk, IfOk, max, refl, sym, ap, ◌∙◌, subst, arith}
+use Rattle.std.proofs.Common.{◌≡◌, ℕ, suc, ◌+◌, ◌<◌, ◌≤◌, ◌^◌, ◌∷◌, List, [], length, get_or, drop, Option, Some, None, Bool, true, false, Result, Ok, Err, OnOk, IfOk, max, refl, sym, ap, ◌∙◌, subst, arith}
 use Rattle.std.specs.Prelude.{◌||◌, if◌then◌else◌}
 use Rattle.std.specs.declared.vec.Vec.{Vec}
 use Rattle.std.specs.declared.alloc.Global.{Global}
 use Rattle.wa_types.specs.declared.instrs.Instr.{Instr}
-use Rattle.wa_types.specs.Syntax.{local_set, br_if, br_table, Plain, basic, a_block, a_loop, Shape, Code, done, plain, nest, branch}
+use Rattle.wa_types.specs.Syntax.{local_set, br_if, br_table, a_block, Shape, Code, done, plain, nest, branch}
 use Rattle.wa_types.specs.View.{in_front, onto, code}
 use Rattle.wa_types.specs.Counts.{depth_of}
 use Rattle.wa_types.proofs.ViewLemmas.{onto_done, onto_none}
@@ -23,8 +23,8 @@ use Rattle.flow_rewrite.specs.declared.guards.Guards.{Guards}
 use Rattle.flow_rewrite.specs.declared.sequence.Sequence.{Sequence}
 use Rattle.flow_rewrite.specs.declared.sequence.Part.{Part}
 use Rattle.flow_rewrite.specs.Statements.{with_rest, one_code, one_place, one_holds, IsSimple, Fits}
-use Rattle.flow_rewrite.specs.Emitting.{Puts, Rises, indices, first_of, written_with, Same, Good, IsPart, Stepped, Ready, ReadyAt, Walked}
-use Rattle.flow_rewrite.proofs.StmtLemmas.{if_true, if_false, in_front_is, fits_one, one_plain, leaf_of, stmts_step, stmts_end, block_is, loop_is, if_is, call_is, total_with}
+use Rattle.flow_rewrite.specs.Emitting.{Puts, indices, first_of, written_with, Same, IsPart, Stepped, Ready, ReadyAt, Walked}
+use Rattle.flow_rewrite.proofs.StmtLemmas.{if_true, if_false, in_front_is, fits_one, one_plain, leaf_of, stmts_step, stmts_end, call_is, total_with}
 use Rattle.flow_rewrite.proofs.SequenceLemmas.{raisable_none}
 use Rattle.flow_rewrite.proofs.ConstructSteps.{first_is, piece_stepped, numbers_few}
 

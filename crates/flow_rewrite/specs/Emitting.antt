@@ -1,5 +1,5 @@
 -- What instructions are put behind others, and what of a sequence is written so far.
-use Rattle.std.specs.Prelude.{◌≡◌, ◌≤◌, ◌<◌, ◌^◌, ◌+◌, ◌||◌, ℕ, suc, List, [], length, get_or, None, Bool, true, false, if◌then◌else◌}
+use Rattle.std.specs.Prelude.{◌≡◌, ◌≤◌, ◌<◌, ◌^◌, ◌+◌, ◌||◌, ℕ, List, length, get_or, None, Bool, true, false, if◌then◌else◌}
 use Rattle.wa_types.specs.declared.instrs.Instr.{Instr}
 use Rattle.wa_types.specs.Syntax.{const, num, basic, a_block, Code, done, plain, nest}
 use Rattle.wa_types.specs.declared.operators.NumOp.TheVariants.{I32LtU}

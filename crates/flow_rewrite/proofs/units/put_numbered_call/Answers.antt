@@ -1,6 +1,6 @@
 use Rattle.std.proofs.Common.{◌≡◌, suc, ◌+◌, arith, ap, refl, ◌∙◌}
 use Rattle.wa_types.specs.Syntax.{done}
-use Rattle.wa_types.specs.View.{in_front, onto, code}
+use Rattle.wa_types.specs.View.{in_front, code}
 use Rattle.guard_form.specs.Guarded.{raised}
 use Rattle.flow_rewrite.specs.Emitting.{indices}
 use Rattle.flow_rewrite.proofs.UnitSteps.{callee_of, numbered_stepped, block_of, test_of}
