@@ -140,9 +140,9 @@ units_with ps n (halts rest) s h = refl
 
 pub fits_one : (locals l : ℕ) (u s : Stmts) → StmtsFit locals l (with_rest u s) → StmtsFit locals l (with_rest u no_more) × StmtsFit locals l s
 fits_one locals l no_more s h = (tt, h)
-fits_one locals l (computes op args to rest) s h = ((h.0, h.1, h.2, tt), h.3)
+fits_one locals l (computes op args to rest) s h = ((h.0, h.1, h.2, h.3, tt), h.4)
 fits_one locals l (copies to from rest) s h = ((h.0, h.1, tt), h.2)
-fits_one locals l (calls op stack args to rest) s h = ((h.0, h.1, h.2, h.3, tt), h.4)
+fits_one locals l (calls op stack args to rest) s h = ((h.0, h.1, h.2, h.3, h.4, tt), h.5)
 fits_one locals l (leaps x rest) s h = ((h.0, tt), h.1)
 fits_one locals l (leaps_if c x rest) s h = ((h.0, h.1, tt), h.2)
 fits_one locals l (leaps_by o ls x rest) s h = ((h.0, h.1, h.2, tt), h.3)

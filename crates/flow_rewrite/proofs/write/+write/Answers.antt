@@ -30,7 +30,7 @@ pub write_stmt-put_call-requires-clause-fits : goal.write_stmt-put_call-requires
 write_stmt-put_call-requires-clause-fits t c = call_fits c.args.guards.now.index c.args.depth c.args.stmt.now c.in-Call.op c.in-Call.stack c.in-Call.args c.in-Call.to c.deref.result.now c.in-Call.is c.deref.ensures.value c.requires.fits
 
 pub write_stmt-put_call-requires-clause-args : goal.write_stmt-put_call-requires-clause-args
-write_stmt-put_call-requires-clause-args t c = (call_fits c.args.guards.now.index c.args.depth c.args.stmt.now c.in-Call.op c.in-Call.stack c.in-Call.args c.in-Call.to c.deref.result.now c.in-Call.is c.deref.ensures.value c.requires.fits).fit.2
+write_stmt-put_call-requires-clause-args t c = (call_fits c.args.guards.now.index c.args.depth c.args.stmt.now c.in-Call.op c.in-Call.stack c.in-Call.args c.in-Call.to c.deref.result.now c.in-Call.is c.deref.ensures.value c.requires.fits).fit.3
 
 pub write_stmt-write_sequence-requires : goal.write_stmt-write_sequence-requires
 write_stmt-write_sequence-requires t c = (search (rules, the_lemmas), nest_ready c.args.guards.now c.args.depth c.args.at.now c.args.stmt.now a_block (stmts c.deref-in-Block.result.now) (block_is c.args.stmt.now c.in-Block.body c.in-Block.is no_more ∙ ap (λ xs. nests a_block (stmts xs) no_more) (sym c.deref-in-Block.ensures.value)) c.requires)
