@@ -257,7 +257,7 @@ returns-then-count-gt-MOST_LOCALS c =
     let w = c.in_ok-typing.ensures g (ap (λ k. defined_at m (k + i)) c.requires.imports ∙ defined v i f lt at valid) in
     let given = c.first_result-given.ensures ∙ sym (result_is v i f lt at valid t ta) in
     let first : c.len.result + c.count_runs.result ≡ length (locals_of m g) =
-        omega (arith, c.len.ensures, c.count_runs.ensures, ap (λ rs. length (declared_locals rs)) c.deref.ensures.value, length-append (type_at m f.sort).params (declared_locals f.locals.items), ap (λ (z : FuncType). length z.params) kind) in
+    omega (arith, c.len.ensures, c.count_runs.ensures, ap (λ rs. length (declared_locals rs)) c.deref.ensures.value, length-append (type_at m f.sort).params (declared_locals f.locals.items), ap (λ (z : FuncType). length z.params) kind) in
     let named = same_names m g c.in_ok-names.names c.in_ok-typing.typing _ _ _ (c.in_ok-names.ensures) w given first (ap code c.deref-2.ensures.value) in
     let count = ap (λ z. z + 3) c.from-count.ensures ∙ counted m g _ c.end.result _ (c.names.view_is ∙ named) c.end.ensures c.names.invariant in
     let there = func_there v i f lt at valid in
@@ -408,7 +408,7 @@ returns c =
     let w = c.in_ok-typing.ensures g (ap (λ k. defined_at m (k + i)) c.requires.imports ∙ defined v i f lt at valid) in
     let given = c.first_result-given.ensures ∙ sym (result_is v i f lt at valid t ta) in
     let first : c.len.result + c.count_runs.result ≡ length (locals_of m g) =
-        omega (arith, c.len.ensures, c.count_runs.ensures, ap (λ rs. length (declared_locals rs)) c.deref.ensures.value, length-append (type_at m f.sort).params (declared_locals f.locals.items), ap (λ (z : FuncType). length z.params) kind) in
+    omega (arith, c.len.ensures, c.count_runs.ensures, ap (λ rs. length (declared_locals rs)) c.deref.ensures.value, length-append (type_at m f.sort).params (declared_locals f.locals.items), ap (λ (z : FuncType). length z.params) kind) in
     let named = same_names m g c.in_ok-names.names c.in_ok-typing.typing _ _ _ (c.in_ok-names.ensures) w given first (ap code c.deref-2.ensures.value) in
     let count = ap (λ z. z + 3) c.from-count.ensures ∙ counted m g _ c.end.result _ (c.names.view_is ∙ named) c.end.ensures c.names.invariant in
     let there = func_there v i f lt at valid in
