@@ -132,18 +132,18 @@ pub same_result : (m : Module) (f : Func) (n : Names) (given : Option ValType) (
 same_result m f n given r e en eg = e ∙ ap (λ z. result_at z 0 given) en ∙ ap (result_at (names m f) 0) eg ∙ result_same (names m f) (around m f).result
 
 pub same_locals : (m : Module) (f : Func) (n : Names) (ps : List ValType) (rs : List Run) (ls : List ValType)
-        → ls ≡ ((ps ++ declared_locals rs) ++ map (λ (p : Pair). p.ty) n.slots) ++ map (λ (p : Pair). p.ty) n.results → ps ≡ (type_at m f.sort).params → rs ≡ f.locals → n ≡ names m f → ls ≡ (flattened m 0 f).locals
+    → ls ≡ ((ps ++ declared_locals rs) ++ map (λ (p : Pair). p.ty) n.slots) ++ map (λ (p : Pair). p.ty) n.results → ps ≡ (type_at m f.sort).params → rs ≡ f.locals → n ≡ names m f → ls ≡ (flattened m 0 f).locals
 same_locals m f n ps rs ls e ep er en =
     e ∙ ap (λ z. ((z ++ declared_locals rs) ++ map (λ (p : Pair). p.ty) n.slots) ++ map (λ (p : Pair). p.ty) n.results) ep
     ∙ ap (λ z. (((type_at m f.sort).params ++ declared_locals z) ++ map (λ (p : Pair). p.ty) n.slots) ++ map (λ (p : Pair). p.ty) n.results) er
     ∙ ap (λ (z : Names). (locals_of m f ++ map (λ (p : Pair). p.ty) z.slots) ++ map (λ (p : Pair). p.ty) z.results) en
 
 pub answered : (m : Module) (x s : ℕ) (f g : Func) (o : Option Func) (ls : List ValType) (r : Option ℕ) (b : Stmts)
-        → o ≡ Some f → o ≡ Some g → s ≡ f.sort → ls ≡ (flattened m 0 f).locals → r ≡ (flattened m 0 f).result → b ≡ (flattened m 0 f).body → Count m f ≤ 50000
-        → (mk_flat x s ls r b ≡ flattened m x g) × (Count m g ≤ 50000)
+    → o ≡ Some f → o ≡ Some g → s ≡ f.sort → ls ≡ (flattened m 0 f).locals → r ≡ (flattened m 0 f).result → b ≡ (flattened m 0 f).body → Count m f ≤ 50000
+    → (mk_flat x s ls r b ≡ flattened m x g) × (Count m g ≤ 50000)
 answered m x s f g o ls r b ef eg es el er eb few =
     subst (λ (z : Func). (mk_flat x s ls r b ≡ flattened m x z) × (Count m z ≤ 50000)) (same_one f g o ef eg)
-        (ap (λ z. mk_flat x z ls r b) es ∙ ap (λ z. mk_flat x f.sort z r b) el ∙ ap (λ z. mk_flat x f.sort (flattened m 0 f).locals z b) er ∙ ap (mk_flat x f.sort (flattened m 0 f).locals (flattened m 0 f).result) eb, few)
+    (ap (λ z. mk_flat x z ls r b) es ∙ ap (λ z. mk_flat x f.sort z r b) el ∙ ap (λ z. mk_flat x f.sort (flattened m 0 f).locals z b) er ∙ ap (mk_flat x f.sort (flattened m 0 f).locals (flattened m 0 f).result) eb, few)
 
 -- so many locals, where the names end here
 pub counted : (m : Module) (f : Func) (n : Names) (end at : ℕ) → n ≡ names m f → end ≡ at + length n.results → at ≡ n.first + length n.slots → end + 3 ≡ Count m f

@@ -73,8 +73,7 @@ no_more_passes m (w ∷ ws) = tt
 
 pub sofar_done : (m : Module) (ws : List Bool) (fs : List Func) (x i : ℕ) (out : List FlatFunc) → Sofar m ws fs x i out → length fs ≤ i → (out ≡ flat_told m x ws fs) × NonePasses m ws fs
 sofar_done m ws fs x i out s le =
-    let e : drop i fs ≡ [] = drop_all i fs le in
-    (
+    let e : drop i fs ≡ [] = drop_all i fs le in (
       sym (append-nil out) ∙ ap (λ z. out ++ z) (sym (ap (flat_told m (x + i) (drop i ws)) e ∙ no_more_told m (x + i) (drop i ws))) ∙ s.puts,
       s.none (subst (NonePasses m (drop i ws)) (sym e) (no_more_passes m (drop i ws))),
     )
@@ -97,20 +96,20 @@ module _ (m : Module) (which : List Bool) (x i at : ℕ) (out : List FlatFunc) (
   go_skip e = let f = some_at m.funcs i lt in sofar_skip m (drop x which) m.funcs x i out s false f.0 long lt (told false e) f.1 refl
 
   pub go_put : (new : List FlatFunc) (flat : FlatFunc) (y : ℕ) → get_or which at false ≡ true → y ≡ x + i → new ≡ out ++ flat ∷ []
-          → ((f : Func) → slice_get m.funcs i ≡ Some f → (flat ≡ flattened m y f) × (Count m f ≤ 50000)) → Sofar m (drop x which) m.funcs x (i + 1) new
+      → ((f : Func) → slice_get m.funcs i ≡ Some f → (flat ≡ flattened m y f) × (Count m f ≤ 50000)) → Sofar m (drop x which) m.funcs x (i + 1) new
   go_put new flat y e ey en h =
       let f = some_at m.funcs i lt in
       let given = h f.0 (slice_get-get_or m.funcs i f.0 lt ∙ ap (λ z. Some z) (sym f.1)) in
       sofar_put m (drop x which) m.funcs x i out s true f.0 long lt (told true e) f.1 new refl given.1 (en ∙ ap (λ z. out ++ z ∷ []) (given.0 ∙ ap (λ z. flattened m z f.0) ey))
 
   pub go_stop : (func count y : ℕ) → get_or which at false ≡ true → y ≡ x + i
-          → ((f : Func) → slice_get m.funcs i ≡ Some f → (func ≡ y) × (count ≡ Count m f) × (50000 < Count m f)) → FirstPasses m func count x (drop x which) m.funcs
+      → ((f : Func) → slice_get m.funcs i ≡ Some f → (func ≡ y) × (count ≡ Count m f) × (50000 < Count m f)) → FirstPasses m func count x (drop x which) m.funcs
   go_stop func count y e ey h =
       let f = some_at m.funcs i lt in
       let given = h f.0 (slice_get-get_or m.funcs i f.0 lt ∙ ap (λ z. Some z) (sym f.1)) in
       sofar_stop m (drop x which) m.funcs x i out s true f.0 long lt (told true e) f.1 func count refl (given.0 ∙ ey) given.1 given.2
 
 pub stops : (m : Module) (which : List Bool) (i at y : ℕ) (out : List FlatFunc) → Sofar m (drop (func_imports m) which) m.funcs (func_imports m) i out → length which ≡ func_imports m + length m.funcs → i < length m.funcs → at ≡ func_imports m + i
-        → get_or which at false ≡ true → y ≡ func_imports m + i → (fault : FlatFault) → ((f : Func) → slice_get m.funcs i ≡ Some f → FlatAnswer m y f (Err fault)) → Flattens m which (Err fault)
+    → get_or which at false ≡ true → y ≡ func_imports m + i → (fault : FlatFault) → ((f : Func) → slice_get m.funcs i ≡ Some f → FlatAnswer m y f (Err fault)) → Flattens m which (Err fault)
 stops m which i at y out s many lt ea e ey Memory h = tt
 stops m which i at y out s many lt ea e ey (Locals func count) h = go_stop m which (func_imports m) i at out s many lt ea func count y e ey h

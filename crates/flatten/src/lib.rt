@@ -2,9 +2,6 @@
 //! statements.
 #![tactic(auto)]
 
-mod numbers;
-mod position;
-mod survey;
 mod body;
 mod calls;
 mod constructs;
@@ -14,6 +11,9 @@ mod jumps;
 mod leaves;
 mod locals;
 mod marks;
+mod numbers;
+mod position;
+mod survey;
 mod whole;
 
 pub use fault::FlatFault;

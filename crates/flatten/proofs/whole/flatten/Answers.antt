@@ -46,7 +46,7 @@ returns-in_err-flat c =
     let at = ap (λ k. k + i) start in
     let p = err_from_is_err_and c.from_residual.result c.from_residual.ensures.1 in
     subst (Flattens m c.args.which.now) (sym p.1) (subst (λ z. Flattens m c.args.which.now (Err z)) (sym p.2)
-        (stops m c.args.which.now i _ _ _ c.loop-index.invariant c.requires.which lt at c.if-not-which-imports.false at c.in_err-flat.field-0.0 c.in_err-flat.ensures))
+    (stops m c.args.which.now i _ _ _ c.loop-index.invariant c.requires.which lt at c.if-not-which-imports.false at c.in_err-flat.field-0.0 c.in_err-flat.ensures))
 
 -- src/whole.rt:169:5
 pub loop-index-preserved : goal.loop-index-preserved
