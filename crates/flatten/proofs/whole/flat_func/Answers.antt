@@ -1,4 +1,4 @@
-use Rattle.std.proofs.Common.{arith, ap, sym, subst, refl, ◌≡◌, ◌+◌, ◌^◌, ◌<◌, ◌∙◌, length, get_or, slice_get, [], ◌∷◌}
+use Rattle.std.proofs.Common.{arith, ap, sym, subst, refl, ◌≡◌, ◌+◌, ◌∙◌, length, get_or, [], ◌∷◌}
 use Rattle.wa_types.specs.declared.syntax.Module.{Module as ModuleValue}
 use Rattle.wa_types.specs.Validity.{Valid as IsValid}
 use Rattle.wa_types.specs.Sizes.{SizeRule, code_items}
