@@ -1,5 +1,5 @@
 -- Functions of valid modules, flattened.
-use Rattle.std.proofs.Common.{◌≡◌, ℕ, ◌++◌, List, [], ◌∷◌, reverse, map, length, Option, None, Some, slice_get, refl, ap, sym, ◌∙◌, subst, get_or, nat_lt, if◌then◌else◌, Bool, true, false, replicate, length-append, ◌<◌, ◌≤◌, ◌-◌, ◌+◌, ◌*◌, ◌^◌, zero, suc, arith}
+use Rattle.std.proofs.Common.{◌≡◌, ℕ, ◌++◌, List, [], ◌∷◌, reverse, map, length, Option, None, Some, slice_get, refl, ap, sym, ◌∙◌, subst, get_or, nat_lt, if◌then◌else◌, Bool, true, false, replicate, length-append, ◌<◌, ◌≤◌, ◌-◌, ◌+◌, ◌^◌, zero, suc, arith}
 use Rattle.std.specs.Option.{option_map}
 use Rattle.std.specs.List.{sum_by}
 use Rattle.std.proofs.lemmas.List.Sums.{sum_by-cons}
@@ -25,7 +25,7 @@ use Rattle.wa_types.specs.declared.values.ValType.{ValType}
 use Rattle.flat_laws.specs.Flatten.{Names, slots, names, flattened, result_of}
 use Rattle.wa_model.specs.Flat.{FlatFunc, Stmts}
 use Rattle.flatten.specs.Whole.{names_at}
-use Rattle.wa_types.specs.Frames.{Pair, SlotPairs, ResultPairs, Count}
+use Rattle.wa_types.specs.Frames.{Pair, Count}
 use Rattle.flatten.specs.declared.numbers.TypeAt.{TypeAt}
 use Rattle.flatten.specs.Numbers.{pair_of}
 

@@ -8,7 +8,7 @@ pub enum FlatFault {
     Memory,
     /// The function of this index would have so many parameters and locals, rewritten: more than 50,000.
     #[error("{count} locals in function {func}")]
-    Locals { func: u32, count: u64 },
+    Locals { func: u32, count: u32 },
 }
 
 impl From<AllocError> for FlatFault {

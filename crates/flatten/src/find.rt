@@ -1,4 +1,4 @@
-ghost use Rattle.std.specs.Prelude.{◌≡◌, ◌+◌, ◌<◌, ◌^◌, ◌∷◌, [], IfOk};
+ghost use Rattle.std.specs.Prelude.{◌≡◌, ◌+◌, ◌<◌, ◌≤◌, ◌^◌, ◌∷◌, [], length, IfOk};
 ghost use Rattle.wa_types.specs.Sizes.{code_items};
 ghost use Rattle.wa_types.specs.View.{code};
 ghost use Rattle.wasm_validate.specs.Walk.{TypedAt};
@@ -27,7 +27,8 @@ pub(crate) fn find_names(
     requires own { typing.own ≡ [] }
     requires under { typing.under ≡ [] }
     requires room { first + code_items (code body.now) + 1 < 2 ^ 32 }
-    ensures { IfOk result (λ n. n ≡ names_at first typing.entry given (code body.now)) }
+    ensures names { IfOk result (λ n. n ≡ names_at first typing.entry given (code body.now)) }
+    ensures few { IfOk result (λ n. length n.slots + length n.results ≤ code_items (code body.now) + 1) }
 {
     let mut found = Found {
         slots: Vec::new(alloc),

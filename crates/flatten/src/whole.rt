@@ -24,7 +24,7 @@ use wa_types::{FuncType, Instr, Run, ValType};
 use wasm_validate::{Typing, Valid};
 
 /// So many parameters and locals a rewritten function has at most.
-const MOST_LOCALS: u64 = 50_000;
+const MOST_LOCALS: u32 = 50_000;
 
 /// Puts the types of these.
 fn put_each_type(out: &mut Vec<ValType>, pairs: &[TypeAt]) -> Result<(), AllocError>
@@ -132,7 +132,7 @@ fn flat_func(
     let first = ty.params.len() as u32 + count_runs(&source.locals);
     let typing = Typing::start(alloc, valid, func)?;
     let names = find_names(alloc, typing, given, first, &source.body)?;
-    let count = u64::from(names.results.end()) + 3;
+    let count = names.results.end() + 3;
     if count > MOST_LOCALS {
         return Err(FlatFault::Locals { func, count });
     }

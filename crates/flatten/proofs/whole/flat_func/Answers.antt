@@ -1,4 +1,4 @@
-use Rattle.std.proofs.Common.{arith, ap, sym, subst, refl, ◌≡◌, ◌+◌, ◌^◌, ◌<◌, ◌∙◌, length, get_or, slice_get, [], ◌∷◌}
+use Rattle.std.proofs.Common.{arith, ap, sym, subst, refl, ◌≡◌, ◌+◌, ◌∙◌, length, get_or, [], ◌∷◌}
 use Rattle.wa_types.specs.declared.syntax.Module.{Module as ModuleValue}
 use Rattle.wa_types.specs.Validity.{Valid as IsValid}
 use Rattle.wa_types.specs.Sizes.{SizeRule, code_items}
@@ -9,6 +9,7 @@ use Rattle.wa_types.specs.Syntax.{FuncType}
 use Rattle.wa_types.specs.Modules.{declared_locals, defined_at, locals_of, type_at}
 use Rattle.wa_types.specs.View.{module_of, func_of, code}
 use Rattle.flatten.proofs.FuncLemmas.{sort_below, all_few, number_few, defined, begins_typed, small_types, result_is, func_there, type_is, same_names, same_flat, same_result, same_locals, answered, counted, refused}
+use Rattle.flat_laws.specs.Flatten.{Names}
 use Rattle.flatten.proofs.whole.flat_func.Goals as goal
 
 pub index-ty-requires : goal.index-ty-requires
@@ -234,7 +235,24 @@ find_names-requires-clause-room c =
     omega (arith, few, ap (λ xs. code_items (code xs)) c.deref-2.ensures.value, c.len.ensures, c.count_runs.ensures, ap (λ rs. length (declared_locals rs)) c.deref.ensures.value)
 
 pub overflow_add-count : goal.overflow_add-count
-overflow_add-count c = omega (arith, c.from-count.ensures, c.end.type_inv)
+overflow_add-count c =
+    let v = c.args.valid.now in
+    let same = c.module-module.ensures.same in
+    let valid = subst (λ (z : ModuleValue). IsValid (module_of z)) same c.module-module.ensures.valid in
+    let wide = subst (λ (z : ModuleValue). SizeRule (module_of z)) same c.module-module.ensures.sizes in
+    let sizes = c.requires.sizes in
+    let i = c.args.index in
+    let f = c.index-source.result.now in
+    let lt = c.requires.within in
+    let at : f ≡ get_or v.funcs.items i f = c.index-source.ensures ∙ ap (λ (z : ModuleValue). get_or z.funcs.items i f) same in
+    let t = c.index-ty.result.now in
+    let ta : t ≡ get_or v.types.items f.sort t = c.index-ty.ensures ∙ ap (λ (z : ModuleValue). get_or z.types.items f.sort t) same in
+    let few = all_few v i f lt at valid t ta sizes in
+    let number = number_few v i f lt at valid wide in
+    let fst = ap (λ (z : Names). z.first) (c.names.view_is ∙ c.in_ok-names.ensures.names) in
+    let slots = ap (λ (z : Names). length z.slots) c.names.view_is in
+    let results = ap (λ (z : Names). length z.results) c.names.view_is in
+    omega (arith, few, fst, slots, results, c.end-count.ensures, c.names.invariant, c.in_ok-names.ensures.few, ap (λ xs. code_items (code xs)) c.deref-2.ensures.value, c.len.ensures, c.count_runs.ensures, ap (λ rs. length (declared_locals rs)) c.deref.ensures.value)
 
 pub returns-then-count-gt-MOST_LOCALS : goal.returns-then-count-gt-MOST_LOCALS
 returns-then-count-gt-MOST_LOCALS c =
@@ -258,8 +276,8 @@ returns-then-count-gt-MOST_LOCALS c =
     let given = c.first_result-given.ensures ∙ sym (result_is v i f lt at valid t ta) in
     let first : c.len.result + c.count_runs.result ≡ length (locals_of m g) =
     omega (arith, c.len.ensures, c.count_runs.ensures, ap (λ rs. length (declared_locals rs)) c.deref.ensures.value, length-append (type_at m f.sort).params (declared_locals f.locals.items), ap (λ (z : FuncType). length z.params) kind) in
-    let named = same_names m g c.in_ok-names.names c.in_ok-typing.typing _ _ _ (c.in_ok-names.ensures) w given first (ap code c.deref-2.ensures.value) in
-    let count = ap (λ z. z + 3) c.from-count.ensures ∙ counted m g _ c.end.result _ (c.names.view_is ∙ named) c.end.ensures c.names.invariant in
+    let named = same_names m g c.in_ok-names.names c.in_ok-typing.typing _ _ _ (c.in_ok-names.ensures.names) w given first (ap code c.deref-2.ensures.value) in
+    let count = counted m g _ c.end-count.result _ (c.names.view_is ∙ named) c.end-count.ensures c.names.invariant in
     let there = func_there v i f lt at valid in
     λ h e. refused m _ _ g h _ there e count c.if-count-gt-MOST_LOCALS.true
 
@@ -409,8 +427,8 @@ returns c =
     let given = c.first_result-given.ensures ∙ sym (result_is v i f lt at valid t ta) in
     let first : c.len.result + c.count_runs.result ≡ length (locals_of m g) =
     omega (arith, c.len.ensures, c.count_runs.ensures, ap (λ rs. length (declared_locals rs)) c.deref.ensures.value, length-append (type_at m f.sort).params (declared_locals f.locals.items), ap (λ (z : FuncType). length z.params) kind) in
-    let named = same_names m g c.in_ok-names.names c.in_ok-typing.typing _ _ _ (c.in_ok-names.ensures) w given first (ap code c.deref-2.ensures.value) in
-    let count = ap (λ z. z + 3) c.from-count.ensures ∙ counted m g _ c.end.result _ (c.names.view_is ∙ named) c.end.ensures c.names.invariant in
+    let named = same_names m g c.in_ok-names.names c.in_ok-typing.typing _ _ _ (c.in_ok-names.ensures.names) w given first (ap code c.deref-2.ensures.value) in
+    let count = counted m g _ c.end-count.result _ (c.names.view_is ∙ named) c.end-count.ensures c.names.invariant in
     let there = func_there v i f lt at valid in
     let w2 = c.in_ok-typing-2.ensures g (ap (λ k. defined_at m (k + i)) c.requires.imports ∙ defined v i f lt at valid) in
     let body = same_flat m g c.in_ok-names.names c.in_ok-typing-2.typing _ _ (c.in_ok-body.ensures) named w2 (ap code c.deref-5.ensures.value) in

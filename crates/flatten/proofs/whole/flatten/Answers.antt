@@ -1,15 +1,7 @@
-use Rattle.std.proofs.Common.{rules, ◌≡◌, ◌+◌, ◌<◌, ◌^◌, ◌∷◌, ◌++◌, [], length, map, slice_get, Some, IfOk, OnOk, ℕ, ◌-◌, ◌*◌, ◌≤◌, ◌/◌, ◌%◌, Bool, true, false, nat_eq, nat_lt, List, slice_index_or, slice_set, bit_and, bit_or, Fits, w8, w32, w64, Bor, MutBor}
-use Rattle.flat_laws.specs.Flatten.{Names as FlatNames}
-use Rattle.wa_model.specs.FlatView.{flat_func_of, stmts}
-use Rattle.wa_types.specs.Frames.{Pair}
-use Rattle.wa_types.specs.Modules.{declared_locals, func_imports}
-use Rattle.wa_types.specs.Sizes.{code_items, StrictSizeRule}
-use Rattle.wa_types.specs.Syntax.{Func as PlainFunc}
-use Rattle.wa_types.specs.View.{code, module_of}
-use Rattle.wasm_validate.specs.Walk.{TypedAt}
-use Rattle.flatten.specs.Emitting.{flat_at, Ready, SmallTypes}
-use Rattle.flatten.specs.declared.numbers.TypeAt.{TypeAt as TypeAtValue}
-use Rattle.flatten.specs.Whole.{FlatAnswer, Flattens}
+use Rattle.std.proofs.Common.{◌≡◌, ◌+◌, ◌<◌, length, ◌-◌}
+use Rattle.wa_types.specs.Modules.{func_imports}
+use Rattle.wa_types.specs.View.{module_of}
+use Rattle.flatten.specs.Whole.{Flattens}
 use Rattle.std.proofs.Common.{arith, ap, subst, sym, Err}
 use Rattle.std.proofs.lemmas.List.{length-map}
 use Rattle.std.proofs.lemmas.Result.{err_from_is_err_and}
