@@ -9,3 +9,4 @@ pub mod ConstructSteps
 pub mod IfSteps
 pub mod WalkSteps
 pub mod GuardLemmas
+pub mod NumberingLemmas

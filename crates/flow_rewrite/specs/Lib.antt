@@ -1,3 +1,4 @@
 pub mod Emitting
+pub mod Numbering
 pub mod Raising
 pub mod Statements

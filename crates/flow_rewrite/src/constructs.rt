@@ -73,7 +73,7 @@ pub(crate) fn put_loop(
 }
 
 /// Whether one of two is told.
-fn either(first: bool, second: bool) -> bool
+pub(crate) fn either(first: bool, second: bool) -> bool
     ensures { result ≡ (first || second) }
 {
     first || second

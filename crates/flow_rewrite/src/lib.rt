@@ -9,9 +9,11 @@ mod constructs;
 mod function;
 mod guards;
 mod labels;
+mod numbering;
 mod put;
 mod sequence;
 mod units;
 mod write;
 
 pub use function::{GuardedFunc, guard};
+pub use numbering::number_calls;
