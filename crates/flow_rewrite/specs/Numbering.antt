@@ -1,8 +1,8 @@
 -- Which calls of a flat function get a number.
-use Rattle.std.specs.Prelude.{◌≡◌, ◌+◌, ◌++◌, ◌<◌, ◌^◌, ◌||◌, ℕ, List, [], ◌∷◌, Option, Some, None, Bool, true, false, not, slice_get}
-use Rattle.wa_types.specs.Pausing.{Callee, direct, indirect, is_told, places_from}
+use Rattle.std.specs.Prelude.{◌++◌, ◌||◌, List, [], ◌∷◌, Option, Some, None, Bool, false, not, slice_get}
+use Rattle.wa_types.specs.Pausing.{Callee, direct, indirect, is_told}
 use Rattle.wa_model.specs.Flat.{Stmts, no_more, computes, copies, calls, leaps, leaps_if, leaps_by, nests, decides, halts}
-use Rattle.guard_form.specs.Pieces.{call_total, sole_callee}
+use Rattle.guard_form.specs.Pieces.{sole_callee}
 
 -- what the calls go to, in order of code
 abbrev pub callees : Stmts → List (Option Callee)
