@@ -12,7 +12,7 @@ runs=${RUNS:-3}
 make_module() {
     python3 - "$1" "$2" "$3" <<'PY'
 import sys
-from wasm_bytes import module, section, sized, unsigned
+from wasm_bytes import PAUSING, TABLE, module, section, sized, unsigned
 
 kind, megabytes, path = sys.argv[1], float(sys.argv[2]), sys.argv[3]
 size = int(megabytes * 1_000_000)
@@ -32,7 +32,8 @@ if kind == "open":
     code = b"\x01" + unsigned(size) + b"\x00" + b"\x02\x40" * (size // 2)
     whole = module(section(1, [b"\x60\x00\x00"]), section(3, [b"\x00"]), b"\x0a" + unsigned(len(code) + 16) + code)
 else:
-    whole = module(section(1, [b"\x60\x01\x7f\x01\x7f"]), section(3, [b"\x00"] * len(bodies)), section(10, bodies))
+    bodies.append(PAUSING)
+    whole = module(section(1, [b"\x60\x01\x7f\x01\x7f"]), section(3, [b"\x00"] * len(bodies)), TABLE, section(10, bodies))
 open(path, "wb").write(whole)
 PY
 }

@@ -3,7 +3,8 @@
 # 14), beside `wasm-opt` reading and writing the same file and `wasm-validate` (Debian's binaryen and wabt). Each shape is
 # made at an eighth, a quarter, half and the whole of its bound: a body of 1 MB, blocks nested 1,000 deep, 100,000
 # functions, as many small bodies of 50,000 locals each, tables of 10,000 labels, and a body of 1 MB of calls with 1,000
-# parameters behind `unreachable`; and, for its growth alone, bodies with a run for each of 50,000 locals. User time, the
+# parameters behind `unreachable`; and, for their growth alone, bodies with a run for each of 50,000 locals, and 239,000 export
+# names whose hashes in a table of `indexmap` are all 0, which take at most 1.5 s. Each has a call through a table. User time, the
 # least of RUNS runs (5), of `wasm-opt` one; beside `wasm-validate` the median of RUNS runs of both in turns. SHAPES names
 # the shapes to time.
 # Fails where twice the size takes more than 2.6 times the time, and where 8 MB take more than half the time of `wasm-opt`
@@ -15,7 +16,7 @@ runs=${RUNS:-5}
 make_module() {
     python3 - "$1" "$2" "$3" <<'PY'
 import sys
-from wasm_bytes import module, section, sized, unsigned
+from wasm_bytes import PAUSING, TABLE, module, section, sized, unsigned
 
 shape, eighths, path = sys.argv[1:]
 END = b"\x20\x00\x0b"
@@ -33,6 +34,7 @@ def plain(size, local=b"\x20\x00"):
 
 types = [b"\x60\x01\x7f\x01\x7f"]
 first = []
+exports = []
 if shape == "long":
     one = body(plain(part * 125_000))
     count = 8 if eighths == "whole" else 1
@@ -46,24 +48,30 @@ elif shape == "deep":
     count = FILE // 3_010
 elif shape == "functions":
     one = body(plain(72))
-    count = part * 12_500
+    count = part * 12_500 - 1
 elif shape == "locals":
     one = body(plain(64, b"\x20" + unsigned(49_998)), b"\x01" + unsigned(49_999) + b"\x7f")
-    count = part * 12_500
+    count = part * 12_500 - 1
 elif shape == "runs":
     one = body(plain(4_000, b"\x20" + unsigned(part * 6_000 + 1)), unsigned(part * 6_248) + b"\x01\x7f\x01\x7e" * (part * 3_124))
     count = FILE // 105_000
 elif shape == "labels":
     one = body(b"\x02\x40\x20\x00\x0e" + unsigned(part * 1_250) + b"\x00" * (part * 1_250) + b"\x00\x0b")
     count = FILE // 10_020
-funcs = first + [(b"\x00", one)] * count
-whole = module(section(1, types), section(3, [sort for sort, _ in funcs]), section(10, [code for _, code in funcs]))
+elif shape == "names":
+    one, count = body(b""), 1
+    for n in range(part * 29_875):
+        free = "".join(chr(97 + (n >> 4 * k & 15)) for k in range(8))
+        exports.append(sized(b"vael51bfy6vcb6a2A3<F0~[k" + free.encode()) + b"\x00\x00")
+funcs = first + [(b"\x00", one)] * count + [(b"\x00", PAUSING)]
+sorts, bodies = zip(*funcs)
+whole = module(section(1, types), section(3, sorts), TABLE, section(7, exports), section(10, bodies))
 open(path, "wb").write(whole)
 PY
 }
 
 build_asyncify
-for shape in ${SHAPES:-long dead deep functions locals labels runs}; do
+for shape in ${SHAPES:-long dead deep functions locals labels runs names}; do
     half=
     for part in 1 2 4 8 whole; do
         [ "$part" = whole ] && [[ "$shape" != long && "$shape" != dead ]] && continue
@@ -75,7 +83,8 @@ for shape in ${SHAPES:-long dead deep functions locals labels runs}; do
         fi
         half=$time
     done
-    [ "$shape" = runs ] && continue
+    [ "$shape" = names ] && bar "$time <= 1.5" "names of one hash: past 1.5 s"
+    [[ "$shape" = runs || "$shape" = names ]] && continue
     if has_peer wasm-opt; then
         # within the memory, `wasm-opt` doesn't end on many bodies of 50,000 locals
         read -r opt _ < <(measure 0 1 wasm-opt "$temp/in.wasm" -o "$temp/out.wasm")
