@@ -1,12 +1,16 @@
 //! The public calls that no command reaches, or not at this edge, with values from outside: each allocating call with
-//! ample memory, worked numbers and operators, files and outputs that fail in the middle. `tests/run` runs it; nothing
-//! here is proved.
+//! ample memory, worked numbers and operators, flat and guarded functions, files and outputs that fail in the middle.
+//! `tests/run` runs it; nothing here is proved.
 #![tactic(auto)]
 
 #[cfg(test)]
 mod building;
 #[cfg(test)]
 mod commands;
+#[cfg(test)]
+mod flattening;
+#[cfg(test)]
+mod guarding;
 #[cfg(test)]
 mod limits;
 #[cfg(test)]

@@ -7,7 +7,7 @@ use wa_types::Bounds;
 use wasm_reader::{ReadFault, read};
 
 /// A file of one function that nests so many blocks; `head` is what stands before its code.
-fn nested(alloc: Global, head: &[u8], blocks: u32) -> Result<Vec<u8>, AllocError> {
+pub fn nested(alloc: Global, head: &[u8], blocks: u32) -> Result<Vec<u8>, AllocError> {
     let mut bytes = Vec::from_slice(alloc, FUNC)?;
     bytes.extend_from_slice(head)?;
     for _index in 0..blocks {

@@ -1,0 +1,214 @@
+//! Guarded functions, whole, against instructions written out by hand: each form of a piece and of a unit.
+
+use crate::flattening::{COUNTDOWN, SELECTOR, flattened};
+use flow_rewrite::guard;
+use std::alloc::{AllocError, Global};
+use std::test::Fail;
+use wa_model::{FlatFunc, Operand, Stmt};
+use wa_types::{Instr, ValType, Value};
+
+/// The countdown: a loop that holds an `if` whose other arm alone holds the call. The state is global 0, the call index
+/// local 6. The piece in front of the `if` stands under the test of its condition, and the arm without a call as it is.
+const COUNTDOWN_GUARDED: &str = "\
+    GuardedFunc { func: 1, sort: 0, locals: [I32, I32, I32, I32, I32, I32, I32, I32, I64], result: Some(4), body: [\
+    Loop { result: None, body: [\
+    GlobalGet(0), If { result: Some(I32), then_arm: [Const(I32(0))], else_arm: [\
+    LocalGet(1), LocalSet(2), Const(I32(0)), LocalSet(3), LocalGet(3)] }, \
+    If { result: None, then_arm: [\
+    Const(I32(100)), LocalSet(3), LocalGet(3), LocalSet(5)], else_arm: [\
+    Block { result: None, body: [\
+    GlobalGet(0), If { result: None, then_arm: [LocalGet(6), Const(I32(0)), Num(I32Ne), BrIf(1)], else_arm: [\
+    LocalGet(0), LocalSet(3)] }, \
+    LocalGet(3), Call(0), Const(I32(0)), LocalSet(6), GlobalGet(0), BrIf(3), LocalSet(3), \
+    LocalGet(3), LocalSet(5)] }] }, \
+    GlobalGet(0), If { result: None, then_arm: [], else_arm: [\
+    LocalGet(5), LocalSet(3), \
+    LocalGet(2), LocalGet(3), Num(I32Add), LocalSet(2), \
+    LocalGet(2), LocalSet(1), \
+    LocalGet(0), LocalSet(2), \
+    Const(I32(1)), LocalSet(3), \
+    LocalGet(2), LocalGet(3), Num(I32Sub), LocalSet(2), \
+    LocalGet(2), LocalSet(0), \
+    LocalGet(2), BrIf(1)] }] }, \
+    GlobalGet(0), If { result: None, then_arm: [], else_arm: [\
+    LocalGet(1), LocalSet(2), LocalGet(2), LocalSet(4)] }] }";
+
+/// The selector: the blocks are one piece with the move behind them, and its branches stay within it. The state is
+/// global 0, the call index local 7.
+const SELECTOR_GUARDED: &str = "\
+    GuardedFunc { func: 1, sort: 0, locals: [I32, I32, I32, I32, I32, I32, I32, I32, I32, I64], result: Some(4), \
+    body: [\
+    Block { result: None, body: [\
+    GlobalGet(0), If { result: None, then_arm: [LocalGet(7), Const(I32(0)), Num(I32Ne), BrIf(1)], else_arm: [\
+    Block { result: None, body: [\
+    Const(I32(5)), LocalSet(1), \
+    Block { result: None, body: [\
+    Const(I32(9)), LocalSet(2), \
+    LocalGet(0), LocalSet(3), \
+    LocalGet(2), LocalSet(6), \
+    LocalGet(2), LocalSet(5), \
+    LocalGet(3), BrTable { labels: [0], last: 1 }] }, \
+    LocalGet(6), LocalSet(2), \
+    LocalGet(1), LocalGet(2), Num(I32Add), LocalSet(1), \
+    LocalGet(1), LocalSet(5)] }, \
+    LocalGet(5), LocalSet(1)] }, \
+    LocalGet(1), Call(0), Const(I32(0)), LocalSet(7), GlobalGet(0), BrIf(1), LocalSet(1), \
+    LocalGet(1), LocalSet(4)] }] }";
+
+#[test]
+fn flat_functions_are_guarded(rt: HostRuntime) -> Result<(), Fail> {
+    let alloc = rt.alloc();
+    for (bytes, wanted) in [(COUNTDOWN, COUNTDOWN_GUARDED), (SELECTOR, SELECTOR_GUARDED)] {
+        let flat = flattened(alloc, bytes, &[false, true])?;
+        let guarded = guard(alloc, &flat.funcs[0], &[0], 0)?;
+        assert_eq!(rt; format!(in alloc; "{guarded:?}")?.as_str(), wanted);
+    }
+    Ok(())
+}
+
+/// A call of a function without parameters and results.
+fn bare_call(alloc: Global, func: u32) -> Stmt {
+    Stmt::Call {
+        op: Instr::Call(func),
+        stack: Vec::new(alloc),
+        args: 0,
+        to: None,
+    }
+}
+
+/// An `if` on local 0 with a branch to the function's end in one arm, and in the other a table of the `if`, the block
+/// round it and the function.
+fn jumps(alloc: Global) -> Result<Stmt, AllocError> {
+    let table = Stmt::BrTable {
+        index: Operand::Local(0),
+        labels: vec![in alloc; 0, 1]?,
+        last: 2,
+    };
+    Ok(Stmt::If {
+        cond: Operand::Local(0),
+        then_arm: vec![in alloc; Stmt::Br(2)]?,
+        else_arm: vec![in alloc; table]?,
+    })
+}
+
+/// An `if` on 1 with a call through the table, above an operand, in one arm, and a load in front of a call in the
+/// other.
+fn choice(alloc: Global) -> Result<Stmt, AllocError> {
+    let indirect = Stmt::Call {
+        op: Instr::CallIndirect(1),
+        stack: vec![in alloc; 1, 2, 3]?,
+        args: 2,
+        to: Some(2),
+    };
+    let load = Stmt::Plain {
+        op: Instr::Load {
+            op: 0x28,
+            align: 2,
+            offset: 8,
+        },
+        args: vec![in alloc; Operand::Local(2)]?,
+        to: Some(3),
+    };
+    Ok(Stmt::If {
+        cond: Operand::Const(Value::I32(1)),
+        then_arm: vec![in alloc; indirect]?,
+        else_arm: vec![in alloc; load, bare_call(alloc, 0)]?,
+    })
+}
+
+/// A function of a block with four calls, of which the second isn't numbered, and a branch behind the block. Local 0 is
+/// its parameter, 1 to 3 are slots.
+fn four_calls(alloc: Global) -> Result<FlatFunc, AllocError> {
+    let other = Stmt::Call {
+        op: Instr::Call(1),
+        stack: vec![in alloc; 2, 3]?,
+        args: 1,
+        to: Some(3),
+    };
+    let leave = Stmt::BrIf {
+        cond: Operand::Local(3),
+        label: 1,
+    };
+    let mut inner = Vec::new(alloc);
+    inner.push(jumps(alloc)?)?;
+    inner.push(bare_call(alloc, 0))?;
+    inner.push(other)?;
+    inner.push(leave)?;
+    inner.push(choice(alloc)?)?;
+    let body = vec![in alloc; Stmt::Block(inner), Stmt::Br(0)]?;
+    Ok(FlatFunc {
+        func: 9,
+        sort: 4,
+        locals: vec![in alloc; ValType::I32, ValType::I64, ValType::I32, ValType::I32]?,
+        result: None,
+        body,
+    })
+}
+
+/// It with guards. The state is global 7, the call index local 4; the calls numbered 1 and 2 stand in the arms of an
+/// `if` that goes by the index. A label that leaves its piece is higher by 2 in front of a call, else by 1.
+const FOUR_CALLS_GUARDED: &str = "\
+    GuardedFunc { func: 9, sort: 4, locals: [I32, I64, I32, I32, I32, I32, I64], result: None, body: [\
+    Block { result: None, body: [\
+    Block { result: None, body: [\
+    GlobalGet(7), If { result: None, then_arm: [LocalGet(4), Const(I32(0)), Num(I32Ne), BrIf(1)], else_arm: [\
+    LocalGet(0), If { result: None, then_arm: [Br(4)], else_arm: [\
+    LocalGet(0), BrTable { labels: [0, 3], last: 4 }] }] }, \
+    Call(0), Const(I32(0)), LocalSet(4), GlobalGet(7), BrIf(2), \
+    LocalGet(3), Call(1), LocalSet(3), \
+    LocalGet(3), BrIf(2)] }, \
+    GlobalGet(7), If { result: Some(I32), then_arm: [LocalGet(4), Const(I32(2)), Num(I32LtU)], else_arm: [\
+    Const(I32(1))] }, \
+    If { result: None, then_arm: [\
+    Block { result: None, body: [\
+    GlobalGet(7), If { result: None, then_arm: [LocalGet(4), Const(I32(1)), Num(I32Ne), BrIf(1)], else_arm: [] }, \
+    LocalGet(2), LocalGet(3), CallIndirect(1), Const(I32(1)), LocalSet(4), GlobalGet(7), BrIf(3), LocalSet(2)] }], \
+    else_arm: [\
+    Block { result: None, body: [\
+    GlobalGet(7), If { result: None, then_arm: [LocalGet(4), Const(I32(2)), Num(I32Ne), BrIf(1)], else_arm: [\
+    LocalGet(2), Load { op: 40, align: 2, offset: 8 }, LocalSet(3)] }, \
+    Call(0), Const(I32(2)), LocalSet(4), GlobalGet(7), BrIf(3)] }] }] }, \
+    GlobalGet(7), If { result: None, then_arm: [], else_arm: [Br(1)] }] }";
+
+#[test]
+fn an_if_goes_by_the_index_of_its_calls(rt: HostRuntime) -> Result<(), Fail> {
+    let alloc = rt.alloc();
+    let guarded = guard(alloc, &four_calls(alloc)?, &[0, 2, 3], 7)?;
+    assert_eq!(rt;
+        format!(in alloc; "{guarded:?}")?.as_str(),
+        FOUR_CALLS_GUARDED
+    );
+    Ok(())
+}
+
+/// The same where only the call in the first arm is numbered: all in front of the `if` is one piece, which stands under
+/// the test of its condition, and the other arm stands as it is.
+const ONE_CALL_GUARDED: &str = "\
+    GuardedFunc { func: 9, sort: 4, locals: [I32, I64, I32, I32, I32, I32, I64], result: None, body: [\
+    Block { result: None, body: [\
+    GlobalGet(7), If { result: Some(I32), then_arm: [Const(I32(1))], else_arm: [\
+    LocalGet(0), If { result: None, then_arm: [Br(3)], else_arm: [\
+    LocalGet(0), BrTable { labels: [0, 2], last: 3 }] }, \
+    Call(0), \
+    LocalGet(3), Call(1), LocalSet(3), \
+    LocalGet(3), BrIf(2), \
+    Const(I32(1))] }, \
+    If { result: None, then_arm: [\
+    Block { result: None, body: [\
+    GlobalGet(7), If { result: None, then_arm: [LocalGet(4), Const(I32(0)), Num(I32Ne), BrIf(1)], else_arm: [] }, \
+    LocalGet(2), LocalGet(3), CallIndirect(1), Const(I32(0)), LocalSet(4), GlobalGet(7), BrIf(3), LocalSet(2)] }], \
+    else_arm: [\
+    LocalGet(2), Load { op: 40, align: 2, offset: 8 }, LocalSet(3), \
+    Call(0)] }] }, \
+    GlobalGet(7), If { result: None, then_arm: [], else_arm: [Br(1)] }] }";
+
+#[test]
+fn calls_without_a_number_stand_in_pieces(rt: HostRuntime) -> Result<(), Fail> {
+    let alloc = rt.alloc();
+    let guarded = guard(alloc, &four_calls(alloc)?, &[2], 7)?;
+    assert_eq!(rt;
+        format!(in alloc; "{guarded:?}")?.as_str(),
+        ONE_CALL_GUARDED
+    );
+    Ok(())
+}
