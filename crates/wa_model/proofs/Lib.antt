@@ -1,3 +1,4 @@
+mod ScriptCases
 pub mod Alone
 pub mod BaseValid
 pub mod Cases

@@ -21,9 +21,13 @@ pub mod Protocol
 pub mod Pruning
 pub mod Quiet
 pub mod Rewrites
+pub mod Script
+pub mod ScriptLines
+pub mod ScriptText
 pub mod Step
 pub mod Store
 pub mod Touches
+pub mod Transcript
 pub mod Untouched
 pub mod View
 pub mod World
