@@ -107,11 +107,14 @@ abbrev pub returned_value : Option Value → List ℕ
 returned_value None = []
 returned_value (Some v) = codes " " ++ printed_value v
 
+abbrev pub pause_text : (due used len : ℕ) → List ℕ
+pause_text due used len = codes "pause until " ++ decimal due ++ codes " " ++ area_text used len
+
 -- the text of an event that began at this tick
 abbrev pub event_text : Names → (tick : ℕ) → Event → List ℕ
 event_text names tick (called call) = codes "call " ++ name_at names.imports call.import ++ behind_spaces call.args
 event_text names tick (answered value) = codes "answer " ++ value_or_none value
-event_text names tick (paused ticks used) = codes "pause until " ++ decimal (tick + ticks) ++ codes " " ++ area_text used names.len
+event_text names tick (paused ticks used) = pause_text (tick + ticks) used names.len
 event_text names tick (returned entry value) = codes "return " ++ name_at names.entries entry ++ returned_value value
 event_text names tick (ended how) = codes "end " ++ end_text names how
 event_text names tick (shown at bytes) = codes "memory " ++ decimal at ++ codes " " ++ shown_bytes bytes
