@@ -9,7 +9,9 @@
 
 mod frames;
 mod laying;
+mod location;
 mod putting;
+mod room;
 mod spilling;
 
 pub use frames::{Layout, Place};

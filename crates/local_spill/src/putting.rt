@@ -2,14 +2,14 @@ ghost use Rattle.std.specs.Prelude.{◌≡◌, OnOk};
 ghost use Rattle.wa_types.specs.Syntax.{Code, local_get, local_set, plain};
 ghost use Rattle.wa_types.specs.View.{in_front};
 ghost use Rattle.local_spill.specs.Putting.{Puts};
-ghost use Rattle.local_spill.specs.Spilling.{index_restored, index_saved, loaded_value, location_of, location_raised, location_taken, locals_loaded, locals_stored, room_tested, stored_value};
+ghost use Rattle.local_spill.specs.Spilling.{index_restored, index_saved, loaded_value, locals_loaded, locals_stored, stored_value};
 
 use crate::frames::Place;
-use std::alloc::{AllocError, Global};
-use wa_types::{Instr, NumOp, ValType, Value};
+use std::alloc::AllocError;
+use wa_types::{Instr, ValType};
 
 /// The store of a value of this type.
-fn store_of(ty: ValType, offset: u32) -> Instr
+pub(crate) fn store_of(ty: ValType, offset: u32) -> Instr
     ensures { (rest : Code) → in_front result rest ≡ stored_value ty offset rest }
 {
     match ty {
@@ -27,7 +27,7 @@ fn store_of(ty: ValType, offset: u32) -> Instr
 }
 
 /// The load of a value of this type.
-fn load_of(ty: ValType, offset: u32) -> Instr
+pub(crate) fn load_of(ty: ValType, offset: u32) -> Instr
     ensures { (rest : Code) → in_front result rest ≡ loaded_value ty offset rest }
 {
     match ty {
@@ -89,77 +89,6 @@ pub(crate) fn put_locals_loaded(
     for place in places {
         put_loaded(out, scratch, *place)?;
     }
-    Ok(())
-}
-
-/// Puts what gets the location.
-fn put_location(out: &mut Vec<Instr>, address: u32) -> Result<(), AllocError>
-    ensures { OnOk result (Puts out.old.items out.new.items (location_of address)) }
-{
-    out.push(Instr::GlobalGet(address))?;
-    out.push(load_of(ValType::I32, 0))?;
-    Ok(())
-}
-
-/// Puts what traps where the frame doesn't fit; else its address is noted.
-pub(crate) fn put_room_test(
-    alloc: Global,
-    out: &mut Vec<Instr>,
-    address: u32,
-    scratch: u32,
-    size: u32,
-) -> Result<(), AllocError>
-    ensures { OnOk result (Puts out.old.items out.new.items (room_tested address scratch size)) }
-{
-    let mut trap = Vec::new(alloc);
-    trap.push(Instr::Unreachable)?;
-    out.push(Instr::GlobalGet(address))?;
-    out.push(load_of(ValType::I32, 4))?;
-    put_location(out, address)?;
-    out.push(Instr::LocalTee(scratch))?;
-    out.push(Instr::Num(NumOp::I32Sub))?;
-    out.push(Instr::Const(Value::I32(size)))?;
-    out.push(Instr::Num(NumOp::I32LtU))?;
-    out.push(Instr::If {
-        result: None,
-        then_arm: trap,
-        else_arm: Vec::new(alloc),
-    })?;
-    Ok(())
-}
-
-/// Puts what raises the location to the frame's end.
-pub(crate) fn put_location_raised(
-    out: &mut Vec<Instr>,
-    address: u32,
-    scratch: u32,
-    size: u32,
-) -> Result<(), AllocError>
-    ensures { OnOk result (Puts out.old.items out.new.items (location_raised address scratch size)) }
-{
-    out.push(Instr::GlobalGet(address))?;
-    out.push(Instr::LocalGet(scratch))?;
-    out.push(Instr::Const(Value::I32(size)))?;
-    out.push(Instr::Num(NumOp::I32Add))?;
-    out.push(store_of(ValType::I32, 0))?;
-    Ok(())
-}
-
-/// Puts what lowers the location by the frame, and notes the frame's address.
-pub(crate) fn put_location_taken(
-    out: &mut Vec<Instr>,
-    address: u32,
-    scratch: u32,
-    size: u32,
-) -> Result<(), AllocError>
-    ensures { OnOk result (Puts out.old.items out.new.items (location_taken address scratch size)) }
-{
-    out.push(Instr::GlobalGet(address))?;
-    put_location(out, address)?;
-    out.push(Instr::Const(Value::I32(size)))?;
-    out.push(Instr::Num(NumOp::I32Sub))?;
-    out.push(Instr::LocalTee(scratch))?;
-    out.push(store_of(ValType::I32, 0))?;
     Ok(())
 }
 

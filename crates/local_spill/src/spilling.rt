@@ -7,10 +7,9 @@ ghost use Rattle.local_spill.specs.Spilling.{epilogue_code, prologue_code, resto
 
 use crate::RuntimeIds;
 use crate::frames::Layout;
-use crate::putting::{
-    put_index_restored, put_index_saved, put_locals_loaded, put_locals_stored, put_location_raised,
-    put_location_taken, put_room_test,
-};
+use crate::location::{put_location_raised, put_location_taken};
+use crate::putting::{put_index_restored, put_index_saved, put_locals_loaded, put_locals_stored};
+use crate::room::put_room_test;
 use std::alloc::{AllocError, Global};
 use wa_types::Instr;
 

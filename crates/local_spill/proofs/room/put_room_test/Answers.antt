@@ -1,5 +1,5 @@
 use Rattle.local_spill.proofs.PutLemmas.{put_one, put_on, tee_is, global_is, const_is, num_is, if_is, trap_is, no_code}
-use Rattle.local_spill.proofs.putting.put_room_test.Goals as goal
+use Rattle.local_spill.proofs.room.put_room_test.Goals as goal
 
 pub returns : goal.returns
 returns c =

@@ -1,5 +1,5 @@
 use Rattle.local_spill.proofs.PutLemmas.{put_one, put_on, tee_is, global_is, const_is, num_is}
-use Rattle.local_spill.proofs.putting.put_location_taken.Goals as goal
+use Rattle.local_spill.proofs.location.put_location_taken.Goals as goal
 
 pub returns : goal.returns
 returns c =

@@ -1,5 +1,5 @@
 use Rattle.local_spill.proofs.PutLemmas.{put_one, put_on, global_is}
-use Rattle.local_spill.proofs.putting.put_location.Goals as goal
+use Rattle.local_spill.proofs.location.put_location.Goals as goal
 
 pub returns : goal.returns
 returns c =
