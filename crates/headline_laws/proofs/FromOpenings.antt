@@ -1,11 +1,12 @@
 -- Modules that pause behave like their originals: the six fields, from what flattening owes.
+use Rattle.headline_laws.specs.WrittenRuns.{WrittenLaw}
 use Rattle.headline_laws.specs.World.{World, WorldFits, base, setting}
 use Rattle.guard_runs.specs.Alike.{Alike}
 use Rattle.headline_laws.proofs.FlatStretches.{Sm, gl}
 use Rattle.headline_laws.specs.StoreLaws.{StoreLaws}
 use Rattle.headline_laws.proofs.FromSimulation.{Begin, OpensHonestly, behaves_on}
 use Rattle.headline_laws.proofs.Reductions.{Allowed, LeftFits, R, nb, r_begins, r_between, r_halts, same_note}
-use Rattle.headline_laws.proofs.Simulation.{simulates}
+use Rattle.headline_laws.proofs.Simulation.{Both, simulates}
 use Rattle.headline_laws.specs.FlatLaw.{FlatLaw}
 use Rattle.run_laws.proofs.Keeping.{same_refl}
 use Rattle.std.proofs.Common.{All, List, None, Option, Some, [], ap, arith, false, refl, subst, suc, sym, ℕ, ◌++◌, ◌+◌, ◌-◌, ◌<◌, ◌∙◌, ◌∷◌, ◌≡◌}
@@ -43,7 +44,8 @@ part_of P (x ∷ xs) ys h =
     let r = part_of P xs ys (All-tail P x (xs ++ ys) h) in
     (All-cons P x xs (All-head P x (xs ++ ys) h) r.0, r.1)
 
-module _ (w : World) (ft : WorldFits w) (sl : StoreLaws w) (L : ℕ → Configuration → Configuration → Type 0) (W : ℕ → ℕ → Configuration → Configuration → Type 0) (G : Store → Type 0) (law : FlatLaw w (λ c d. c ≡ d) L W G) (sf : StartFits w G) (os : List Outcome) (n : ℕ)
+module _ (w : World) (ft : WorldFits w) (sl : StoreLaws w) (L : ℕ → Configuration → Configuration → Type 0) (W : ℕ → ℕ → Configuration → Configuration → Type 0) (G : Store → Type 0) (law : FlatLaw w (λ c d. c ≡ d) L W G)
+    (Known : Held → Type 0) (wl : WrittenLaw w Known) (sf : StartFits w G) (os : List Outcome) (n : ℕ)
     (cmp : Compared w.original w.settings w.plan os n) (pauses : PausesNumbered w.original w.settings w.which (Blocking w.original w.plan os n).events) where
   abbrev Rel : ℕ → State → Held → Type 0
   Rel = R w ft sl L W G law
@@ -122,6 +124,9 @@ module _ (w : World) (ft : WorldFits w) (sl : StoreLaws w) (L : ℕ → Configur
               (now ∙ ap (λ z. held_started h.0 (all_left w.plan os) z) e ∙ ap (λ z. record { events = done_notes h.0 z; last = held_on h.0 (all_left w.plan os) z }) ee)
               tt (r_between h.2 h.3 left_fits (here _ (ap (λ r. r.last) was2))) honest
 
+  begin_both : Begin w.original w.settings w.which w.written w.plan (Both w ft sl L W G law Known wl) os n
+  begin_both = let b = begin in record { alike = b.alike; rel = (b.rel, wl.begins os cmp.outcomes); honest = b.honest }
+
   -- THE HEADLINE for modules that pause, from the premises alone
   pub behaves : BehavesOn w.original w.settings w.written w.plan os n w.which (expected_notes w.original w.settings w.plan os n)
-  behaves = behaves_on w.original w.settings w.which w.written w.plan Rel (simulates w ft sl L W G law) os n cmp.outcomes begin
+  behaves = behaves_on w.original w.settings w.which w.written w.plan (Both w ft sl L W G law Known wl) (simulates w ft sl L W G law Known wl) os n cmp.outcomes begin_both

@@ -99,7 +99,7 @@ module _ (w : World) (Live : Configuration → Configuration → Type 0) (L : (t
       stands = λ top i d f us' st h nums.
           let fs = law.stands top i h.chosen f us' st h.waits (lv.numbered d h.chosen h.live nums) in
           record { may = fs.may; stand = lv.stand d h.chosen _ h.live fs.stand; weigh = lv.weigh d h.chosen _ _ h.live fs.weigh };
-      again = λ top i d f a us h nums same.
-          let ag = law.again top i h.chosen f a us h.waits (lv.numbered d h.chosen h.live nums) same in
+      again = λ top i d f a us h nums same us' st fit.
+          let ag = law.again top i h.chosen f a us h.waits (lv.numbered d h.chosen h.live nums) same us' st fit in
           record { chosen = d; live = refl; waits = record { chosen = ag.chosen; live = lv.on d h.chosen ag.chosen h.live ag.live; waits = ag.waits } };
     }

@@ -1,4 +1,5 @@
 -- A call whose answer pauses: one move of the shown blocking machine, with three notes, or two where the frames don't fit.
+use Rattle.headline_laws.specs.FlatLaw.{AllLocalsFit}
 use Rattle.headline_laws.specs.World.{World, WorldFits, base, setting}
 use Rattle.frame_laws.proofs.HeldFrames.{stacks_held}
 use Rattle.frame_laws.specs.FrameMemory.{AreaAt}
@@ -17,7 +18,7 @@ use Rattle.headline_laws.specs.StoreLaws.{StoreLaws}
 use Rattle.headline_laws.proofs.FromSimulation.{dear_cons}
 use Rattle.headline_laws.proofs.OuterLevels.{inner_calls, outer_all, under_deep, weigh_all}
 use Rattle.headline_laws.proofs.Reductions.{Allowed, LeftFits, Link, Owes, R, TopOf, allowed_on, nb, nn, r_halts, r_runs, rests_before, same_note, sh}
-use Rattle.headline_laws.proofs.ToldMoves.{Told, by_told, dear_of, no_more, silent_none, silent_quiet, told}
+use Rattle.headline_laws.proofs.ToldMoves.{Told, by_told, dear_of, no_more, silent_none, silent_quiet, told, told_leads}
 use Rattle.headline_laws.specs.FlatLaw.{AllWeigh, FlatLaw, FlatStands}
 use Rattle.pause_laws.proofs.Pausing.{answers_law, pauses_law, traps_law}
 use Rattle.pause_laws.specs.Pause.{AnswersAt, AreaReady, EntersEntry, Overruns, PausesAt, at_import}
@@ -34,7 +35,7 @@ use Rattle.wa_model.specs.Behaves.{SameNote, PausesNumbered, StandsNumbered}
 use Rattle.wa_model.specs.Blocking.{Left, Note, State, Task, an_entry, call_note, go_on, halts, inside, note, pause_of, poked, resumed, runs, store_of, tested, with_outcomes}
 use Rattle.wa_model.specs.Configuration.{Activation, Configuration, stack_of}
 use Rattle.wa_model.specs.Expected.{pause_note, trap_note}
-use Rattle.wa_model.specs.Machine.{Ran, goes, run, stays}
+use Rattle.wa_model.specs.Machine.{Leads, Ran, goes, run, stays}
 use Rattle.wa_model.specs.Outside.{Answer, answered, ended, paused}
 use Rattle.wa_model.specs.Plan.{Entry, Outcome, given}
 use Rattle.wa_model.specs.Protocol.{Held, answer_note, busy, call_again, calling, give_zero, is_running, over, protocol, rewinds, store_held, unwinds, with_words}
@@ -68,7 +69,8 @@ same_config c a us e1 e2 = sym (ap (λ z. record { store = c.store; here = z; un
 module _ (w : World) (ft : WorldFits w) (sl : StoreLaws w) (L : ℕ → Configuration → Configuration → Type 0) (W : ℕ → ℕ → Configuration → Configuration → Type 0) (G : Store → Type 0) (law : FlatLaw w (λ c d. c ≡ d) L W G)
     (n top : ℕ) (e : Entry) (c b : Configuration) (l : Left) (is_top : TopOf w (an_entry e) top) (lk : Link w ft sl L W G law top c b) (lf : LeftFits w l) (al : Allowed w n (runs (an_entry e) c l))
     (k i : ℕ) (args : List Value) (d : Configuration) (is : step (base w) c ≡ asks k i args d) (cd : Called w ft sl L W G law top (an_entry e) l c.store b k i args d)
-    (a : Answer) (os : List Outcome) (ticks : ℕ) (eo : l.outcomes ≡ given a ∷ os) (ef : Rattle.headline_laws.proofs.Asks.fault w ft sl L W G law n top (an_entry e) c b l is_top lk lf al k i args d is cd a ≡ None) (et : pause_of a.ticks ≡ Some ticks) where
+    (a : Answer) (os : List Outcome) (ticks : ℕ) (eo : l.outcomes ≡ given a ∷ os) (ef : Rattle.headline_laws.proofs.Asks.fault w ft sl L W G law n top (an_entry e) c b l is_top lk lf al k i args d is cd a ≡ None) (et : pause_of a.ticks ≡ Some ticks)
+    (came : (c2 : Configuration) (l2 : Left) (cost : ℕ) (es : List Note) → Leads (pr w) (busy (is_running (an_entry e)) b l) cost es (busy (is_running (an_entry e)) c2 l2) → AllLocalsFit w.written (c2.here ∷ c2.under)) where
   abbrev lo : Left
   lo = with_outcomes l os
 
@@ -255,7 +257,6 @@ module _ (w : World) (ft : WorldFits w) (sl : StoreLaws w) (L : ℕ → Configur
       let reb : AllCameBack (levels_of (setting w top) w.lay z.st) ((an.waits).here ∷ (an.waits).under) =
       subst (λ ws. AllCameBack ws ((an.waits).here ∷ (an.waits).under)) (sym z.are) (record { locals = an.locals; kept_same = an.kept_same; is = here_as }, subst (AllCameBack z.vs) (sym under_as) an.came_back) in
       let fa : FlatAgain (setting w top) w.lay i ((cd.flat_at).here ∷ (cd.flat_at).under) ((an.waits).here ∷ (an.waits).under) = stacks_return (setting w top) w.lay i _ _ _ z.st zfs.may reb in
-      let gv = anew fa.new (an.waits) an.store fa.same fa.stopped alike4 in
       let x2 : Note = pause_note ticks (Room w.original w.settings.policy S) d.store S in
       let y2 : Note = note (paused a.ticks (8 + total_size (z.v ∷ z.vs))) pa.store in
       let x3 : Note = note (answered a.value) (poked d.store a.pokes) in
@@ -268,6 +269,13 @@ module _ (w : World) (ft : WorldFits w) (sl : StoreLaws w) (L : ℕ → Configur
       let size4 = same4.size in
       let al3 : SameNote w.original w.settings w.which w.plan.area x3 y3 =
       record { event = refl; ends = same5; image = tt; kept = λ at q. let eq : pa.store ≡ at = some_is pa.store at q in subst (λ u. Rattle.wa_model.specs.Behaves.AreaKept ar u (poked an.store a.pokes)) eq (sl.poked_area pa.store an.store a an.lowered ft.least (subst (λ u. Rattle.wa_model.specs.Blocking.bad_poke u ar a.pokes ≡ None) size4 no_bad)) } in
+      let b5 : Held = busy (is_running (an_entry e)) (resumed an.waits (poked an.store a.pokes) (option_to_list a.value)) lo in
+      let r3 : Told w.original w.settings w.which w.written (xp w) w.plan d.store (x3 ∷ []) b4 (an.cost + 1 + 0) (y3 ∷ []) b5 =
+      told [] x3 q2 an.tells (al3, tt) (no_more (silent_none w.original w.settings w.which w.written (xp w) w.plan (poked d.store a.pokes) b5 same5)) refl refl refl in
+      let r2 : Told w.original w.settings w.which w.written (xp w) w.plan d.store (x2 ∷ x3 ∷ []) b2 (pa.cost + 1 + (an.cost + 1 + 0)) (y2 ∷ y3 ∷ []) b5 = told [] x2 q1 pa.tells (al2, tt) r3 refl refl refl in
+      let r1 : Told w.original w.settings w.which w.written (xp w) w.plan c.store (x1 ∷ x2 ∷ x3 ∷ []) b0 (cd.cost + suc cd.j + (pa.cost + 1 + (an.cost + 1 + 0))) (y1 ∷ y2 ∷ y3 ∷ []) b5 = told [] x1 cd.silent mv (al1, tt) r2 refl refl refl in
+      let known : AllLocalsFit w.written ((an.waits).here ∷ (an.waits).under) = came (resumed an.waits (poked an.store a.pokes) (option_to_list a.value)) lo _ _ (told_leads w.original w.settings w.which w.written (xp w) w.plan c.store _ _ b0 b5 _ r1) in
+      let gv = anew fa.new (an.waits) an.store known fa.same fa.stopped alike4 in
       let t3 : Told w.original w.settings w.which w.written (xp w) w.plan d.store (x3 ∷ []) b4 (an.cost + 1 + gv.cost) (y3 ∷ []) (busy (is_running (an_entry e)) gv.to lo) = told [] x3 q2 an.tells (al3, tt) (no_more gv.silent) refl refl refl in
       let t2 : Told w.original w.settings w.which w.written (xp w) w.plan d.store (x2 ∷ x3 ∷ []) b2 (pa.cost + 1 + (an.cost + 1 + gv.cost)) (y2 ∷ y3 ∷ []) (busy (is_running (an_entry e)) gv.to lo) = told [] x2 q1 pa.tells (al2, tt) t3 refl refl refl in
       let t1 : Told w.original w.settings w.which w.written (xp w) w.plan c.store (x1 ∷ x2 ∷ x3 ∷ []) b0 (cd.cost + suc cd.j + (pa.cost + 1 + (an.cost + 1 + gv.cost))) (y1 ∷ y2 ∷ y3 ∷ []) (busy (is_running (an_entry e)) gv.to lo) = told [] x1 cd.silent mv (al1, tt) t2 refl refl refl in
@@ -280,11 +288,11 @@ module _ (w : World) (ft : WorldFits w) (sl : StoreLaws w) (L : ℕ → Configur
       (r_runs top is_top gv.link (left_fits w ft sl L W G law n top (an_entry e) c b l is_top lk lf al k i args d is cd a os eo) (allowed_on w n k _ a0 a2 was al))
     where
       -- the answer is given to a stack that came back: the flat one is chosen anew
-      anew : (new : List Activation) (wt : Configuration) (s : Store) → AllSameFlat w.lay ((cd.flat_at).here ∷ (cd.flat_at).under) new → Stopped (setting w top) i new (wt.here ∷ wt.under) → Alike (setting w top) d.store s
+      anew : (new : List Activation) (wt : Configuration) (s : Store) → AllLocalsFit w.written (wt.here ∷ wt.under) → AllSameFlat w.lay ((cd.flat_at).here ∷ (cd.flat_at).under) new → Stopped (setting w top) i new (wt.here ∷ wt.under) → Alike (setting w top) d.store s
           → Given_on w ft sl L W G law n top (an_entry e) c b l is_top lk lf al k i args d is cd lo (poked d.store a.pokes) (resumed d (poked d.store a.pokes) (option_to_list a.value)) (resumed wt (poked s a.pokes) (option_to_list a.value))
-      anew [] wt s same st like = absurd same
-      anew (f2 ∷ us2) wt s same st like =
-          let ag = law.again top i d cd.flat_at f2 us2 cd.waits (numbered_now enough) same in
+      anew [] wt s fit same st like = absurd same
+      anew (f2 ∷ us2) wt s fit same st like =
+          let ag = law.again top i d cd.flat_at f2 us2 cd.waits (numbered_now enough) same (wt.here ∷ wt.under) st fit in
           let wt2 = subst (λ q. W top i q (record { store = (cd.flat_at).store; here = f2; under = us2 })) (sym ag.live) ag.waits in
           give w ft sl L W G law n top (an_entry e) c b l is_top lk lf al k i args d is cd lo a (record { store = (cd.flat_at).store; here = f2; under = us2 }) (record { store = s; here = wt.here; under = wt.under }) wt2 like
           (waits_law (setting w top) i _ _ st) (answer_fits w ft sl L W G law n top (an_entry e) c b l is_top lk lf al k i args d is cd a os eo) ef

@@ -1,4 +1,5 @@
 -- The simulation: each move of the shown blocking machine is matched under the protocol; with it, all that is owed.
+use Rattle.headline_laws.specs.WrittenRuns.{WrittenLaw}
 use Rattle.headline_laws.specs.World.{World, WorldFits, base, setting}
 use Rattle.guard_runs.proofs.EachStretch.{calls_begin}
 use Rattle.guard_runs.proofs.Stores.{together}
@@ -16,11 +17,11 @@ use Rattle.std.proofs.Common.{All, Bool, List, None, Option, Some, [], ap, arith
 use Rattle.std.proofs.lemmas.Bool.{cases_lt, ltb-true}
 use Rattle.std.specs.Prelude.{if◌then◌else◌, nat_lt}
 use Rattle.wa_model.proofs.Runs.{no_move}
-use Rattle.wa_model.proofs.Follow.{Match}
+use Rattle.wa_model.proofs.Follow.{Match, On_way, all_made, not_yet, up_to}
 use Rattle.wa_model.specs.Behaves.{SameNote}
 use Rattle.wa_model.specs.Blocking.{Left, Note, State, Task, an_entry, asked, begins, between, by_step, call_note, done_notes, ends_at_call, enter_next, enters, fault_of, go_on, halts, inside, note, on_to, outermost, pause_of, poked, runs, start_called, store_of, tested, the_start, with_outcomes}
 use Rattle.wa_model.specs.Configuration.{Configuration}
-use Rattle.wa_model.specs.Machine.{Ran, Turn, goes, run, stays, stops}
+use Rattle.wa_model.specs.Machine.{Leads, Ran, Turn, goes, run, stays, stops}
 use Rattle.wa_model.specs.Outside.{Answer, answered, ended}
 use Rattle.wa_model.specs.Plan.{AreLawful, Entry, EntryFits, Outcome, OutcomeFits, Plan, given, refused}
 use Rattle.wa_model.specs.Protocol.{Held, busy, busy_enters, free, held_asked, held_ends, held_given, held_next, held_on, held_start, held_tested, is_running, over, starting, store_held}
@@ -41,9 +42,19 @@ base_type : (m : Module) (x : ℕ) → func_type_at (Base m) x ≡ func_type_at 
 unfolding Base
 base_type m x = refl
 
-module _ (w : World) (ft : WorldFits w) (sl : StoreLaws w) (L : ℕ → Configuration → Configuration → Type 0) (W : ℕ → ℕ → Configuration → Configuration → Type 0) (G : Store → Type 0) (law : FlatLaw w (λ c d. c ≡ d) L W G) where
+module _ (w : World) (ft : WorldFits w) (sl : StoreLaws w) (L : ℕ → Configuration → Configuration → Type 0) (W : ℕ → ℕ → Configuration → Configuration → Type 0) (G : Store → Type 0) (law : FlatLaw w (λ c d. c ≡ d) L W G)
+    (Known : Held → Type 0) (wl : WrittenLaw w Known) where
   abbrev Rel : ℕ → State → Held → Type 0
   Rel = R w ft sl L W G law
+
+  -- with what is known of the written side
+  abbrev pub Both : ℕ → State → Held → Type 0
+  Both n a b = Rel n a b × Known b
+
+  -- stretches keep it
+  known_on : (b t : Held) (k : ℕ) (es : List Note) → Known b → Leads (pr w) b k es t → Known t
+  known_on b t k es h Leads.stays = h
+  known_on b t k es h (Leads.moves {t = t1} {k = k1} {n = n1} {es = es1} {fs = fs} e rest em eg) = known_on t1 t n1 fs (wl.keeps b t1 k1 es1 h e) rest
 
   abbrev Ow : ℕ → State → Held → Turn State Note → Type 0
   Ow = Owes w ft sl L W G law
@@ -57,21 +68,22 @@ module _ (w : World) (ft : WorldFits w) (sl : StoreLaws w) (L : ℕ → Configur
   -- ---- code that runs
 
   asks_of : (n top : ℕ) (task : Task) (c b : Configuration) (l : Left) (is_top : TopOf w task top) (lk : Link w ft sl L W G law top c b) (lf : LeftFits w l) (al : Allowed w n (runs task c l))
-      → (k i : ℕ) (args : List Value) (d : Configuration) → step (base w) c ≡ asks k i args d → FlatAsks w (λ c d. c ≡ d) L W G top k i args d lk.flat_at → Ow n (runs task c l) (busy (is_running task) b l) (sh w (asked (base w) w.plan k i args (inside task d) l l.outcomes))
-  asks_of n top the_start c b l is_top lk lf al k i args d is fs =
+      → Known (busy (is_running task) b l) → (k i : ℕ) (args : List Value) (d : Configuration) → step (base w) c ≡ asks k i args d → FlatAsks w (λ c d. c ≡ d) L W G top k i args d lk.flat_at → Ow n (runs task c l) (busy (is_running task) b l) (sh w (asked (base w) w.plan k i args (inside task d) l l.outcomes))
+  asks_of n top the_start c b l is_top lk lf al kn k i args d is fs =
       asks_case w ft sl L W G law n top the_start c b l is_top lk lf al k i args d is (to_call w ft sl L W G law n top the_start c b l is_top lk lf al k i args d fs)
       (λ a os ticks eo ef et. let none = no_pause_in_start (func_type_at (base w) i).results (length d.store.memory) w.plan i a ef in let z : None ≡ Some ticks = sym none ∙ et in cc)
-  asks_of n top (an_entry e) c b l is_top lk lf al k i args d is fs =
+  asks_of n top (an_entry e) c b l is_top lk lf al kn k i args d is fs =
       let cd = to_call w ft sl L W G law n top (an_entry e) c b l is_top lk lf al k i args d fs in
       asks_case w ft sl L W G law n top (an_entry e) c b l is_top lk lf al k i args d is cd
-      (λ a os ticks eo ef et. pausing w ft sl L W G law n top e c b l is_top lk lf al k i args d is cd a os ticks eo ef et)
+      (λ a os ticks eo ef et. pausing w ft sl L W G law n top e c b l is_top lk lf al k i args d is cd a os ticks eo ef et
+          (λ c2 l2 cost es lds. wl.locals (an_entry e) c2 l2 (known_on (busy (is_running (an_entry e)) b l) (busy (is_running (an_entry e)) c2 l2) cost es kn lds)))
 
-  runs_owes : (n top : ℕ) (task : Task) (c b : Configuration) (l : Left) → 0 < n → TopOf w task top → Link w ft sl L W G law top c b → LeftFits w l → Allowed w n (runs task c l) → Ow n (runs task c l) (busy (is_running task) b l) (nn w (runs task c l))
-  runs_owes n top task c b l pos is_top lk lf al = by_next (step (base w) c) refl (law.reduces top c lk.flat_at lk.link (al.calm 0 [] (runs task c l) stays pos))
+  runs_owes : (n top : ℕ) (task : Task) (c b : Configuration) (l : Left) → 0 < n → TopOf w task top → Link w ft sl L W G law top c b → LeftFits w l → Allowed w n (runs task c l) → Known (busy (is_running task) b l) → Ow n (runs task c l) (busy (is_running task) b l) (nn w (runs task c l))
+  runs_owes n top task c b l pos is_top lk lf al kn = by_next (step (base w) c) refl (law.reduces top c lk.flat_at lk.link (al.calm 0 [] (runs task c l) stays pos))
     where
       by_next : (o : Next) → step (base w) c ≡ o → FlatNext w (λ c d. c ≡ d) L W G top o lk.flat_at → Ow n (runs task c l) (busy (is_running task) b l) (sh w (by_step (base w) w.plan task l o))
       by_next (steps k d) is fs = steps_case w ft sl L W G law n top task c b l is_top lk lf al k d is fs
-      by_next (asks k i args d) is fs = asks_of n top task c b l is_top lk lf al k i args d is fs
+      by_next (asks k i args d) is fs = asks_of n top task c b l is_top lk lf al kn k i args d is fs
       by_next (returns k vs s) is fs = goes_on w ft sl L W G law n top task c b l is_top lk lf al k vs s is fs
       by_next (traps k t s) is fs = traps_case w ft sl L W G law n top task c b l is_top lk lf al k t s fs
       by_next stuck is fs = absurd fs
@@ -257,11 +269,11 @@ module _ (w : World) (ft : WorldFits w) (sl : StoreLaws w) (L : ℕ → Configur
       subst (λ s. Sm w s b.store) (law.store top c lk.flat_at lk.link) (Rattle.headline_laws.proofs.FlatStretches.near_same w sl top lk.flat_at b lk.near)
   sees n _ _ (r_halts h) = h
 
-  owes : (n : ℕ) (a : State) (b : Held) → 0 < n → Rel n a b → Ow n a b (nn w a)
-  owes n _ _ pos (r_between {s = s} {s' = s'} {l = l} good like lf al) = between_owes n s s' l good like lf al
-  owes n _ _ pos (r_begins {s = s} {s' = s'} {l = l} {x = x} good like lf lw al) = begins_owes n x s s' l good like lf al lw
-  owes n _ _ pos (r_runs {c = c} {b = b} {l = l} {task = task} top is_top lk lf al) = runs_owes n top task c b l pos is_top lk lf al
-  owes n _ _ pos (r_halts {s = s} {s' = s'} h) = none_next n (halts s) (over s') h refl
+  owes : (n : ℕ) (a : State) (b : Held) → 0 < n → Rel n a b → Known b → Ow n a b (nn w a)
+  owes n _ _ pos (r_between {s = s} {s' = s'} {l = l} good like lf al) kn = between_owes n s s' l good like lf al
+  owes n _ _ pos (r_begins {s = s} {s' = s'} {l = l} {x = x} good like lf lw al) kn = begins_owes n x s s' l good like lf al lw
+  owes n _ _ pos (r_runs {c = c} {b = b} {l = l} {task = task} top is_top lk lf al) kn = runs_owes n top task c b l pos is_top lk lf al kn
+  owes n _ _ pos (r_halts {s = s} {s' = s'} h) kn = none_next n (halts s) (over s') h refl
 
   rel_less : (n k : ℕ) (a : State) (b : Held) → Rel n a b → k ≤ n → Rel k a b
   rel_less n k _ _ (r_between {s = s} {l = l} good like lf al) le = r_between good like lf (allowed_less w n k (between s l) al le)
@@ -273,25 +285,35 @@ module _ (w : World) (ft : WorldFits w) (sl : StoreLaws w) (L : ℕ → Configur
   at_once : (a : State) (b : Held) → Sm w (store_of a) (store_held b) → (j : ℕ) → j ≤ 0 → Rests w (store_of a) (run (pr w) j b)
   at_once a b h j le = let z : j ≡ 0 = omega arith in subst (λ i. Rests w (store_of a) (run (pr w) i b)) (sym z) (refl, h)
 
-  abbrev Made : (n spare k : ℕ) → List Note → State → State → Held → Type 0
-  Made = Match State Held Note Note (nn w) (pr w) (λ n spare. Rel n) (SameNote w.original w.settings w.which w.plan.area) (dear_of w.original)
+  abbrev Made : (Rl : ℕ → State → Held → Type 0) (n spare k : ℕ) → List Note → State → State → Held → Type 0
+  Made Rl = Match State Held Note Note (nn w) (pr w) (λ n spare. Rl n) (SameNote w.original w.settings w.which w.plan.area) (dear_of w.original)
+      (Sees w.original w.settings w.which w.written (xp w) w.plan) (Sees_at w.original w.settings w.which w.written (xp w) w.plan)
+
+  abbrev Way : (Rl : ℕ → State → Held → Type 0) (k : ℕ) → List Note → State → State → ℕ → Ran Held Note → Type 0
+  Way Rl = On_way State Held Note Note (nn w) (pr w) (λ n spare. Rl n) (SameNote w.original w.settings w.which w.plan.area) (dear_of w.original)
       (Sees w.original w.settings w.which w.written (xp w) w.plan) (Sees_at w.original w.settings w.which w.written (xp w) w.plan)
 
   -- THE SIMULATION
-  pub simulates : Simulates w.original w.settings w.which w.written w.plan Rel
+  pub simulates : Simulates w.original w.settings w.which w.written w.plan Both
   simulates = record {
-    less = λ n k spare a b r le. rel_less n k a b r le;
-    stop = λ n spare a b r e j le. ⊎_elim (λ pos. subst (Ow n a b) e (owes n a b pos r) j) (λ no_cost. at_once a b (sees n a b r) j (omega arith)) (cases_lt 0 n);
-    slow = λ n spare k es a' a b r e few j le. ⊎_elim (λ pos. (owed n k es a' a b (owes n a b pos r) e).0 j (omega arith)) (λ no_cost. at_once a b (sees n a b r) j (omega arith)) (cases_lt 0 n);
-    move = λ n spare a b k es a' r e enough. any_spare n spare k es a a' b ((owed n k es a' a b (owes n a b (omega arith) r) e).1 enough);
+    less = λ n k spare a b r le. (rel_less n k a b r.0 le, r.1);
+    stop = λ n spare a b r e j le. ⊎_elim (λ pos. subst (Ow n a b) e (owes n a b pos r.0 r.1) j) (λ no_cost. at_once a b (sees n a b r.0) j (omega arith)) (cases_lt 0 n);
+    slow = λ n spare k es a' a b r e few j le. ⊎_elim (λ pos. (owed n k es a' a b (owes n a b pos r.0 r.1) e).0 j (omega arith)) (λ no_cost. at_once a b (sees n a b r.0) j (omega arith)) (cases_lt 0 n);
+    move = λ n spare a b k es a' r e enough. any_spare n spare k es a a' b r.1 ((owed n k es a' a b (owes n a b (omega arith) r.0 r.1) e).1 enough);
   }
     where
       owed : (n k : ℕ) (es : List Note) (a' a : State) (b : Held) → Ow n a b (nn w a) → nn w a ≡ goes k es a' → Ow n a b (goes k es a')
       owed n k es a' a b o e = subst (Ow n a b) e o
 
+      -- where it stands doesn't depend on the relation
+      on_way_too : (n k : ℕ) (es : List Note) (a a' : State) (j : ℕ) (r : Ran Held Note) → Way Rel k es a a' j r → Way Both k es a a' j r
+      on_way_too n k es a a' j r (not_yet none sees_it) = not_yet none sees_it
+      on_way_too n k es a a' j r (all_made ge same sees_it) = all_made ge same sees_it
+      on_way_too n k es a a' j r (up_to es1 es2 x ge split same sees_it) = up_to es1 es2 x ge split same sees_it
+
       -- nothing is left to spare
-      any_spare : (n spare k : ℕ) (es : List Note) (a a' : State) (b : Held) → Made n 0 k es a a' b → Made n spare k es a a' b
-      any_spare n spare k es a a' b mt = record {
+      any_spare : (n spare k : ℕ) (es : List Note) (a a' : State) (b : Held) → Known b → Made Rel n 0 k es a a' b → Made Both n spare k es a a' b
+      any_spare n spare k es a a' b kn mt = record {
         cost = mt.cost;
         left = mt.left;
         events = mt.events;
@@ -300,6 +322,6 @@ module _ (w : World) (ft : WorldFits w) (sl : StoreLaws w) (L : ℕ → Configur
         no_less = mt.no_less;
         bound = let h = mt.bound in omega arith;
         alike = mt.alike;
-        rel = mt.rel;
-        on_way = mt.on_way;
+        rel = (mt.rel, known_on b mt.to mt.cost mt.events kn mt.leads);
+        on_way = λ j lt. on_way_too n k es a a' j (run (pr w) j b) (mt.on_way j lt);
       }

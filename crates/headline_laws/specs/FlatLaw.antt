@@ -6,11 +6,13 @@ use Rattle.wa_types.specs.declared.values.Trap.{Trap}
 use Rattle.wa_types.specs.declared.values.Value.{Value}
 use Rattle.wa_types.specs.Bounds.{activation_bound}
 use Rattle.wa_types.specs.Frames.{Suspended}
-use Rattle.wa_types.specs.Modules.{defined_at, func_imports, func_type_at}
+use Rattle.wa_types.specs.Modules.{defined_at, func_imports, func_type_at, locals_of}
+use Rattle.wa_types.specs.Sizes.{value_fits}
 use Rattle.wa_types.specs.Syntax.{Func, Module}
 use Rattle.wa_model.specs.Behaves.{StandsNumbered}
 use Rattle.wa_model.specs.Blocking.{fault_of, poked, resumed}
 use Rattle.wa_model.specs.Configuration.{Activation, Configuration, stack_of}
+use Rattle.wa_model.specs.Fitting.{types_of}
 use Rattle.wa_model.specs.Outside.{Answer}
 use Rattle.wa_model.specs.Plan.{AnswerFits, AreLawful}
 use Rattle.wa_model.specs.Step.{Next, asks, entered, param_count, returns, step, steps, stuck, traps}
@@ -38,6 +40,18 @@ AllWeigh m n [] [] = Unit {0}
 AllWeigh m n (v ∷ []) (a ∷ []) = n + (unwinding v.fn v.out + 1 + (2 * length v.site.slots + 1) + rewinding v.fn v.seek) ≤ activation_bound m a
 AllWeigh m n (v ∷ x ∷ vs) (a ∷ rest) = (unwinding v.fn v.out + 1 + (2 * length v.site.slots + 1) + rewinding v.fn v.seek ≤ activation_bound m a) × AllWeigh m n (x ∷ vs) rest
 AllWeigh m n _ _ = ⊥
+
+-- An activation's locals have their types and are in range.
+pub record LocalsFit (p : Module) (func : ℕ) (locals : List Value) : Type 0 where
+  pub found : Func
+  pub is : defined_at p func ≡ Some found
+  pub typed : types_of locals ≡ locals_of p found
+  pub ranges : All value_fits locals
+
+-- so do those of each
+abbrev pub AllLocalsFit : Module → List Activation → Type 0
+AllLocalsFit p [] = Unit {0}
+AllLocalsFit p (a ∷ us) = LocalsFit p a.func a.locals × AllLocalsFit p us
 
 module _ (w : World) (Live : Configuration → Configuration → Type 0) (L : (top : ℕ) → Configuration → Configuration → Type 0) (W : (top import : ℕ) → Configuration → Configuration → Type 0) (G : Store → Type 0) where
   -- a reduction: quiet as to the store, one that does what the original's does, and quiet again
@@ -144,4 +158,4 @@ module _ (w : World) (Live : Configuration → Configuration → Type 0) (L : (t
     pub numbers : (top i : ℕ) (d f : Configuration) → W top i d f → All (StandsNumbered w.original w.settings w.which) (stack_of (base w) d) → AllNumbered (setting w top) i (f.here ∷ f.under)
     pub stands : (top i : ℕ) (d f : Configuration) (us' : List Activation) (st : Stopped (setting w top) i (f.here ∷ f.under) us') → W top i d f → All (StandsNumbered w.original w.settings w.which) (stack_of (base w) d) → FlatStands top i d f us' st
     pub again : (top i : ℕ) (d f : Configuration) (a : Activation) (us : List Activation) → W top i d f → All (StandsNumbered w.original w.settings w.which) (stack_of (base w) d)
-        → AllSameFlat w.lay (f.here ∷ f.under) (a ∷ us) → FlatAgain top i d f a us
+        → AllSameFlat w.lay (f.here ∷ f.under) (a ∷ us) → (us' : List Activation) → Stopped (setting w top) i (a ∷ us) us' → AllLocalsFit w.written us' → FlatAgain top i d f a us

@@ -4,3 +4,4 @@ pub mod Laws
 pub mod LiveLaw
 pub mod StoreLaws
 pub mod World
+pub mod WrittenRuns
