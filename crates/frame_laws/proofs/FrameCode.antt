@@ -16,7 +16,8 @@ use Rattle.wa_model.specs.Configuration.{Label, Activation, Configuration, runni
 use Rattle.wa_model.specs.Step.{did}
 use Rattle.wa_model.proofs.Alone.{Comes, none, one, on}
 use Rattle.frame_laws.specs.FrameMemory.{FieldsFit, HoldsFields}
-use Rattle.frame_laws.specs.Layout.{FrameField, kept, gap, fields_size, kept_count, stored_value, loaded_value, stores, loads}
+use Rattle.frame_laws.specs.Layout.{FrameField, kept, gap, fields_size, kept_count, stores, loads}
+use Rattle.local_spill.specs.Spilling.{stored_value, loaded_value}
 use Rattle.wa_model.specs.Keeping.{keeps}
 use Rattle.wa_types.specs.Sizes.{value_fits}
 use Rattle.frame_laws.proofs.FieldBytes.{le_true, reads_32, reads_64, length-value, put_spots}

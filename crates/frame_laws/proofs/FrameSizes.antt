@@ -9,7 +9,8 @@ use Rattle.wa_types.specs.Counts.{depth_of}
 use Rattle.wa_types.specs.Frames.{width}
 use Rattle.wa_model.specs.Flat.{result_got}
 use Rattle.wa_model.specs.Rewrites.{instructions_and_labels}
-use Rattle.frame_laws.specs.Layout.{FrameField, kept, gap, kept_count, fields_size, Layout, frame_size, stored_value, loaded_value, stores, loads, save_code, restore_code}
+use Rattle.frame_laws.specs.Layout.{FrameField, kept, gap, kept_count, fields_size, Layout, frame_size, stores, loads, save_code, restore_code}
+use Rattle.local_spill.specs.Spilling.{stored_value, loaded_value}
 use Rattle.frame_laws.specs.Sizes.{result_size, FunctionSize, FunctionDepth}
 
 one_store : (t : ValType) (off : ℕ) (next : Code) → instructions_and_labels (stored_value t off next) ≡ 1 + instructions_and_labels next

@@ -1,3 +1,4 @@
+pub mod ChosenPlaces
 pub mod Example
 pub mod FieldBytes
 pub mod FrameCode

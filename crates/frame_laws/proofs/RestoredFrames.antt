@@ -15,7 +15,8 @@ use Rattle.wa_model.specs.Store.{Store, with_memory, value_at}
 use Rattle.wa_model.specs.Configuration.{Label, Activation, Configuration, running}
 use Rattle.wa_model.proofs.Alone.{Comes, on}
 use Rattle.frame_laws.specs.FrameMemory.{AreaAt, FieldsFit, HoldsFields, HoldsFrameOf, IsKept}
-use Rattle.frame_laws.specs.Layout.{FrameField, kept, gap, fields_size, kept_count, Layout, frame_size, stored_value, loaded_value, frame_loaded, restore_code, restore_cost}
+use Rattle.frame_laws.specs.Layout.{FrameField, kept, gap, fields_size, kept_count, Layout, frame_size, frame_loaded, restore_code, restore_cost}
+use Rattle.local_spill.specs.Spilling.{stored_value, loaded_value}
 use Rattle.frame_laws.specs.Saving.{RestoresTo, Restores}
 use Rattle.wa_model.specs.Keeping.{keeps}
 use Rattle.frame_laws.proofs.FieldBytes.{still_holds}

@@ -16,7 +16,8 @@ use Rattle.wa_model.specs.Store.{Store, with_memory, value_at}
 use Rattle.wa_model.specs.Configuration.{Label, block_label, Activation, Configuration, running}
 use Rattle.wa_model.proofs.Alone.{Comes, on}
 use Rattle.frame_laws.specs.FrameMemory.{AreaAt, FieldsFit, HoldsFields}
-use Rattle.frame_laws.specs.Layout.{FrameField, kept, gap, fields_size, kept_count, Layout, frame_size, stored_value, loaded_value, frame_stored, save_code, save_cost}
+use Rattle.frame_laws.specs.Layout.{FrameField, kept, gap, fields_size, kept_count, Layout, frame_size, frame_stored, save_code, save_cost}
+use Rattle.local_spill.specs.Spilling.{stored_value, loaded_value}
 use Rattle.frame_laws.specs.Saving.{Savable, SavesTo, Saves, TrapsAt, Overflows}
 use Rattle.wa_model.specs.Keeping.{keeps}
 use Rattle.wa_types.specs.Sizes.{value_fits}

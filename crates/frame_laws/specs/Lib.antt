@@ -1,3 +1,4 @@
+pub mod Chosen
 pub mod FrameMemory
 pub mod Function
 pub mod Layout

@@ -1,5 +1,6 @@
 //! Laws of the code that saves and that restores. Each is the contract of a function that does nothing.
 
+ghost use Rattle.frame_laws.specs.Chosen.{ChosenPlacesStand};
 ghost use Rattle.frame_laws.specs.Saving.{Overflows, Restores, Saves};
 ghost use Rattle.frame_laws.specs.Sizes.{FunctionDepth, FunctionSize};
 ghost use Rattle.frame_laws.specs.Typed.{RestoreTyped, SaveTyped};
@@ -26,4 +27,9 @@ pub fn frames_are_typed()
 pub fn functions_are_small()
     ensures size { FunctionSize }
     ensures depth { FunctionDepth }
+{}
+
+/// Where some of the locals in a row aren't kept, the others stand where they stood, and the frame keeps its size.
+pub fn chosen_places_stand()
+    ensures { ChosenPlacesStand }
 {}

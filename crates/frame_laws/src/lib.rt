@@ -19,7 +19,8 @@ mod frame_laws;
 mod stack_laws;
 
 pub use frame_laws::{
-    frames_are_restored, frames_are_saved, frames_are_typed, functions_are_small,
+    chosen_places_stand, frames_are_restored, frames_are_saved, frames_are_typed,
+    functions_are_small,
 };
 pub use stack_laws::{
     functions_rewind, functions_unwind, stacks_are_held, stacks_rewind, stacks_unwind,

@@ -4,6 +4,7 @@ use Rattle.wa_types.specs.declared.values.ValType.{ValType}
 use Rattle.wa_types.specs.declared.values.ValType.TheVariants.{I32, I64}
 use Rattle.wa_types.specs.Syntax.{a_block, Code, done, plain, nest, branch}
 use Rattle.wa_types.specs.Pausing.{Callee, callee}
+use Rattle.wa_types.specs.Pruned.{pruned}
 use Rattle.wa_model.specs.Flat.{followed_by, result_got}
 use Rattle.guard_form.specs.Pieces.{Units, no_unit, call_unit, nest_unit, if_unit, flat_units}
 use Rattle.guard_form.specs.Guarded.{GuardIndices, written_body}
@@ -67,9 +68,9 @@ PiecesCall P (call_unit slots x to behind rest) = Calls P behind × PiecesCall P
 PiecesCall P (nest_unit s first body behind rest) = Calls P first × PiecesCall P body × Calls P behind × PiecesCall P rest
 PiecesCall P (if_unit c fa a fb b behind rest) = Calls P fa × PiecesCall P a × Calls P fb × PiecesCall P b × Calls P behind × PiecesCall P rest
 
--- each call of a function that stays, or of a guarded one's pieces
+-- each call that may be reached of a function that stays, or each of a guarded one's pieces
 abbrev pub RoleCalls : (Callee → Type 0) → Role → Type 0
-RoleCalls P (as_is n body) = Calls P body
+RoleCalls P (as_is n body) = Calls P (pruned body)
 RoleCalls P (with_guards f) = Calls P f.first × PiecesCall P f.body
 
 -- ---- units that hold

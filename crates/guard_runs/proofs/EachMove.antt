@@ -8,6 +8,7 @@ use Rattle.wa_types.specs.declared.values.Trap.TheVariants.{TypeMismatch, Undefi
 use Rattle.wa_types.specs.Syntax.{Plain, basic, local_get, local_set, local_tee, br, br_if, br_table, return, unreachable, call, call_indirect, a_block, a_loop, Code, done, plain, nest, branch, FuncType, Module}
 use Rattle.wa_types.specs.Modules.{func_type_at, type_at, defined_at}
 use Rattle.wa_types.specs.Pausing.{Callee, direct, indirect, callee}
+use Rattle.wa_types.specs.Pruned.{is_last, pruned}
 use Rattle.wa_model.specs.declared.flat.Operand.{Operand}
 use Rattle.wa_model.specs.Store.{Store, value_at, Did, works, fails, lacks, takes, act}
 use Rattle.wa_model.specs.Configuration.{Label, block_label, Configuration, running, waiting}
@@ -18,7 +19,7 @@ use Rattle.guard_form.specs.Guarded.{raise, raised_plain, raised, GuardIndices, 
 use Rattle.guard_form.specs.Pieces.{Units, no_unit, call_unit, nest_unit, if_unit, numbers_in, call_to, flat_units}
 use Rattle.guard_form.specs.Places.{Enclosing, in_a_block, in_a_loop, flat_labels, written_labels, BodyPlace, at_start, in_block, in_loop, in_then, in_else, call_code, call_label}
 use Rattle.guard_runs.specs.Beside.{Sides, DidToo, Together, BehindPiece, arm_end, tail_at, InPiece, outside, block_in, loop_in, GoesOn, SamePoint, in_piece, at_args, at_block, at_loop, at_choice, at_end, at_body, at_return, GoesTo, directly, by_table, BothWait, in_a_piece, at_number, Aligned, aligned, Near, Matched, both_step, both_trap, flat_stuck, ProperPlain, ProperCode, Proper}
-use Rattle.guard_form.proofs.CodeLemmas.{then_done, raised_none, picked, got_left, set_left}
+use Rattle.guard_form.proofs.CodeLemmas.{calls_pruned, then_done, raised_none, picked, got_left, set_left}
 use Rattle.guard_runs.proofs.Settling.{Ctx, cq, cp, no_lag, wider, Arounds, calls_at, arounds, settle, settle_piece}
 use Rattle.guard_runs.proofs.Moving.{same_params, with_stores, resume}
 use Rattle.guard_runs.proofs.Moving as N
@@ -115,40 +116,40 @@ module _ (w : Sides) (ok : Together w) where
   -- ---- in a piece
 
   module _ {r : Role} (x : Ctx w r) {by : ℕ} {tail : Code} {outer outer' : List Label} (co : BehindPiece w r by tail outer outer') (d : ℕ) (labels labels' : List Label) (inn : InPiece w by tail outer outer' d labels labels') where
-    piece_next : (y : Ctx w r) (ops : List Value) (c : Code) → Calls w.free c → Near w 9 (cq w y ops (followed_by c (tail_at d tail)) labels) (cp w y ops (raised d by c) labels')
+    piece_next : (y : Ctx w r) (ops : List Value) (c : Code) → Calls w.free (pruned c) → Near w 9 (cq w y ops (followed_by c (tail_at d tail)) labels) (cp w y ops (raised d by c) labels')
     piece_next y ops c ca = wider w 5 9 _ _ (settle_piece w ok y (N.pieces w ok y) co ops d labels labels' inn c ca) (omega arith)
 
-    plain_too : (ops : List Value) (rest : Code) → Calls w.free rest → (pi : Plain) → MayCall w.free (callee pi) → ProperPlain w x.s x.ls ops pi
+    plain_too : (ops : List Value) (rest : Code) (pi : Plain) → Calls w.free (if is_last pi then done else pruned rest) → MayCall w.free (callee pi) → ProperPlain w x.s x.ls ops pi
         → M (step_plain q x.s x.fn x.under x.ls ops labels (followed_by rest (tail_at d tail)) pi) (step_plain p x.s' x.fn x.under' (x.ls ++ x.extra) ops labels' (raised d by rest) (raised_plain d by pi))
-    plain_too ops rest ca (basic b) mc pr =
+    plain_too ops rest (basic b) ca mc pr =
         subst (λ o. M (did x.fn x.under x.ls labels (followed_by rest (tail_at d tail)) x.s (drop (takes b) ops) (act (memory_max q) b x.s (take (takes b) ops))) (did x.fn x.under' (x.ls ++ x.extra) labels' (raised d by rest) x.s' (drop (takes b) ops) (act o b x.s' (take (takes b) ops)))) (sym ok.most)
         (did_too x labels labels' (followed_by rest (tail_at d tail)) (raised d by rest) (drop (takes b) ops) (λ y ops. piece_next y ops rest ca) _ _ (ok.acts b x.s x.s' (take (takes b) ops) x.alike pr))
-    plain_too ops rest ca (local_get z) mc pr = local_got x labels labels' _ _ ops z pr (piece_next x _ rest ca)
-    plain_too ops rest ca (local_set z) mc pr = N.top_too w ops _ _ (λ v below e. local_put x labels labels' _ _ below z v pr (piece_next (N.with_local w x z v) below rest ca))
-    plain_too ops rest ca (local_tee z) mc pr = N.top_too w ops _ _ (λ v below e. local_put x labels labels' _ _ (v ∷ below) z v pr (piece_next (N.with_local w x z v) (v ∷ below) rest ca))
-    plain_too ops rest ca (br l) mc pr = N.jumps_in w ok x co 0 ops d labels labels' inn l
-    plain_too ops rest ca (br_if l) mc pr = N.number_too w ops _ _ (λ v below e. N.chooses_too w v _ _ _ _ (N.jumps_in w ok x co 0 below d labels labels' inn l) (both_step (piece_next x below rest ca)))
-    plain_too ops rest ca (br_table ls l) mc pr =
+    plain_too ops rest (local_get z) ca mc pr = local_got x labels labels' _ _ ops z pr (piece_next x _ rest ca)
+    plain_too ops rest (local_set z) ca mc pr = N.top_too w ops _ _ (λ v below e. local_put x labels labels' _ _ below z v pr (piece_next (N.with_local w x z v) below rest ca))
+    plain_too ops rest (local_tee z) ca mc pr = N.top_too w ops _ _ (λ v below e. local_put x labels labels' _ _ (v ∷ below) z v pr (piece_next (N.with_local w x z v) (v ∷ below) rest ca))
+    plain_too ops rest (br l) ca mc pr = N.jumps_in w ok x co 0 ops d labels labels' inn l
+    plain_too ops rest (br_if l) ca mc pr = N.number_too w ops _ _ (λ v below e. N.chooses_too w v _ _ _ _ (N.jumps_in w ok x co 0 below d labels labels' inn l) (both_step (piece_next x below rest ca)))
+    plain_too ops rest (br_table ls l) ca mc pr =
         N.number_too w ops _ _ (λ v below e.
         subst (λ n. M (jump (length ls + 1) q x.s x.fn x.under x.ls below labels (unwrap_or (slice_get ls v) l)) (jump (n + 1) p x.s' x.fn x.under' (x.ls ++ x.extra) below labels' (unwrap_or (slice_get (map (raise d by) ls) v) (raise d by l)))) (sym (length-map ls (raise d by)))
         (subst (λ n. M (jump (length ls + 1) q x.s x.fn x.under x.ls below labels (unwrap_or (slice_get ls v) l)) (jump (length ls + 1) p x.s' x.fn x.under' (x.ls ++ x.extra) below labels' n)) (sym (picked (raise d by) ls v l))
         (N.jumps_in w ok x co (length ls + 1) below d labels labels' inn (unwrap_or (slice_get ls v) l))))
-    plain_too ops rest ca return mc pr = N.leaves w ok x 0 ops
-    plain_too ops rest ca unreachable mc pr = both_trap x.alike
-    plain_too ops rest ca (call y) mc pr = calls_too x labels labels' _ _ ops (direct y) pr (λ g left taken gt. in_a_piece x.fn x.here x.is x.ls x.extra left taken x.both co inn rest ca (direct y) mc gt)
-    plain_too ops rest ca (call_indirect t) mc pr = calls_too x labels labels' _ _ ops (indirect t) pr (λ g left taken gt. in_a_piece x.fn x.here x.is x.ls x.extra left taken x.both co inn rest ca (indirect t) mc gt)
+    plain_too ops rest return ca mc pr = N.leaves w ok x 0 ops
+    plain_too ops rest unreachable ca mc pr = both_trap x.alike
+    plain_too ops rest (call y) ca mc pr = calls_too x labels labels' _ _ ops (direct y) pr (λ g left taken gt. in_a_piece x.fn x.here x.is x.ls x.extra left taken x.both co inn rest ca (direct y) mc gt)
+    plain_too ops rest (call_indirect t) ca mc pr = calls_too x labels labels' _ _ ops (indirect t) pr (λ g left taken gt. in_a_piece x.fn x.here x.is x.ls x.extra left taken x.both co inn rest ca (indirect t) mc gt)
 
   -- a construct of the piece begins
   module _ {r : Role} (x : Ctx w r) {by : ℕ} {tail : Code} {outer outer' : List Label} (co : BehindPiece w r by tail outer outer') (d : ℕ) (labels labels' : List Label) (inn : InPiece w by tail outer outer' d labels labels') where
-    enters : (ops : List Value) (lb lb' : Label) (body : Code) → Calls w.free body → InPiece w by tail outer outer' (suc d) (lb ∷ labels) (lb' ∷ labels')
+    enters : (ops : List Value) (lb lb' : Label) (body : Code) → Calls w.free (pruned body) → InPiece w by tail outer outer' (suc d) (lb ∷ labels) (lb' ∷ labels')
         → M (steps 0 (cq w x ops body (lb ∷ labels))) (steps 0 (cp w x ops (raised (suc d) by body) (lb' ∷ labels')))
     enters ops lb lb' body ca inn2 =
         subst (λ c. M (steps 0 (cq w x ops c (lb ∷ labels))) (steps 0 (cp w x ops (raised (suc d) by body) (lb' ∷ labels')))) (then_done body) (both_step (piece_next x co (suc d) _ _ inn2 x ops body ca))
 
-    piece_step : (ops : List Value) (c : Code) → Calls w.free c → GoesOn d c → ProperCode w x.s x.ls ops (followed_by c (tail_at d tail))
+    piece_step : (ops : List Value) (c : Code) → Calls w.free (pruned c) → GoesOn d c → ProperCode w x.s x.ls ops (followed_by c (tail_at d tail))
         → M (step_at q x.s x.fn x.under x.ls ops labels (followed_by c (tail_at d tail))) (step_at p x.s' x.fn x.under' (x.ls ++ x.extra) ops labels' (raised d by c))
-    unfolding followed_by
-    piece_step ops (plain pi rest) ca go pr = plain_too x co d labels labels' inn ops rest ca.1 pi ca.0 pr
+    unfolding followed_by pruned
+    piece_step ops (plain pi rest) ca go pr = plain_too x co d labels labels' inn ops rest pi ca.1 ca.0 pr
     piece_step ops (nest a_block y body rest) ca go pr = enters ops _ _ body ca.0 (block_in (length ops) (arity_of y) rest done done inn ca.1)
     piece_step ops (nest a_loop y body rest) ca go pr = enters ops _ _ body ca.0 (loop_in (length ops) body rest inn ca.0 ca.1)
     piece_step ops (branch y a b rest) ca go pr = N.number_too w ops _ _ (λ v below e. by_arm v below)
@@ -190,7 +191,7 @@ module _ (w : Sides) (ok : Together w) where
     arm_near : (ops : List Value) (k : ℕ) (us : Units) (xs : List Enclosing) (first : Code) → BodyPlace w.state f k us xs → Calls w.free first
         → Near w 9 (cq w x ops (followed_by first (flat_units us)) (flat_labels f xs)) (cp w x ops (arm us first (front i (length xs) k first us)) (written_labels w.state f xs))
     arm_near ops k no_unit xs first pl ca =
-        subst (λ c. Near w 9 (cq w x ops (followed_by first done) (flat_labels f xs)) (cp w x ops c (written_labels w.state f xs))) (raised_none 0 first) (wider w 5 9 _ _ (settle_piece w ok x (N.pieces w ok x) (arm_end pl) ops 0 _ _ outside first ca) (omega arith))
+        subst (λ c. Near w 9 (cq w x ops (followed_by first done) (flat_labels f xs)) (cp w x ops c (written_labels w.state f xs))) (raised_none 0 first) (wider w 5 9 _ _ (settle_piece w ok x (N.pieces w ok x) (arm_end pl) ops 0 _ _ outside first (calls_pruned w.free first ca)) (omega arith))
     arm_near ops k (call_unit slots c to behind rest) xs first pl ca = four x ops k (call_unit slots c to behind rest) xs first pl ca
     arm_near ops k (nest_unit s inner body behind rest) xs first pl ca = four x ops k (nest_unit s inner body behind rest) xs first pl ca
     arm_near ops k (if_unit c fa a fb b behind rest) xs first pl ca = four x ops k (if_unit c fa a fb b behind rest) xs first pl ca

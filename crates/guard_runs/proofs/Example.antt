@@ -1,6 +1,7 @@
 -- A function with two numbered calls in a row, a piece with a branch out of it, and an `if` in a loop: its guarded code, and runs of it.
 use Rattle.std.proofs.Common.{arith, subst, ◌+◌, true, false}
 use Rattle.std.specs.Prelude.{Bool, slice_get}
+use Rattle.wa_types.specs.Pruned.{pruned}
 use Rattle.wa_types.specs.Pausing.{Callee}
 use Rattle.guard_form.specs.Functions.{GuardedFunc, Role, as_is, with_guards, flat_code, RoleCalls}
 use Rattle.guard_form.specs.Guarded.{GuardIndices, front, written_body, by_state, noted}
@@ -19,7 +20,7 @@ use Rattle.wa_types.specs.declared.values.Value.{Value}
 use Rattle.wa_types.specs.declared.values.Value.TheVariants as V
 use Rattle.wa_types.specs.declared.operators.NumOp.TheVariants.{I32Add, I32Ne}
 use Rattle.wa_types.specs.declared.syntax.ImportKind.TheVariants as K
-use Rattle.wa_types.specs.Syntax.{const, num, global_get, basic, local_get, local_set, br, br_if, call, a_block, a_loop, Code, done, plain, nest, branch, FuncType, Func, Module}
+use Rattle.wa_types.specs.Syntax.{const, num, global_get, basic, local_get, local_set, br, br_if, unreachable, call, a_block, a_loop, Code, done, plain, nest, branch, FuncType, Func, Module}
 use Rattle.wa_types.specs.Pausing.{direct}
 use Rattle.wa_model.specs.declared.flat.Operand.TheVariants.{Local, Const}
 use Rattle.wa_model.specs.Store.{Store}
@@ -208,7 +209,7 @@ unfolding code_of followed_by
 same_function = record { flat = refl; written = refl; locals = refl; size = refl }
 
 differ : DifferInFunctions setting
-unfolding code_of followed_by
+unfolding code_of followed_by pruned
 differ = record {
   types = refl;
   imports = refl;
@@ -228,6 +229,11 @@ differ = record {
     calls_of_role zero = tt
     calls_of_role (suc zero) = (tt, (tt, ((tt, (tt, (tt, (tt, (tt, (tt, tt)))))), (tt, (tt, tt))), tt, (tt, ((tt, (tt, (tt, tt))), tt, tt, (tt, tt), tt, tt), tt, tt)))
     calls_of_role (suc (suc x)) = tt
+
+-- a function that stays may hold a numbered call where none is reached
+past_a_last : RoleCalls (λ c. is_numbered c ≡ false) (as_is 0 (plain unreachable (plain (call 0) done)))
+unfolding pruned
+past_a_last = (tt, tt)
 
 -- so they are paired, and a call of the host begins near
 no_globals : Store

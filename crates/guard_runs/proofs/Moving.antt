@@ -10,6 +10,7 @@ use Rattle.wa_types.specs.Encoding.{same_type}
 use Rattle.wa_types.specs.Syntax.{global_get, basic, local_get, local_set, br_if, Code, done, plain, branch, FuncType, Module}
 use Rattle.wa_types.specs.Modules.{func_imports, func_type_at, declared_locals, defined_at}
 use Rattle.wa_types.specs.Pausing.{Callee}
+use Rattle.wa_types.specs.Pruned.{pruned}
 use Rattle.wa_model.specs.Store.{Store}
 use Rattle.wa_model.specs.Configuration.{Label, block_label, loop_label, Activation, running, waiting}
 use Rattle.wa_model.specs.Step.{Next, steps, asks, traps, stuck, keep, result_count, leave, jump, with_top, with_number, choose, zero_of, entered, invoke, param_count, same_types, same_func_type}
@@ -20,7 +21,7 @@ use Rattle.guard_form.specs.Pieces.{Units, call_unit, flat_units, numbers_in}
 use Rattle.guard_form.specs.Places.{Enclosing, in_a_block, in_a_loop, flat_labels, written_labels, BodyPlace, past_call, call_code, call_label}
 use Rattle.guard_runs.specs.Beside.{Sides, Twin, both_import, both_defined, Together, BehindPiece, guard_end, before_call, before_if, arm_end, func_end, tail_at, InPiece, outside, block_in, loop_in, at_body, Locals, BothWait, in_a_piece, at_number, Callers, host, above, Near, Matched, both_step, both_ask, both_return, both_trap, flat_stuck}
 use Rattle.guard_runs.proofs.SilentStretches.{Comes, on, walks}
-use Rattle.guard_form.proofs.CodeLemmas.{then_done, raised_none, raise_out, raise_in, raise_on, set_behind}
+use Rattle.guard_form.proofs.CodeLemmas.{calls_pruned, then_done, raised_none, raise_out, raise_in, raise_on, set_behind}
 use Rattle.guard_runs.proofs.Settling.{Ctx, cq, cp, no_lag, later, wider, Arounds, calls_at, arounds, reads, to_else, settle, settle_piece}
 
 same_long : (ts us : List ValType) → same_types ts us ≡ true → length ts ≡ length us
@@ -115,8 +116,8 @@ module _ (w : Sides) where
       where
         by_to : (y : Ctx w (with_guards f)) → Calls w.free behind → (to : Option ℕ)
             → Near w 5 (cq w y ops (set_to to (followed_by behind (flat_units rest))) (flat_labels f xs)) (cp w y ops (set_to to (raised 0 1 behind)) (call_label w.state f h (length xs) k rest ∷ written_labels w.state f xs))
-        by_to y ca None = settle_piece w ok y (pieces y) (guard_end h (past_call slots c to pl)) ops 0 _ _ outside behind ca
-        by_to y ca (Some z) = settle_piece w ok y (pieces y) (guard_end h (past_call slots c to pl)) ops 0 _ _ outside (plain (local_set z) behind) (tt, ca)
+        by_to y ca None = settle_piece w ok y (pieces y) (guard_end h (past_call slots c to pl)) ops 0 _ _ outside behind (calls_pruned w.free behind ca)
+        by_to y ca (Some z) = settle_piece w ok y (pieces y) (guard_end h (past_call slots c to pl)) ops 0 _ _ outside (plain (local_set z) behind) (calls_pruned w.free (plain (local_set z) behind) (tt, ca))
 
     pub resume : (s s' : Store) → w.like s s' → (g : ℕ) (a a' : Activation) (under under' : List Activation) (vs : List Value) → BothWait w g a a' → length under < 4096
         → Callers w a.func under under'
@@ -141,7 +142,7 @@ module _ (w : Sides) where
     -- behind the function's block
     pub out_of_body : (f : GuardedFunc) (x : Ctx w (with_guards f)) (ops : List Value)
         → Near w 9 (cq w x ops (result_got f.result) []) (cp w x ops (by_state w.state f.saving done (result_got f.result)) [])
-    unfolding followed_by
+    unfolding followed_by pruned
     out_of_body f x ops =
         later w 3 5 9 _ _ _ (on p 2 1 _ _ _ (to_else w ok x ops f f.saving done (result_got f.result) []) (walks p 1 _ _ refl)) (by_result f.result) (omega arith)
       where

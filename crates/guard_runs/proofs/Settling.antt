@@ -6,6 +6,7 @@ use Rattle.wa_types.specs.declared.values.Value.{Value}
 use Rattle.wa_types.specs.declared.values.Value.TheVariants as V
 use Rattle.wa_types.specs.Syntax.{Plain, Shape, global_get, basic, a_block, a_loop, Code, done, plain, nest, branch}
 use Rattle.wa_types.specs.Pausing.{Callee}
+use Rattle.wa_types.specs.Pruned.{pruned}
 use Rattle.wa_model.specs.Store.{Store}
 use Rattle.wa_model.specs.Configuration.{Label, block_label, Activation, Configuration, running}
 use Rattle.wa_model.specs.declared.flat.Operand.{Operand}
@@ -16,6 +17,7 @@ use Rattle.guard_form.specs.Guarded.{raised, GuardIndices, by_state, sought, cho
 use Rattle.guard_form.specs.Pieces.{Units, no_unit, call_unit, nest_unit, if_unit, numbers_in, flat_units}
 use Rattle.guard_form.specs.Places.{Enclosing, in_a_block, in_a_loop, flat_labels, written_labels, BodyPlace, at_start, past_call, past_block, past_loop, past_if, in_block, in_loop, in_then, in_else, call_code, call_label}
 use Rattle.guard_runs.specs.Beside.{Sides, Together, BehindPiece, guard_end, before_call, before_if, arm_end, func_end, tail_at, InPiece, outside, GoesOn, SamePoint, in_piece, at_args, at_block, at_loop, at_choice, at_end, at_return, Locals, Callers, Aligned, aligned, Near}
+use Rattle.guard_form.proofs.CodeLemmas.{calls_pruned}
 use Rattle.guard_form.proofs.Grouped.{then_then, then_got, calls_then, calls_got}
 use Rattle.guard_runs.proofs.SilentStretches.{Comes, none, on, walks}
 
@@ -148,7 +150,7 @@ module _ (w : Sides) where
           let from = cp x ops (front i (length xs) k first (if_unit c fa a fb b behind rest)) (written_labels w.state f xs) in
           let two : Comes w.written from 2 (cp x ops (raised 0 1 piece) (block_label (length ops) 1 next done ∷ written_labels w.state f xs)) =
           on w.written 1 1 _ _ _ (reads x ops (branch (Some I32) (choice i k a b) (raised 0 1 piece) next) (written_labels w.state f xs)) (walks w.written 1 _ _ refl) in
-          let at_piece = no_lag x ops _ _ _ _ (in_piece (before_if (length ops) pl) outside piece (calls_then w.free first (got c done) ca (calls_got w.free c done tt)) (goes_got first c)) in
+          let at_piece = no_lag x ops _ _ _ _ (in_piece (before_if (length ops) pl) outside piece (calls_pruned w.free piece (calls_then w.free first (got c done) ca (calls_got w.free c done tt))) (goes_got first c)) in
           subst (λ z. Near w 4 (cq x ops z (flat_labels f xs)) from) (joined_got first c (branch None (followed_by fa (flat_units a)) (followed_by fb (flat_units b)) (followed_by behind (flat_units rest))))
           (later 2 0 4 _ _ _ two at_piece (omega arith))
 
@@ -175,7 +177,7 @@ module _ (w : Sides) where
           → Near w 4 (cq x ops (followed_by first (flat_units us)) (flat_labels f xs)) (cp x ops (by_state i.state done (raised 0 1 first) (front i (length xs) k done us)) (written_labels w.state f xs))
       begins_guard ops k us xs first pl ca go =
           later 2 0 4 _ _ _ (to_else x ops f done (raised 0 1 first) (front i (length xs) k done us) (written_labels w.state f xs))
-          (no_lag x ops _ _ _ _ (in_piece (guard_end (length ops) pl) outside first ca go)) (omega arith)
+          (no_lag x ops _ _ _ _ (in_piece (guard_end (length ops) pl) outside first (calls_pruned w.free first ca) go)) (omega arith)
 
       begins_call : (ops : List Value) (k : ℕ) (slots : List ℕ) (c : Callee) (to : Option ℕ) (behind : Code) (rest : Units) (xs : List Enclosing) (first : Code)
           → BodyPlace w.state f k (call_unit slots c to behind rest) xs → Calls w.free first → GoesOn 0 first
@@ -186,7 +188,7 @@ module _ (w : Sides) where
           let from = cp x ops (front i (length xs) k first (call_unit slots c to behind rest)) (written_labels w.state f xs) in
           let one_ : Comes w.written from 1 (cp x ops (sought i k first code') lb') = walks w.written 1 _ _ refl in
           let three : Comes w.written from 3 (cp x ops (raised 0 2 first) (block_label (length ops) 0 code' done ∷ lb')) = on w.written 1 2 _ _ _ one_ (to_else x ops f _ (raised 0 2 first) code' lb') in
-          later 3 0 4 _ _ _ three (no_lag x ops _ _ _ _ (in_piece (before_call (length ops) (length ops) pl) outside first ca go)) (omega arith)
+          later 3 0 4 _ _ _ three (no_lag x ops _ _ _ _ (in_piece (before_call (length ops) (length ops) pl) outside first (calls_pruned w.free first ca) go)) (omega arith)
 
       -- a sequence begins
       pub settle : (ops : List Value) (k : ℕ) (us : Units) (xs : List Enclosing) (first : Code) → BodyPlace w.state f k us xs → Calls w.free first
@@ -209,7 +211,7 @@ module _ (w : Sides) where
     -- within a piece, or at its end
     pub settle_piece : {r : Role} {by : ℕ} {tail : Code} {outer outer' : List Label} (x : Ctx w r) (pc : (f : GuardedFunc) → r ≡ with_guards f → PiecesCall w.free f.body)
         → BehindPiece w r by tail outer outer' → (ops : List Value) (d : ℕ) (labels labels' : List Label) → InPiece w by tail outer outer' d labels labels' → (c : Code)
-        → Calls w.free c
+        → Calls w.free (pruned c)
         → Near w 5 (cq x ops (followed_by c (tail_at d tail)) labels) (cp x ops (raised d by c) labels')
     unfolding followed_by
     settle_piece x pc co ops d labels labels' inn (plain p n) ca = wider 0 5 _ _ (no_lag x ops _ _ _ _ (in_piece co inn (plain p n) ca (goes_plain d p n))) (omega arith)

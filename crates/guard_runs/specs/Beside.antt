@@ -2,6 +2,7 @@
 use Rattle.std.specs.Prelude.{◌≡◌, ℕ, true, zero, suc, ◌+◌, ◌≤◌, ◌<◌, List, [], ◌∷◌, ◌++◌, length, take, Option, Some, None, slice_get}
 use Rattle.wa_types.specs.Modules.{func_imports, type_at, func_type_at, declared_locals, defined_at}
 use Rattle.wa_types.specs.Pausing.{Callee, direct, indirect}
+use Rattle.wa_types.specs.Pruned.{pruned}
 use Rattle.wa_types.specs.Syntax.{Basic, Plain, basic, local_get, local_set, local_tee, call, call_indirect, a_block, a_loop, Code, done, plain, nest, branch, Func, Module}
 use Rattle.wa_types.specs.declared.values.Trap.{Trap}
 use Rattle.wa_types.specs.declared.values.Value.{Value}
@@ -87,9 +88,9 @@ tail_at (suc d) tail = done
 -- The labels of both sides inside so many constructs of a piece.
 pub data InPiece (w : Sides) (by : ℕ) (tail : Code) (outer outer' : List Label) : ℕ → List Label → List Label → Type 0 where
   outside : InPiece w by tail outer outer' 0 outer outer'
-  block_in : {d : ℕ} {labels labels' : List Label} → (h arity : ℕ) → (c skipped skipped' : Code) → InPiece w by tail outer outer' d labels labels' → Calls w.free c
+  block_in : {d : ℕ} {labels labels' : List Label} → (h arity : ℕ) → (c skipped skipped' : Code) → InPiece w by tail outer outer' d labels labels' → Calls w.free (pruned c)
       → InPiece w by tail outer outer' (suc d) (block_label h arity (followed_by c (tail_at d tail)) skipped ∷ labels) (block_label h arity (raised d by c) skipped' ∷ labels')
-  loop_in : {d : ℕ} {labels labels' : List Label} → (h : ℕ) → (body c : Code) → InPiece w by tail outer outer' d labels labels' → Calls w.free body → Calls w.free c
+  loop_in : {d : ℕ} {labels labels' : List Label} → (h : ℕ) → (body c : Code) → InPiece w by tail outer outer' d labels labels' → Calls w.free (pruned body) → Calls w.free (pruned c)
       → InPiece w by tail outer outer' (suc d) (loop_label h body (followed_by c (tail_at d tail)) ∷ labels) (loop_label h (raised (suc d) by body) (raised d by c) ∷ labels')
 
 -- the end of the piece itself isn't reached yet
@@ -100,7 +101,7 @@ GoesOn _ _ = Unit {0}
 -- Operands, and code and labels on both sides, with the same instruction next.
 pub data SamePoint (w : Sides) : Role → (ops : List Value) → (code : Code) → (labels : List Label) → (code' : Code) → (labels' : List Label) → Type 0 where
   in_piece : {ops : List Value} {r : Role} {by d : ℕ} {tail : Code} {outer outer' labels labels' : List Label} → BehindPiece w r by tail outer outer'
-      → InPiece w by tail outer outer' d labels labels' → (c : Code) → Calls w.free c → GoesOn d c
+      → InPiece w by tail outer outer' d labels labels' → (c : Code) → Calls w.free (pruned c) → GoesOn d c
       → SamePoint w r ops (followed_by c (tail_at d tail)) labels (raised d by c) labels'
   at_args : {ops : List Value} {f : GuardedFunc} {k : ℕ} {slots : List ℕ} {x : Callee} {to : Option ℕ} {behind : Code} {rest : Units} {xs : List Enclosing} → (h : ℕ)
       → (left : List ℕ) → BodyPlace w.state f k (call_unit slots x to behind rest) xs
@@ -137,7 +138,7 @@ pub record Locals (r : Role) (ls extra : List Value) : Type 0 where
 pub data BothWait (w : Sides) (g : ℕ) : Activation → Activation → Type 0 where
   in_a_piece : {r : Role} {by d : ℕ} {tail : Code} {outer outer' labels labels' : List Label} → (fn : ℕ) → fn < w.funcs → w.role fn ≡ r → (ls extra ops taken : List Value)
       → Locals r ls extra
-      → BehindPiece w r by tail outer outer' → InPiece w by tail outer outer' d labels labels' → (c : Code) → Calls w.free c → (x : Callee) → w.free x → GoesTo w g taken x
+      → BehindPiece w r by tail outer outer' → InPiece w by tail outer outer' d labels labels' → (c : Code) → Calls w.free (pruned c) → (x : Callee) → w.free x → GoesTo w g taken x
       → BothWait w g (waiting fn ls ops taken (followed_by c (tail_at d tail)) labels) (waiting fn (ls ++ extra) ops taken (raised d by c) labels')
   at_number : {f : GuardedFunc} {k : ℕ} {slots : List ℕ} {x : Callee} {to : Option ℕ} {behind : Code} {rest : Units} {xs : List Enclosing} → (fn : ℕ) → fn < w.funcs
       → w.role fn ≡ with_guards f → (ls extra ops taken : List Value) → Locals (with_guards f) ls extra

@@ -1,8 +1,22 @@
 //! How the locals of a suspended function are saved in memory and restored.
 //!
-//! For now the crate holds only the numbers of the parts that every written module has behind its own
-//! (`RuntimeIds`): the code that saves and restores will read and write the two globals by them.
+//! A frame has the function's locals in a row and behind them the number of the call at which the function waits
+//! (`layout`). The function begins with code that restores them where the state isn't 0 (`prologue`), and ends with code
+//! that saves them (`epilogue`); `specs/Spilling.antt` has both instruction by instruction. They go by the places that they
+//! are given, at any offsets: a place that is left out is neither stored nor loaded, and the frame keeps its size.
+//! What this code does stands in `frame_laws`.
 #![tactic(auto)]
+
+mod frames;
+mod laying;
+mod location;
+mod putting;
+mod room;
+mod spilling;
+
+pub use frames::{Layout, Place};
+pub use laying::layout;
+pub use spilling::{epilogue, prologue};
 
 /// The numbers of the appended parts of a written module.
 #[derive(Clone, Copy, Debug, PartialEq, Eq)]

@@ -20,7 +20,7 @@ use Rattle.wa_model.specs.Blocking.{Left}
 use Rattle.wa_model.specs.Protocol.{Exports, Phase, Then, Held, calling, aside, aside_called, aside_step}
 use Rattle.wa_model.proofs.Alone.{Comes, one, on}
 use Rattle.frame_laws.specs.FrameMemory.{AreaAt}
-use Rattle.frame_laws.specs.Layout.{loaded_value}
+use Rattle.local_spill.specs.Spilling.{loaded_value}
 use Rattle.frame_laws.specs.Stretches.{GoesKeeping}
 use Rattle.wa_model.specs.Keeping.{keeps}
 use Rattle.frame_laws.proofs.FieldBytes.{le_true}
