@@ -1,8 +1,9 @@
-mod Depths
+pub mod Depths
 mod Example
+pub mod FlatModules
 pub mod GotLemmas
 pub mod OperandTypes
-mod Sizes
+pub mod Sizes
 pub mod TableLabels
-mod Typing
-mod ValidModules
+pub mod Typing
+pub mod ValidModules

@@ -1,7 +1,6 @@
-ghost use Rattle.flat_laws.specs.StmtsTyped.{FlatStmtsTyped};
-ghost use Rattle.flat_laws.specs.FlatModule.{FlatIsShallow, FlatIsSmall, FlatIsTyped, FlatOfPruned, StacksAreSlots, ValidIsFlattened, ValidStays};
+ghost use Rattle.flat_laws.specs.FlatModule.{FlatIsShallow, FlatIsSmall, FlatIsTyped, FlatOfPruned, FlatStmtsTyped, StacksAreSlots, ValidIsFlattened, ValidStays};
 
-/// A valid module and its flat one meet all that the laws of runs ask for.
+/// A valid module and the one in which some functions are flat meet all that the laws of runs ask for.
 pub fn valid_modules_are_flattened()
     ensures { ValidIsFlattened }
 {}
@@ -14,7 +13,7 @@ pub fn flat_code_is_small()
     ensures stacks { StacksAreSlots }
 {}
 
-/// Flat bodies are typed, and the flat module is valid.
+/// Flat bodies are typed, and the module in which some functions are flat is valid.
 pub fn flat_bodies_are_typed()
     ensures typed { FlatIsTyped }
     ensures stmts { FlatStmtsTyped }
