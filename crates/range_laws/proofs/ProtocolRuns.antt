@@ -253,7 +253,7 @@ module _ (p : Module) (w : CodesIn p) (x : Exports) (plan : Plan) (base : ℕ) (
     move_in (over s) h = tt
 
   -- moves from a memory of at least so many bytes
-  turn_in : (low : ℕ) (t : Held) → base ≤ low → HeldFrom low t → MoveIn low (protocol p x plan t)
+  pub turn_in : (low : ℕ) (t : Held) → base ≤ low → HeldFrom low t → MoveIn low (protocol p x plan t)
   turn_in low t above h = lower (protocol p x plan t) (move_in h.0 (let le : low ≤ h.0 = h.1 in omega arith) t h.2)
     where
       lower : (o : Turn Held Note) → MoveIn h.0 o → MoveIn low o
@@ -316,7 +316,7 @@ module _ (p : Module) (w : CodesIn p) (plan : Plan) (n : ℕ) (area : AreaFits p
   RunsFrom low r = All (NoteIn low) (held_continued p plan n r).events × HeldFrom low (held_continued p plan n r).last
 
   -- where it opens the memory is as declared
-  opened_in : (start : Option ℕ) (l : Left) (s : Store) → StoreIn declared s → LeftIn l → RunsFrom declared (held_started s l start)
+  pub opened_in : (start : Option ℕ) (l : Left) (s : Store) → StoreIn declared s → LeftIn l → RunsFrom declared (held_started s l start)
   opened_in start l s h k =
       let same : declared ≤ declared = omega arith in
       after_keeps (protocol p (exports_of p) plan) (HeldFrom declared) (NoteIn declared)

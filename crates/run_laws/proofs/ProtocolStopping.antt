@@ -72,7 +72,7 @@ module _ (p : Module) (v : Valid p) (plan : Plan) (ex : ExportsTyped p) where
   ThenFits (rewinds e i a sp) (give_answer c) = Waits i c
   ThenFits _ _ = ⊥
 
-  abbrev HeldFits : Held → Type 0
+  abbrev pub HeldFits : Held → Type 0
   HeldFits (free s l) = StoreFits p s × SomeLeft l.entries × LeftTyped l
   HeldFits (starting f s l) = StoreFits p s × ((func_type_at p f).params ≡ []) × (f < length (func_sorts p)) × LeftTyped l
   HeldFits (busy ph c l) = (outs : List ValType) × Fits p outs c × PhaseTyped ph × LeftTyped l
@@ -224,7 +224,7 @@ module _ (p : Module) (v : Valid p) (plan : Plan) (ex : ExportsTyped p) where
       by_import true = asked_fits 0 f [] (outermost s) l l.outcomes h so
       by_import false = tt
 
-  turn_fits : (t : Held) → HeldFits t → TurnFits (protocol p x plan t)
+  pub turn_fits : (t : Held) → HeldFits t → TurnFits (protocol p x plan t)
   turn_fits (free s l) h = next_fits s l l.entries h.0 h.2
   turn_fits (starting f s l) h = start_fits f s l (defined_at p f) h.0 h.1 h.3 refl
   turn_fits (busy ph c l) h = busy_turn ph l h.0 (step p c) h.2 h.3 (steps_fit p h.0 c v h.1)
@@ -233,7 +233,7 @@ module _ (p : Module) (v : Valid p) (plan : Plan) (ex : ExportsTyped p) where
   turn_fits (entering ph e s l) h = enters_fits ph e s l (defined_at p e.func) h.0 h.1 h.2 h.3 refl
   turn_fits (over s) h = tt
 
-  begun_fits : (l : Left) (o : Opening) (start : Option ℕ) (n : ℕ) → LeftTyped l → ((s : Store) → o ≡ opens s → StoreFits p s)
+  pub begun_fits : (l : Left) (o : Opening) (start : Option ℕ) (n : ℕ) → LeftTyped l → ((s : Store) → o ≡ opens s → StoreFits p s)
       → ((f : ℕ) → start ≡ Some f → ((func_type_at p f).params ≡ []) × (f < length (func_sorts p)))
       → RanKeeps (protocol p x plan) HeldFits AnyNote (held_continued p plan n (held_begun start l o))
   begun_fits l (fails_as e) start n h so st = after_keeps (protocol p x plan) HeldFits AnyNote turn_fits n (held_begun start l (fails_as e)) (any_notes (note (ended e) no_store ∷ []), tt)

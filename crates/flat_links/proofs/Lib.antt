@@ -1,0 +1,4 @@
+pub mod Owed
+pub mod ProperFlat
+pub mod Spaces
+pub mod WrittenKnown

@@ -1,0 +1,64 @@
+-- A rewriting by way of flat code: the original, its flat module, and the written one; and the world of the headline that they make.
+use Rattle.std.specs.Prelude.{◌≡◌, ℕ, ◌+◌, List, [], length, map, Option, Bool}
+use Rattle.wa_types.specs.Base.{Base}
+use Rattle.wa_types.specs.Pausing.{Callee, Settings}
+use Rattle.wa_types.specs.Runtime.{func_space, global_space, runtime_types, runtime_funcs}
+use Rattle.wa_types.specs.Syntax.{Func, Module}
+use Rattle.wa_types.specs.Validity.{Valid}
+use Rattle.wa_model.specs.Growth.{grown_module}
+use Rattle.wa_model.specs.Instantiation.{Opening, fails_as, opens, opening}
+use Rattle.wa_model.specs.Plan.{Plan, Fits}
+use Rattle.range_laws.specs.Ranges.{CodesIn}
+use Rattle.frame_laws.specs.Layout.{Layout}
+use Rattle.guard_form.specs.Functions.{Role}
+use Rattle.headline_laws.specs.World.{World}
+
+-- The modules, the function of each index, which calls have numbers, and what the frames of each function keep.
+pub record Core : Type 0 where
+  pub original : Module
+  pub settings : Settings
+  pub which : List Bool
+  pub plan : Plan
+  pub flat : Module
+  pub written : Module
+  pub role : ℕ → Role
+  pub numbered : Callee → Bool
+  pub lay : ℕ → Layout
+
+-- the original with the memory that it is compared with
+abbrev pub based : Core → Module
+based k = Base k.original
+
+-- The flat module with the runtime's types and functions behind its own, so that functions have the indices of the written ones.
+abbrev pub with_runtime_funcs : (original flat : Module) → Module
+with_runtime_funcs m flat = grown_module flat runtime_types (runtime_funcs (length m.types) (global_space m) (global_space m + 1)) [] []
+
+abbrev pub table_in : Opening → List (Option ℕ)
+table_in (fails_as e) = []
+table_in (opens s) = s.table
+
+abbrev pub world_of : Core → World
+world_of k = record {
+  original = k.original;
+  settings = k.settings;
+  which = k.which;
+  plan = k.plan;
+  flat = with_runtime_funcs k.original k.flat;
+  written = k.written;
+  funcs = func_space k.original;
+  sorts = length k.original.types;
+  role = k.role;
+  numbered = k.numbered;
+  table = table_in (opening (Base k.original) k.plan.globals);
+  lay = k.lay;
+}
+
+-- What the flat module is: valid, in range, and the original but for functions, which keep their types.
+pub record CoreFits (k : Core) : Type 0 where
+  pub valid : Valid k.original
+  pub flat_valid : Valid k.flat
+  pub codes : CodesIn (based k)
+  pub flat_codes : CodesIn k.flat
+  pub functions_alone : k.flat ≡ record (based k) { funcs = k.flat.funcs }
+  pub sorts : map (λ (f : Func). f.sort) k.flat.funcs ≡ map (λ (f : Func). f.sort) (based k).funcs
+  pub plan : Fits k.original k.plan

@@ -1,0 +1,61 @@
+-- The links of original and flat configurations in the headline: they stand beside one another, fit their modules, name what is
+-- there, and are in range.
+use Rattle.std.specs.Prelude.{◌≡◌, ℕ, ◌<◌, List, ◌∷◌, All}
+use Rattle.wa_types.specs.Modules.{func_imports}
+use Rattle.wa_types.specs.declared.values.ValType.{ValType}
+use Rattle.wa_model.specs.Behaves.{StandsNumbered}
+use Rattle.wa_model.specs.Configuration.{Activation, Configuration, stack_of}
+use Rattle.wa_model.specs.Fitting.{Fits, WaitingFits, StoreFits}
+use Rattle.wa_model.specs.Growth.{ConfigNamed, StoreNamed, spaces_of}
+use Rattle.wa_model.specs.Store.{Store}
+use Rattle.range_laws.specs.Ranges.{ConfigurationIn, StoreIn}
+use Rattle.guard_frames.specs.Returned.{AllSameFlat}
+use Rattle.guard_runs.specs.Stopped.{AllNumbered, Stopped}
+use Rattle.headline_laws.specs.FlatLaw.{FlatStands, FlatAgain, AllLocalsFit}
+use Rattle.headline_laws.specs.World.{setting}
+use Rattle.flat_links.specs.Core.{Core, based, world_of}
+
+-- a store of the original that fits it, and is in range
+pub record GoodStore (k : Core) (s : Store) : Type 0 where
+  pub fits : StoreFits (based k) s
+  pub named : StoreNamed (spaces_of k.flat) s
+  pub ranges : StoreIn 0 s
+
+module _ (k : Core) (B : Configuration → Configuration → Type 0) (A : ℕ → Configuration → Configuration → Type 0) where
+  -- both run
+  pub record Linked (c f : Configuration) : Type 0 where
+    pub beside : B c f
+    pub outs : List ValType
+    pub fits : Fits (based k) outs c
+    pub flat_outs : List ValType
+    pub flat_fits : Fits k.flat flat_outs f
+    pub named : ConfigNamed (spaces_of k.flat) f
+    pub ranges : ConfigurationIn 0 c
+    pub flat_ranges : ConfigurationIn 0 f
+
+  -- both wait for the answer of an import
+  pub record LinkedWaits (i : ℕ) (d f : Configuration) : Type 0 where
+    pub beside : A i d f
+    pub known : i < func_imports (based k)
+    pub outs : List ValType
+    pub fits : WaitingFits (based k) outs i d
+    pub flat_outs : List ValType
+    pub flat_fits : WaitingFits k.flat flat_outs i f
+    pub named : ConfigNamed (spaces_of k.flat) f
+    pub ranges : ConfigurationIn 0 d
+    pub flat_ranges : ConfigurationIn 0 f
+
+  abbrev pub L : ℕ → Configuration → Configuration → Type 0
+  L top c f = Linked c f
+
+  abbrev pub W : (top i : ℕ) → Configuration → Configuration → Type 0
+  W top i d f = LinkedWaits i d f
+
+  -- What a suspended stack of numbered calls owes beside.
+  pub record StandsLaw : Type 0 where
+    pub numbers : (top i : ℕ) (d f : Configuration) → LinkedWaits i d f → All (StandsNumbered k.original k.settings k.which) (stack_of (based k) d) → AllNumbered (setting (world_of k) top) i (f.here ∷ f.under)
+    pub stands : (top i : ℕ) (d f : Configuration) (us' : List Activation) (st : Stopped (setting (world_of k) top) i (f.here ∷ f.under) us') → LinkedWaits i d f
+        → All (StandsNumbered k.original k.settings k.which) (stack_of (based k) d) → FlatStands (world_of k) (λ c d. c ≡ d) L W (GoodStore k) top i d f us' st
+    pub again : (top i : ℕ) (d f : Configuration) (a : Activation) (us : List Activation) → LinkedWaits i d f → All (StandsNumbered k.original k.settings k.which) (stack_of (based k) d)
+        → AllSameFlat k.lay (f.here ∷ f.under) (a ∷ us) → (us' : List Activation) → Stopped (setting (world_of k) top) i (a ∷ us) us' → AllLocalsFit k.written us'
+        → FlatAgain (world_of k) (λ c d. c ≡ d) L W (GoodStore k) top i d f a us

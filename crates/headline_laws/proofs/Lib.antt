@@ -1,0 +1,15 @@
+pub mod Asks
+pub mod FlatStretches
+pub mod FromOpenings
+pub mod FromSimulation
+pub mod Headline
+pub mod LiveSteps
+pub mod OpenedTogether
+pub mod OuterLevels
+pub mod Pauses
+pub mod Reductions
+pub mod Simulation
+pub mod StoresTogether
+pub mod ToldMoves
+pub mod TrapStores
+pub mod WorldParts

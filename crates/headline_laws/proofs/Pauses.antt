@@ -1,0 +1,307 @@
+-- A call whose answer pauses: one move of the shown blocking machine, with three notes, or two where the frames don't fit.
+use Rattle.headline_laws.specs.FlatLaw.{AllLocalsFit}
+use Rattle.headline_laws.specs.World.{World, WorldFits, base, setting}
+use Rattle.frame_laws.proofs.HeldFrames.{stacks_held}
+use Rattle.frame_laws.specs.FrameMemory.{AreaAt}
+use Rattle.frame_laws.specs.Stack.{AllCameBack, AllFit, Chain, Level, activation_of, fit_of, outer_of, rewinding_all, total_size, unwinding_all}
+use Rattle.frame_laws.specs.Suspended.{AllStandFor, HeldAlike}
+use Rattle.guard_frames.proofs.ReturnedStacks.{stacks_return}
+use Rattle.guard_frames.proofs.WaitingLevels.{stopped_are_levels}
+use Rattle.guard_frames.specs.Levels.{AreLevels, ChainOf, levels_of}
+use Rattle.guard_frames.specs.Returned.{AllSameFlat, FlatAgain}
+use Rattle.guard_runs.proofs.StoppedStacks.{stops_law, waits_law}
+use Rattle.guard_runs.specs.Alike.{Alike}
+use Rattle.guard_runs.specs.Stopped.{Stopped}
+use Rattle.headline_laws.proofs.Asks.{Called, Given_on, Pausing, answer_fits, give, left_fits, no_bad_poke, same_d, tested_now, went_on}
+use Rattle.headline_laws.proofs.FlatStretches.{Sm, gl, pr, sides, xp}
+use Rattle.headline_laws.specs.StoreLaws.{StoreLaws}
+use Rattle.headline_laws.proofs.FromSimulation.{dear_cons}
+use Rattle.headline_laws.proofs.OuterLevels.{inner_calls, outer_all, under_deep, weigh_all}
+use Rattle.headline_laws.proofs.Reductions.{Allowed, LeftFits, Link, Owes, R, TopOf, allowed_on, nb, nn, r_halts, r_runs, rests_before, same_note, sh}
+use Rattle.headline_laws.proofs.ToldMoves.{Told, by_told, dear_of, no_more, silent_none, silent_quiet, told, told_leads}
+use Rattle.headline_laws.specs.FlatLaw.{AllWeigh, FlatLaw, FlatStands}
+use Rattle.pause_laws.proofs.Pausing.{answers_law, pauses_law, traps_law}
+use Rattle.pause_laws.specs.Pause.{AnswersAt, AreaReady, EntersEntry, Overruns, PausesAt, at_import}
+use Rattle.pause_laws.specs.UnseenMoves.{GoesUnseen}
+use Rattle.run_laws.proofs.Keeping.{same_on}
+use Rattle.std.proofs.Common.{All, Bool, List, None, Some, [], ap, arith, false, length, map, refl, subst, suc, sym, true, zero, ℕ, ◌*◌, ◌+◌, ◌<◌, ◌^◌, ◌∙◌, ◌∷◌, ◌≡◌, ◌≤◌}
+use Rattle.std.proofs.lemmas.Bool.{ltb-false, ltb-true}
+use Rattle.std.proofs.lemmas.List.{length-map}
+use Rattle.std.specs.List.{sum_by}
+use Rattle.std.specs.Option.{option_to_list}
+use Rattle.std.specs.Prelude.{if◌then◌else◌, nat_lt}
+use Rattle.wa_model.proofs.Runs.{leads_run}
+use Rattle.wa_model.specs.Behaves.{SameNote, PausesNumbered, StandsNumbered}
+use Rattle.wa_model.specs.Blocking.{Left, Note, State, Task, an_entry, call_note, go_on, halts, inside, note, pause_of, poked, resumed, runs, store_of, tested, with_outcomes}
+use Rattle.wa_model.specs.Configuration.{Activation, Configuration, stack_of}
+use Rattle.wa_model.specs.Expected.{pause_note, trap_note}
+use Rattle.wa_model.specs.Machine.{Leads, Ran, goes, run, stays}
+use Rattle.wa_model.specs.Outside.{Answer, answered, ended, paused}
+use Rattle.wa_model.specs.Plan.{Entry, Outcome, given}
+use Rattle.wa_model.specs.Protocol.{Held, answer_note, busy, call_again, calling, give_zero, is_running, over, protocol, rewinds, store_held, unwinds, with_words}
+use Rattle.wa_model.specs.Step.{asks, param_count, step}
+use Rattle.wa_model.specs.Store.{Store}
+use Rattle.wa_model.specs.declared.events.End.TheVariants.{UnwindTrap}
+use Rattle.wa_types.specs.Bounds.{activation_bound}
+use Rattle.wa_types.specs.Frames.{Fit, Room, Suspended}
+use Rattle.wa_types.specs.Modules.{defined_at, func_imports, func_type_at}
+use Rattle.wa_types.specs.declared.values.Trap.TheVariants.{Unreachable}
+use Rattle.wa_types.specs.declared.values.Value.{Value}
+use Rattle.wa_types.specs.declared.values.Value.TheVariants as V
+
+ticks_are : (t ticks : ℕ) → pause_of t ≡ Some ticks → t ≡ ticks
+ticks_are zero ticks e = cc
+ticks_are (suc t) ticks e = cc
+
+pause_bound : (c1 k pc ac gc un args sl rw most dear rest n : ℕ) → c1 ≤ 160 * suc k + 9 → pc ≤ 28 + un → ac ≤ 29 + args + 2 * sl + rw → gc ≤ 40 → un + n + 2 * sl + rw ≤ most → args ≡ n → dear ≡ 256 + most + rest
+    → c1 + (pc + 1 + (ac + 1 + gc)) ≤ 256 * suc k + dear
+pause_bound c1 k pc ac gc un args sl rw most dear rest n h1 h2 h3 h4 h5 h6 h7 = omega arith
+
+paid_enough : (c1 k more : ℕ) → suc k ≤ c1 → suc k ≤ c1 + more
+paid_enough c1 k more h = omega arith
+
+some_is : {X : Type 0} (x y : X) → Some x ≡ Some y → x ≡ y
+some_is x y q = cc
+
+same_config : (c : Configuration) (a : Activation) (us : List Activation) → c.here ≡ a → c.under ≡ us → record { store = c.store; here = a; under = us } ≡ c
+same_config c a us e1 e2 = sym (ap (λ z. record { store = c.store; here = z; under = c.under }) e1 ∙ ap (λ z. record { store = c.store; here = a; under = z }) e2)
+
+module _ (w : World) (ft : WorldFits w) (sl : StoreLaws w) (L : ℕ → Configuration → Configuration → Type 0) (W : ℕ → ℕ → Configuration → Configuration → Type 0) (G : Store → Type 0) (law : FlatLaw w (λ c d. c ≡ d) L W G)
+    (n top : ℕ) (e : Entry) (c b : Configuration) (l : Left) (is_top : TopOf w (an_entry e) top) (lk : Link w ft sl L W G law top c b) (lf : LeftFits w l) (al : Allowed w n (runs (an_entry e) c l))
+    (k i : ℕ) (args : List Value) (d : Configuration) (is : step (base w) c ≡ asks k i args d) (cd : Called w ft sl L W G law top (an_entry e) l c.store b k i args d)
+    (a : Answer) (os : List Outcome) (ticks : ℕ) (eo : l.outcomes ≡ given a ∷ os) (ef : Rattle.headline_laws.proofs.Asks.fault w ft sl L W G law n top (an_entry e) c b l is_top lk lf al k i args d is cd a ≡ None) (et : pause_of a.ticks ≡ Some ticks)
+    (came : (c2 : Configuration) (l2 : Left) (cost : ℕ) (es : List Note) → Leads (pr w) (busy (is_running (an_entry e)) b l) cost es (busy (is_running (an_entry e)) c2 l2) → AllLocalsFit w.written (c2.here ∷ c2.under)) where
+  abbrev lo : Left
+  lo = with_outcomes l os
+
+  abbrev a0 : State
+  a0 = runs (an_entry e) c l
+
+  abbrev b0 : Held
+  b0 = busy (is_running (an_entry e)) b l
+
+  abbrev b1 : Held
+  b1 = busy (is_running (an_entry e)) cd.mid l
+
+  abbrev s1 : Store
+  s1 = (cd.at).store
+
+  abbrev S : List Suspended
+  S = stack_of (base w) d
+
+  abbrev x1 : Note
+  x1 = call_note i args d.store S (Some ticks)
+
+  abbrev y1 : Note
+  y1 = call_note i args s1 (stack_of w.written cd.at) (Some ticks)
+
+  abbrev b2 : Held
+  b2 = calling (unwinds e i a) (with_words s1 w.plan.area) (xp w).start_unwind (V.I32 w.plan.area.at ∷ []) (give_zero cd.at) lo
+
+  abbrev a2 : State
+  a2 = runs (an_entry e) (resumed d (poked d.store a.pokes) (option_to_list a.value)) lo
+
+  mv : pr w b1 ≡ goes cd.j (y1 ∷ []) b2
+  mv =
+      tested_now w ft sl L W G law n top (an_entry e) c b l is_top lk lf al k i args d is cd a os None eo ef
+      ∙ ap (Rattle.wa_model.specs.Protocol.held_tested w.written (xp w) w.plan cd.j i args (inside (an_entry e) cd.at) lo a None) et
+
+  was : nb w a0 ≡ goes k (x1 ∷ note (answered a.value) (poked d.store a.pokes) ∷ []) a2
+  was =
+      went_on w ft sl L W G law n top (an_entry e) c b l is_top lk lf al k i args d is cd a os eo ef
+      ∙ ap (λ z. go_on k (call_note i args d.store S z) a (poked d.store a.pokes) lo (inside (an_entry e) d)) et
+
+  same1 : Sm w d.store s1
+  same1 = same_d w ft sl L W G law n top (an_entry e) c b l is_top lk lf al k i args d is cd
+
+  small : length d.store.memory < 2 ^ 32
+  small = law.small d.store (law.waits_good top i d cd.flat_at cd.waits)
+
+  rdy : AreaReady (gl w) (gl w) (suc (gl w)) w.plan.area s1
+  rdy = sl.ready top d.store s1 cd.alike ft.least small
+
+  al1 : SameNote w.original w.settings w.which w.plan.area x1 y1
+  al1 = same_note w x1 y1 refl same1 tt refl
+
+  -- while it can't be paid, nothing is made
+  before : (j : ℕ) → j ≤ k → (((run (pr w) j b0).events ≡ []) × Sm w c.store (store_held (run (pr w) j b0).last))
+  before j le = rests_before w c.store b0 b1 b2 cd.cost cd.j (y1 ∷ []) cd.silent mv j (let q = cd.least in omega arith)
+
+  numbered_now : suc k ≤ n → All (StandsNumbered w.original w.settings w.which) S
+  numbered_now enough =
+      let h : PausesNumbered w.original w.settings w.which (x1 ∷ note (answered a.value) (poked d.store a.pokes) ∷ []) = al.numbered 0 k [] _ a0 a2 stays was (omega arith) in
+      let lt : 0 < length (x1 ∷ note (answered a.value) (poked d.store a.pokes) ∷ []) = omega arith in
+      h 0 x1 lt
+
+  -- what is known of the stack
+  record Standing : Type 0 where
+    st : Stopped (setting w top) i ((cd.flat_at).here ∷ (cd.flat_at).under) ((cd.at).here ∷ (cd.at).under)
+    fs : FlatStands w (λ c d. c ≡ d) L W G top i d cd.flat_at ((cd.at).here ∷ (cd.at).under) st
+    v : Level
+    vs : List Level
+    are : levels_of (setting w top) w.lay st ≡ v ∷ vs
+    here_is : (cd.at).here ≡ activation_of v
+    under_is : (cd.at).under ≡ map activation_of vs
+    fits : AllFit (gl w) w.plan.area w.written (gl w) (suc (gl w)) (v ∷ vs)
+    chain : Chain w.written (gl w) w.table v vs
+    held : HeldAlike w.original w.settings w.which (v ∷ vs) S
+    weigh : AllWeigh w.original (param_count (func_type_at w.flat top)) (v ∷ vs) S
+
+  standing : suc k ≤ n → Standing
+  standing enough = by_levels (levels_of (setting w top) w.lay st) refl
+    where
+      nums : All (StandsNumbered w.original w.settings w.which) S
+      nums = numbered_now enough
+
+      st : Stopped (setting w top) i ((cd.flat_at).here ∷ (cd.flat_at).under) ((cd.at).here ∷ (cd.at).under)
+      st = stops_law (setting w top) i _ _ cd.stack (law.numbers top i d cd.flat_at cd.waits nums)
+
+      fs : FlatStands w (λ c d. c ≡ d) L W G top i d cd.flat_at ((cd.at).here ∷ (cd.at).under) st
+      fs = law.stands top i d cd.flat_at ((cd.at).here ∷ (cd.at).under) st cd.waits nums
+
+      lv : AreLevels (gl w) w.plan.area (setting w top) ((cd.at).here ∷ (cd.at).under) (levels_of (setting w top) w.lay st)
+      lv = stopped_are_levels (gl w) w.plan.area (setting w top) w.lay i _ _ st (ft.paired top) fs.may
+
+      by_levels : (ws : List Level) → levels_of (setting w top) w.lay st ≡ ws → Standing
+      by_levels [] q = let z : (cd.at).here ∷ (cd.at).under ≡ [] = lv.acts ∙ ap (map activation_of) q in cc
+      by_levels (v ∷ vs) q =
+          let z : (cd.at).here ∷ (cd.at).under ≡ activation_of v ∷ map activation_of vs = lv.acts ∙ ap (map activation_of) q in
+          record {
+            st = st;
+            fs = fs;
+            v = v;
+            vs = vs;
+            are = q;
+            here_is = cc;
+            under_is = cc;
+            fits = subst (AllFit (gl w) w.plan.area w.written (gl w) (suc (gl w))) q lv.fit;
+            chain = subst (ChainOf (setting w top)) q lv.chain;
+            held = stacks_held w.original w.settings w.which (v ∷ vs) S (subst (λ ws. AllStandFor w.original w.settings w.which ws S) q fs.stand);
+            weigh = subst (λ ws. AllWeigh w.original (param_count (func_type_at w.flat top)) ws S) q fs.weigh;
+          }
+
+  words_same : Sm w d.store (with_words s1 w.plan.area)
+  words_same = let r = rdy in same_on (gl w) w.plan.area d.store s1 (with_words s1 w.plan.area) same1 (sl.words s1 ft.least r.inside)
+
+  call_from : Configuration → Held
+  call_from z = calling (unwinds e i a) (with_words s1 w.plan.area) (xp w).start_unwind (V.I32 w.plan.area.at ∷ []) (give_zero z) lo
+
+  -- ---- the frames don't fit
+
+  overrun : (enough : suc k ≤ n) → w.plan.area.len < Room w.original w.settings.policy S → Rattle.headline_laws.proofs.Reductions.M w ft sl L W G law n k (x1 ∷ trap_note (Fit w.original w.settings.policy S w.plan.area.len) w.plan.area.len d.store ∷ []) a0 (halts d.store) b0
+  overrun enough over_len =
+      let z = standing enough in
+      let hd = z.held in
+      let long : w.plan.area.len < 8 + total_size (z.v ∷ z.vs) = subst (λ q. w.plan.area.len < q) hd.room over_len in
+      let ov : Overruns (gl w) w.written (xp w) w.plan e i a lo s1 z.v z.vs = traps_law (gl w) (gl w) (suc (gl w)) w.written (xp w) w.plan e i a lo s1 z.v z.vs ft.runtime rdy z.fits long in
+      let cfg : at_import s1 z.v z.vs ≡ cd.at = same_config cd.at (activation_of z.v) (map activation_of z.vs) z.here_is z.under_is in
+      let qq : GoesUnseen (gl w) w.plan.area w.written (xp w) w.plan b2 ov.cost ov.at =
+      subst (λ q. GoesUnseen (gl w) w.plan.area w.written (xp w) w.plan (calling (unwinds e i a) (with_words s1 w.plan.area) (xp w).start_unwind (V.I32 w.plan.area.at ∷ []) (give_zero q) lo) ov.cost ov.at) cfg ov.before in
+      let q1 = silent_quiet w.original w.settings w.which w.written (xp w) w.plan d.store b2 ov.at ov.cost qq words_same in
+      let last = q1.each ov.cost (omega arith) in
+      let zz : ov.cost ≡ ov.cost + 0 = omega arith in
+      let at : run (pr w) ov.cost b2 ≡ run (pr w) 0 ov.at = ap (λ j. run (pr w) j b2) zz ∙ leads_run Held Note (pr w) b2 ov.at ov.cost 0 [] q1.leads in
+      let seen_at : Sm w d.store (store_held ov.at) = subst (λ (o : Ran Held Note). Sm w d.store (store_held o.last)) at last.1 in
+      let held_is : store_held ov.at ≡ (ov.config).store = ap store_held ov.is in
+      let seen_end : Sm w d.store ov.store = subst (λ s. Sm w d.store s) (held_is ∙ sym (sl.trapped ov.config 0 Unreachable ov.store ov.traps_there)) seen_at in
+      let x2 : Note = trap_note (Fit w.original w.settings.policy S w.plan.area.len) w.plan.area.len d.store in
+      let y2 : Note = note (ended (UnwindTrap Unreachable (fit_of w.plan.area.len 8 (z.v ∷ z.vs)) w.plan.area.len)) ov.store in
+      let al2 : SameNote w.original w.settings w.which w.plan.area x2 y2 = same_note w x2 y2 (ap (λ u. ended (UnwindTrap Unreachable u w.plan.area.len)) (hd.fit w.plan.area.len)) seen_end tt refl in
+      let t2 : Told w.original w.settings w.which w.written (xp w) w.plan d.store (x2 ∷ []) b2 (ov.cost + 1 + 0) (y2 ∷ []) (over ov.store) =
+      told [] x2 q1 ov.tells (al2, tt) (no_more (silent_none w.original w.settings w.which w.written (xp w) w.plan d.store (over ov.store) seen_end)) refl refl refl in
+      let t1 : Told w.original w.settings w.which w.written (xp w) w.plan c.store (x1 ∷ x2 ∷ []) b0 (cd.cost + suc cd.j + (ov.cost + 1 + 0)) (y1 ∷ y2 ∷ []) (over ov.store) = told [] x1 cd.silent mv (al1, tt) t2 refl refl refl in
+      let w0 = cd.least in let w1 = cd.few in let w2 = ov.within in
+      let w3 = weigh_all w.original (param_count (func_type_at w.flat top)) z.v z.vs S z.weigh in
+      let dear : dear_of w.original (x1 ∷ x2 ∷ []) ≡ 256 + sum_by (activation_bound w.original) S + dear_of w.original (x2 ∷ []) = dear_cons w.original x1 (x2 ∷ []) in
+      by_told w.original w.settings w.which w.written (xp w) w.plan (nn w) (R w ft sl L W G law) n k (cd.cost + suc cd.j + (ov.cost + 1 + 0)) (x1 ∷ x2 ∷ []) (y1 ∷ y2 ∷ []) a0 (halts d.store) b0 (over ov.store) t1 (omega arith) (omega arith) (omega arith) (r_halts seen_end)
+
+  -- ---- the frames fit: paused, and answered
+
+  pause_at : (enough : suc k ≤ n) → Room w.original w.settings.policy S ≤ w.plan.area.len
+      → Rattle.headline_laws.proofs.Reductions.M w ft sl L W G law n k (x1 ∷ pause_note ticks (Room w.original w.settings.policy S) d.store S ∷ note (answered a.value) (poked d.store a.pokes) ∷ []) a0 a2 b0
+  pause_at enough fits_len =
+      let z = standing enough in
+      let hd = z.held in
+      let zfs = z.fs in
+      let ar = w.plan.area in
+      let in_room : 8 + total_size (z.v ∷ z.vs) ≤ ar.len = subst (λ q. q ≤ ar.len) hd.room fits_len in
+      let pa : PausesAt (gl w) (gl w) (suc (gl w)) w.written (xp w) w.plan e i a lo s1 z.v z.vs = pauses_law (gl w) (gl w) (suc (gl w)) w.written (xp w) w.plan e i a lo s1 z.v z.vs ft.runtime rdy z.fits in_room in
+      let cfg : at_import s1 z.v z.vs ≡ cd.at = same_config cd.at (activation_of z.v) (map activation_of z.vs) z.here_is z.under_is in
+      let qq : GoesUnseen (gl w) ar w.written (xp w) w.plan b2 pa.cost pa.at =
+      subst (λ q. GoesUnseen (gl w) ar w.written (xp w) w.plan (calling (unwinds e i a) (with_words s1 ar) (xp w).start_unwind (V.I32 ar.at ∷ []) (give_zero q) lo) pa.cost pa.at) cfg pa.before in
+      let q1 = silent_quiet w.original w.settings w.which w.written (xp w) w.plan d.store b2 pa.at pa.cost qq words_same in
+      let alike3 = sl.around top d.store s1 pa.store cd.alike pa.around in
+      let same3 = sl.same_end top d.store pa.store alike3 in
+      let rdy3 = sl.ready top d.store pa.store alike3 ft.least small in
+      let kn = law.waits_known top i d cd.flat_at cd.waits in
+      let ok = outer_all (setting w top) (ft.paired top) w.lay i _ _ z.st zfs.may z.v z.vs z.are in
+      let lv_fit = (stopped_are_levels (gl w) ar (setting w top) w.lay i _ _ z.st (ft.paired top) zfs.may).fit in
+      let ic = inner_calls (setting w top) (ft.paired top) w.lay (gl w) ar i _ _ z.st kn.1 lv_fit z.v z.vs z.are in
+      let tbl : (pa.store).table ≡ w.table = alike3.table' in
+      let deep0 = under_deep (sides w top) i _ _ cd.stack (omega arith) in
+      let deep1 : length (cd.at).under ≡ length z.vs = ap length z.under_is ∙ length-map z.vs activation_of in
+      let ent : EntersEntry w.written (gl w) e (outer_of z.v z.vs) =
+      record { is = is_top.1 ∙ sym ok.is; func = ok.func; defined = ap (defined_at w.written) ok.is ∙ ok.defined; body = ok.body; size = ap (λ q. q + length (Rattle.wa_types.specs.Modules.declared_locals (ok.func).locals)) is_top.2 ∙ ok.size } in
+      let b4 : Held = calling (rewinds e i a pa.store) pa.store (xp w).start_rewind (V.I32 ar.at ∷ []) call_again lo in
+      let an : AnswersAt (gl w) (gl w) (suc (gl w)) w.written (xp w) w.plan e i a lo pa.store z.v z.vs =
+      answers_law (gl w) (gl w) (suc (gl w)) w.written (xp w) w.plan e i ic.params a lo pa.store z.v z.vs ft.runtime rdy3 z.fits (subst (λ t. Chain w.written (gl w) t z.v z.vs) (sym tbl) z.chain) (omega arith) pa.suspended in_room ent
+      (subst (λ t. Rattle.frame_laws.specs.Stack.CallsTo w.written t z.v ic.params i) (sym tbl) ic.goes_to) (ft.import_undefined i kn.0) (subst (λ q. i < q) (sym ft.imports) kn.0) in
+      let q2 = silent_quiet w.original w.settings w.which w.written (xp w) w.plan d.store b4 an.at an.cost an.before same3 in
+      let alike4 = sl.around top d.store pa.store an.store alike3 an.around in
+      let same4 = sl.same_end top d.store an.store alike4 in
+      let no_bad = no_bad_poke (func_type_at (base w) i).results (length d.store.memory) w.plan false i a ef in
+      let alike5 = sl.poked_too top d.store an.store a alike4 no_bad in
+      let same5 = sl.same_end top (poked d.store a.pokes) (poked an.store a.pokes) alike5 in
+      let here_as = (an.waits_as).0 in
+      let under_as = (an.waits_as).1 in
+      let reb : AllCameBack (levels_of (setting w top) w.lay z.st) ((an.waits).here ∷ (an.waits).under) =
+      subst (λ ws. AllCameBack ws ((an.waits).here ∷ (an.waits).under)) (sym z.are) (record { locals = an.locals; kept_same = an.kept_same; is = here_as }, subst (AllCameBack z.vs) (sym under_as) an.came_back) in
+      let fa : FlatAgain (setting w top) w.lay i ((cd.flat_at).here ∷ (cd.flat_at).under) ((an.waits).here ∷ (an.waits).under) = stacks_return (setting w top) w.lay i _ _ _ z.st zfs.may reb in
+      let x2 : Note = pause_note ticks (Room w.original w.settings.policy S) d.store S in
+      let y2 : Note = note (paused a.ticks (8 + total_size (z.v ∷ z.vs))) pa.store in
+      let x3 : Note = note (answered a.value) (poked d.store a.pokes) in
+      let y3 : Note = answer_note a.value (poked an.store a.pokes) pa.store in
+      let sus = pa.suspended in
+      let arnd = pa.around in
+      let area_at : AreaAt (suc (gl w)) ar pa.store (ar.at + 8 + total_size (z.v ∷ z.vs)) = record { address = arnd.address; location = sus.location; limit = sus.limit; low = omega arith; high = omega arith; inside = rdy3.inside; small = rdy3.small } in
+      let ev2 : x2.event ≡ y2.event = ap (λ q. paused ticks q) hd.room ∙ ap (λ q. paused q (8 + total_size (z.v ∷ z.vs))) (sym (ticks_are a.ticks ticks et)) in
+      let al2 : SameNote w.original w.settings w.which w.plan.area x2 y2 = same_note w x2 y2 ev2 same3 (hd.image (suc (gl w)) ar pa.store area_at sus.frames) refl in
+      let size4 = same4.size in
+      let al3 : SameNote w.original w.settings w.which w.plan.area x3 y3 =
+      record { event = refl; ends = same5; image = tt; kept = λ at q. let eq : pa.store ≡ at = some_is pa.store at q in subst (λ u. Rattle.wa_model.specs.Behaves.AreaKept ar u (poked an.store a.pokes)) eq (sl.poked_area pa.store an.store a an.lowered ft.least (subst (λ u. Rattle.wa_model.specs.Blocking.bad_poke u ar a.pokes ≡ None) size4 no_bad)) } in
+      let b5 : Held = busy (is_running (an_entry e)) (resumed an.waits (poked an.store a.pokes) (option_to_list a.value)) lo in
+      let r3 : Told w.original w.settings w.which w.written (xp w) w.plan d.store (x3 ∷ []) b4 (an.cost + 1 + 0) (y3 ∷ []) b5 =
+      told [] x3 q2 an.tells (al3, tt) (no_more (silent_none w.original w.settings w.which w.written (xp w) w.plan (poked d.store a.pokes) b5 same5)) refl refl refl in
+      let r2 : Told w.original w.settings w.which w.written (xp w) w.plan d.store (x2 ∷ x3 ∷ []) b2 (pa.cost + 1 + (an.cost + 1 + 0)) (y2 ∷ y3 ∷ []) b5 = told [] x2 q1 pa.tells (al2, tt) r3 refl refl refl in
+      let r1 : Told w.original w.settings w.which w.written (xp w) w.plan c.store (x1 ∷ x2 ∷ x3 ∷ []) b0 (cd.cost + suc cd.j + (pa.cost + 1 + (an.cost + 1 + 0))) (y1 ∷ y2 ∷ y3 ∷ []) b5 = told [] x1 cd.silent mv (al1, tt) r2 refl refl refl in
+      let known : AllLocalsFit w.written ((an.waits).here ∷ (an.waits).under) = came (resumed an.waits (poked an.store a.pokes) (option_to_list a.value)) lo _ _ (told_leads w.original w.settings w.which w.written (xp w) w.plan c.store _ _ b0 b5 _ r1) in
+      let gv = anew fa.new (an.waits) an.store known fa.same fa.stopped alike4 in
+      let t3 : Told w.original w.settings w.which w.written (xp w) w.plan d.store (x3 ∷ []) b4 (an.cost + 1 + gv.cost) (y3 ∷ []) (busy (is_running (an_entry e)) gv.to lo) = told [] x3 q2 an.tells (al3, tt) (no_more gv.silent) refl refl refl in
+      let t2 : Told w.original w.settings w.which w.written (xp w) w.plan d.store (x2 ∷ x3 ∷ []) b2 (pa.cost + 1 + (an.cost + 1 + gv.cost)) (y2 ∷ y3 ∷ []) (busy (is_running (an_entry e)) gv.to lo) = told [] x2 q1 pa.tells (al2, tt) t3 refl refl refl in
+      let t1 : Told w.original w.settings w.which w.written (xp w) w.plan c.store (x1 ∷ x2 ∷ x3 ∷ []) b0 (cd.cost + suc cd.j + (pa.cost + 1 + (an.cost + 1 + gv.cost))) (y1 ∷ y2 ∷ y3 ∷ []) (busy (is_running (an_entry e)) gv.to lo) = told [] x1 cd.silent mv (al1, tt) t2 refl refl refl in
+      let w1 = cd.few in let w2 = pa.within in let w3 = an.within in let w4 = gv.few in
+      let w5 = weigh_all w.original (param_count (func_type_at w.flat top)) z.v z.vs S z.weigh in
+      let w6 = is_top.2 in
+      let dear : dear_of w.original (x1 ∷ x2 ∷ x3 ∷ []) ≡ 256 + sum_by (activation_bound w.original) S + dear_of w.original (x2 ∷ x3 ∷ []) = dear_cons w.original x1 (x2 ∷ x3 ∷ []) in
+      by_told w.original w.settings w.which w.written (xp w) w.plan (nn w) (R w ft sl L W G law) n k (cd.cost + suc cd.j + (pa.cost + 1 + (an.cost + 1 + gv.cost))) (x1 ∷ x2 ∷ x3 ∷ []) (y1 ∷ y2 ∷ y3 ∷ []) a0 a2 b0 (busy (is_running (an_entry e)) gv.to lo) t1 cd.least (paid_enough (cd.cost + suc cd.j) k (pa.cost + 1 + (an.cost + 1 + gv.cost)) cd.least)
+      (pause_bound (cd.cost + suc cd.j) k pa.cost an.cost gv.cost (unwinding_all z.v z.vs) (length e.args) (length (z.v).site.slots) (rewinding_all z.v z.vs) (sum_by (activation_bound w.original) S) (dear_of w.original (x1 ∷ x2 ∷ x3 ∷ [])) (dear_of w.original (x2 ∷ x3 ∷ [])) (param_count (func_type_at w.flat top)) w1 w2 w3 w4 w5 w6 dear)
+      (r_runs top is_top gv.link (left_fits w ft sl L W G law n top (an_entry e) c b l is_top lk lf al k i args d is cd a os eo) (allowed_on w n k _ a0 a2 was al))
+    where
+      -- the answer is given to a stack that came back: the flat one is chosen anew
+      anew : (new : List Activation) (wt : Configuration) (s : Store) → AllLocalsFit w.written (wt.here ∷ wt.under) → AllSameFlat w.lay ((cd.flat_at).here ∷ (cd.flat_at).under) new → Stopped (setting w top) i new (wt.here ∷ wt.under) → Alike (setting w top) d.store s
+          → Given_on w ft sl L W G law n top (an_entry e) c b l is_top lk lf al k i args d is cd lo (poked d.store a.pokes) (resumed d (poked d.store a.pokes) (option_to_list a.value)) (resumed wt (poked s a.pokes) (option_to_list a.value))
+      anew [] wt s fit same st like = absurd same
+      anew (f2 ∷ us2) wt s fit same st like =
+          let ag = law.again top i d cd.flat_at f2 us2 cd.waits (numbered_now enough) same (wt.here ∷ wt.under) st fit in
+          let wt2 = subst (λ q. W top i q (record { store = (cd.flat_at).store; here = f2; under = us2 })) (sym ag.live) ag.waits in
+          give w ft sl L W G law n top (an_entry e) c b l is_top lk lf al k i args d is cd lo a (record { store = (cd.flat_at).store; here = f2; under = us2 }) (record { store = s; here = wt.here; under = wt.under }) wt2 like
+          (waits_law (setting w top) i _ _ st) (answer_fits w ft sl L W G law n top (an_entry e) c b l is_top lk lf al k i args d is cd a os eo) ef
+
+  -- both, by the room
+  pub pausing : Owes w ft sl L W G law n a0 b0 (sh w (tested (base w) k i args (inside (an_entry e) d) lo a None))
+  pausing = subst (λ q. Owes w ft sl L W G law n a0 b0 (sh w (go_on k (call_note i args d.store S q) a (poked d.store a.pokes) lo (inside (an_entry e) d)))) (sym et) (by_room (nat_lt w.plan.area.len (Room w.original w.settings.policy S)) refl)
+    where
+      by_room : (t : Bool) → nat_lt w.plan.area.len (Room w.original w.settings.policy S) ≡ t
+          → Owes w ft sl L W G law n a0 b0 (if t then goes k (x1 ∷ trap_note (Fit w.original w.settings.policy S w.plan.area.len) w.plan.area.len d.store ∷ []) (halts d.store) else goes k (x1 ∷ pause_note ticks (Room w.original w.settings.policy S) d.store S ∷ note (answered a.value) (poked d.store a.pokes) ∷ []) a2)
+      by_room true q = (before, λ enough. overrun enough (ltb-true w.plan.area.len (Room w.original w.settings.policy S) q))
+      by_room false q = (before, λ enough. pause_at enough (ltb-false w.plan.area.len (Room w.original w.settings.policy S) q))
