@@ -22,7 +22,8 @@ use Rattle.range_laws.specs.Ranges.{ActivationIn, CodesIn, HeldFrom, NoteIn, Ope
 use Rattle.range_laws.proofs.Openings.{openings_in}
 use Rattle.range_laws.proofs.ProtocolRuns.{fits_in, opened_in, turn_in}
 use Rattle.run_laws.specs.Stopping.{ExportsTyped}
-use Rattle.run_laws.proofs.ProtocolStopping.{HeldFits, begun_fits, turn_fits}
+use Rattle.run_laws.specs.FittingStates.{HeldFits}
+use Rattle.run_laws.proofs.ProtocolStopping.{begun_fits, turn_fits}
 use Rattle.run_laws.proofs.Stopping.{start_there}
 use Rattle.stack_laws.proofs.SpotRuns.{listed_typed, start_takes_none}
 use Rattle.headline_laws.specs.FlatLaw.{AllLocalsFit, LocalsFit}
@@ -51,13 +52,13 @@ module _ (p : Module) (v : Valid p) (plan : Plan) (plan_fits : L.Fits p plan) (a
   next = protocol p (exports_of p) plan
 
   pub record Known (h : Held) : Type 0 where
-    pub fits : HeldFits p v plan ex h
+    pub fits : HeldFits p h
     pub ranges : InRange low h
 
   -- ---- moves
 
-  move_fits : (b t : Held) (k : ℕ) (es : List Note) → HeldFits p v plan ex b → next b ≡ goes k es t → HeldFits p v plan ex t
-  move_fits b t k es h e = (subst (TurnKeeps next (HeldFits p v plan ex) (λ (y : Note). Unit {0})) e (turn_fits p v plan ex b h)).1
+  move_fits : (b t : Held) (k : ℕ) (es : List Note) → HeldFits p b → next b ≡ goes k es t → HeldFits p t
+  move_fits b t k es h e = (subst (TurnKeeps next (HeldFits p) (λ (y : Note). Unit {0})) e (turn_fits p v plan ex b h)).1
 
   held_moves : (b t : Held) (k : ℕ) (es : List Note) → HeldFrom low b → next b ≡ goes k es t → InRange low t
   held_moves b t k es h e = in_range low t (subst (TurnKeeps next (HeldFrom low) (NoteIn low)) e (turn_in p codes (exports_of p) plan low area.least area.inside low b (omega arith) h)).1
@@ -76,7 +77,7 @@ module _ (p : Module) (v : Valid p) (plan : Plan) (plan_fits : L.Fits p plan) (a
   entry_typed : (y : Entry) → EntryFits p y → ((f : Func) × (defined_at p y.func ≡ Some f)) × (types_of y.args ≡ (func_type_at p y.func).params)
   entry_typed y h = (h.defined, listed_typed (func_type_at p y.func).params y.args h.args.typed)
 
-  begins_fit : (os : List Outcome) → HeldFits p v plan ex (held_start_of p plan os).last
+  begins_fit : (os : List Outcome) → HeldFits p (held_start_of p plan os).last
   begins_fit os =
       let globals : types_of plan.globals ≡ global_types (imported imported_global p) = listed_typed _ plan.globals plan_fits.globals.typed in
       (begun_fits p v plan ex (all_left plan os) (opening p plan.globals) p.start 0

@@ -298,8 +298,11 @@ pub protocol_grows : ProtocolMemoryGrows
 protocol_grows p plan s t n es w wide h l =
     let base = plan.area.at + plan.area.len in
     let low = length (store_held s).memory in
-    let above : base ≤ low = (held_store base s h).memory.least in
-    let from : HeldFrom low s = (low, omega arith, held_whole base s h) in
+    let size : ℕ = h.0 in
+    let enough : base ≤ size = h.1 in
+    let long : size ≤ low = (held_store size s h.2).memory.least in
+    let above : base ≤ low = omega arith in
+    let from : HeldFrom low s = (low, omega arith, held_whole size s h.2) in
     let room : base ≤ base = omega arith in
     leads_keeps (protocol p (exports_of p) plan) (HeldFrom low) (NoteIn low) (λ u k. turn_in p w (exports_of p) plan base wide room low u above k) s t n es from l
 

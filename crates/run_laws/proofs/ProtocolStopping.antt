@@ -14,14 +14,13 @@ use Rattle.wa_model.specs.declared.events.End.TheVariants.{Broken}
 use Rattle.wa_model.specs.Outside.{Answer, answered, returned, ended, paused}
 use Rattle.wa_model.specs.Machine.{Turn, stops, goes}
 use Rattle.wa_model.specs.Store.{Store}
-use Rattle.wa_model.specs.Configuration.{Configuration}
 use Rattle.wa_model.specs.Step.{Next, steps, asks, returns, traps, stuck, step}
 use Rattle.wa_model.specs.Plan.{Entry, EntryFits, Plan, Outcome, given, refused}
 use Rattle.wa_model.specs.Instantiation.{Opening, fails_as, opens, opening}
 use Rattle.wa_model.specs.Blocking.{Note, note, no_store, value_of_results, answers, fault_of, pause_of, poked, done_notes, Task, the_start, an_entry, Left, with_outcomes, Asker, inside, outermost, store_at, in_start, stack_at, call_note, next_entry, all_left}
 use Rattle.wa_model.specs.Protocol.{Exports, exports_of, Phase, is_running, unwinds, rewinds, Then, give_zero, test_unwound, pause_there, call_again, test_rewound, give_answer, Held, free, starting, busy, calling, aside, entering, over, with_words, used_of, broken, held_on, held_back, held_given, held_pauses, held_tested, held_asked, trap_end, busy_step, is_state, zeros_of, answer_note, aside_back, aside_step, busy_enters, held_next, aside_called, held_start, protocol, held_started, held_begun, held_continued, Protocol}
-use Rattle.wa_model.specs.Fitting.{types_of, results_of, global_types, StoreFits, CallersFit, Fits, WaitingFits, NextFits}
-use Rattle.wa_model.proofs.Invariants.{TurnKeeps, RanKeeps, after_keeps}
+use Rattle.wa_model.specs.Fitting.{types_of, results_of, global_types, StoreFits, CallersFit, WaitingFits, NextFits}
+use Rattle.wa_model.proofs.Invariants.{TurnKeeps, RanKeeps, after_keeps, leads_keeps}
 use Rattle.wa_model.proofs.FittingNames.{not_defined, results_are, zeros_typed}
 use Rattle.wa_model.proofs.FittingSteps.{steps_fit}
 use Rattle.wa_model.proofs.FittingRuns.{calls_fit, answers_fit}
@@ -29,57 +28,13 @@ use Rattle.wa_model.proofs.FittingOpenings.{openings_fit}
 use Rattle.wa_model.proofs.NamedModules.{valid_instance}
 use Rattle.stack_laws.proofs.SpotRuns.{answer_typed, or_else_first, test_passed, listed_typed, start_takes_none}
 use Rattle.stack_laws.proofs.StandingPauses.{fault_outside}
-use Rattle.run_laws.specs.Stopping.{Callable, ExportsTyped, ProtocolStopsOver}
+use Rattle.run_laws.specs.FittingStates.{Callable, EntryTyped, LeftTyped, SomeLeft, TaskTyped, AnswerTyped, PhaseTyped, ThenFits, HeldFits, ExportsTyped}
+use Rattle.run_laws.specs.Stopping.{ProtocolStatesStop, ProtocolStatesStay, ProtocolRunsFit, ProtocolStopsOver}
 use Rattle.run_laws.proofs.Stopping.{start_there}
 
 module _ (p : Module) (v : Valid p) (plan : Plan) (ex : ExportsTyped p) where
   abbrev x : Exports
   x = exports_of p
-
-  -- an entry of a defined function, with arguments of its types
-  abbrev EntryTyped : Entry → Type 0
-  EntryTyped e = ((f : Func) × (defined_at p e.func ≡ Some f)) × (types_of e.args ≡ (func_type_at p e.func).params)
-
-  abbrev LeftTyped : Left → Type 0
-  LeftTyped l = All EntryTyped l.entries
-
-  abbrev SomeLeft : List Entry → Type 0
-  SomeLeft [] = ⊥
-  SomeLeft (e ∷ es) = Unit {0}
-
-  abbrev TaskTyped : Task → Type 0
-  TaskTyped the_start = Unit {0}
-  TaskTyped (an_entry e) = EntryTyped e
-
-  abbrev AnswerTyped : ℕ → Answer → Type 0
-  AnswerTyped i a = types_of (option_to_list a.value) ≡ results_of p i
-
-  abbrev PhaseTyped : Phase → Type 0
-  PhaseTyped (is_running task) = TaskTyped task
-  PhaseTyped (unwinds e i a) = EntryTyped e × AnswerTyped i a
-  PhaseTyped (rewinds e i a sp) = EntryTyped e × AnswerTyped i a
-
-  -- what waits for the results of an import
-  abbrev Waits : ℕ → Configuration → Type 0
-  Waits i c = (outs : List ValType) × CallersFit p outs (results_of p i) (c.here ∷ c.under)
-
-  abbrev ThenFits : Phase → Then → Type 0
-  ThenFits (unwinds e i a) (give_zero c) = Waits i c
-  ThenFits (unwinds e i a) test_unwound = Unit {0}
-  ThenFits (unwinds e i a) pause_there = Unit {0}
-  ThenFits (rewinds e i a sp) call_again = Unit {0}
-  ThenFits (rewinds e i a sp) (test_rewound c) = Waits i c
-  ThenFits (rewinds e i a sp) (give_answer c) = Waits i c
-  ThenFits _ _ = ⊥
-
-  abbrev pub HeldFits : Held → Type 0
-  HeldFits (free s l) = StoreFits p s × SomeLeft l.entries × LeftTyped l
-  HeldFits (starting f s l) = StoreFits p s × ((func_type_at p f).params ≡ []) × (f < length (func_sorts p)) × LeftTyped l
-  HeldFits (busy ph c l) = (outs : List ValType) × Fits p outs c × PhaseTyped ph × LeftTyped l
-  HeldFits (calling ph s f args th l) = StoreFits p s × Callable p f (types_of args) × PhaseTyped ph × ThenFits ph th × LeftTyped l
-  HeldFits (aside ph c th l) = (outs : List ValType) × Fits p outs c × PhaseTyped ph × ThenFits ph th × LeftTyped l
-  HeldFits (entering ph e s l) = StoreFits p s × EntryTyped e × PhaseTyped ph × LeftTyped l
-  HeldFits (over s) = Unit {0}
 
   abbrev AnyNote : Note → Type 0
   AnyNote y = Unit {0}
@@ -89,17 +44,17 @@ module _ (p : Module) (v : Valid p) (plan : Plan) (ex : ExportsTyped p) where
   any_notes (y ∷ ys) = All-cons AnyNote y ys tt (any_notes ys)
 
   abbrev TurnFits : Turn Held Note → Type 0
-  TurnFits t = TurnKeeps (protocol p x plan) HeldFits AnyNote t
+  TurnFits t = TurnKeeps (protocol p x plan) (HeldFits p) AnyNote t
 
   abbrev AskerFits : ℕ → Asker → Type 0
-  AskerFits import (inside task c) = TaskTyped task × (outs : List ValType) × WaitingFits p outs import c
+  AskerFits import (inside task c) = TaskTyped p task × (outs : List ValType) × WaitingFits p outs import c
   AskerFits import (outermost s) = StoreFits p s
 
-  on_fits : (s : Store) (l : Left) (es : List Entry) → es ≡ l.entries → StoreFits p s → LeftTyped l → HeldFits (held_on s l es)
+  on_fits : (s : Store) (l : Left) (es : List Entry) → es ≡ l.entries → StoreFits p s → LeftTyped p l → HeldFits p (held_on s l es)
   on_fits s l [] e so h = tt
   on_fits s l (y ∷ es) e so h = (so, subst SomeLeft e tt, h)
 
-  back_fits : (k : ℕ) (task : Task) (results : List Value) (s : Store) (l : Left) → StoreFits p s → LeftTyped l → TurnFits (held_back k task results s l)
+  back_fits : (k : ℕ) (task : Task) (results : List Value) (s : Store) (l : Left) → StoreFits p s → LeftTyped p l → TurnFits (held_back k task results s l)
   back_fits k the_start results s l so h = (any_notes (done_notes s l.entries), on_fits s l l.entries refl so h)
   back_fits k (an_entry e) results s l so h = (any_notes (note (returned l.number (value_of_results results)) s ∷ done_notes s l.entries), on_fits s (next_entry l) l.entries refl so h)
 
@@ -116,20 +71,20 @@ module _ (p : Module) (v : Valid p) (plan : Plan) (ex : ExportsTyped p) where
   broken_fits : (k rule : ℕ) (s : Store) → TurnFits (broken k rule s)
   broken_fits k rule s = (any_notes (note (ended (Broken rule)) s ∷ []), tt)
 
-  given_fits : (k import : ℕ) (called : Note) (a : Answer) (s : Store) (l : Left) (who : Asker) → StoreFits p s → AnswerTyped import a
-      → LeftTyped l → AskerFits import who → TurnFits (held_given k called a s l who)
+  given_fits : (k import : ℕ) (called : Note) (a : Answer) (s : Store) (l : Left) (who : Asker) → StoreFits p s → AnswerTyped p import a
+      → LeftTyped p l → AskerFits import who → TurnFits (held_given k called a s l who)
   given_fits k import called a s l (inside task c) so e h w =
       (any_notes (called ∷ note (answered a.value) s ∷ []), (w.1, answers_fit p w.1 c s (option_to_list a.value) so (subst (λ ts. CallersFit p w.1 ts (c.here ∷ c.under)) (sym e) w.2.waits), w.0, h))
   given_fits k import called a s l (outermost old) so e h w = (any_notes (called ∷ note (answered a.value) s ∷ done_notes s l.entries), on_fits s l l.entries refl so h)
 
-  pauses_fit : (k import : ℕ) (called : Note) (a : Answer) (l : Left) (who : Asker) → AnswerTyped import a → LeftTyped l → AskerFits import who → TurnFits (held_pauses x plan k called import a l who)
+  pauses_fit : (k import : ℕ) (called : Note) (a : Answer) (l : Left) (who : Asker) → AnswerTyped p import a → LeftTyped p l → AskerFits import who → TurnFits (held_pauses x plan k called import a l who)
   pauses_fit k import called a l (inside (an_entry e) c) typed h w =
       (any_notes (called ∷ []), (words_fit c.store w.2.store, ex.start_unwind, (w.0, typed), (w.1, w.2.waits), h))
   pauses_fit k import called a l (inside the_start c) typed h w = tt
   pauses_fit k import called a l (outermost s) typed h w = tt
 
-  tested_fits : (k import : ℕ) (args : List Value) (who : Asker) (l : Left) (a : Answer) (o : Option End) (pause : Option ℕ) → LeftTyped l → AskerFits import who
-      → (o ≡ None → AnswerTyped import a) → TurnFits (held_tested p x plan k import args who l a o pause)
+  tested_fits : (k import : ℕ) (args : List Value) (who : Asker) (l : Left) (a : Answer) (o : Option End) (pause : Option ℕ) → LeftTyped p l → AskerFits import who
+      → (o ≡ None → AnswerTyped p import a) → TurnFits (held_tested p x plan k import args who l a o pause)
   tested_fits k import args who l a (Some e) pause h w typed = (any_notes (called_at ∷ note (ended e) called_at.store ∷ []), tt)
     where
       called_at : Note
@@ -138,7 +93,7 @@ module _ (p : Module) (v : Valid p) (plan : Plan) (ex : ExportsTyped p) where
       given_fits k import (call_note import args (store_at who) (stack_at p who) None) a (poked (store_at who) a.pokes) l who (poked_fits (store_at who) a (asker_store import who w)) (typed refl) h w
   tested_fits k import args who l a None (Some ticks) h w typed = pauses_fit k import (call_note import args (store_at who) (stack_at p who) (Some ticks)) a l who (typed refl) h w
 
-  asked_fits : (k import : ℕ) (args : List Value) (who : Asker) (l : Left) (os : List Outcome) → LeftTyped l → AskerFits import who → TurnFits (held_asked p x plan k import args who l os)
+  asked_fits : (k import : ℕ) (args : List Value) (who : Asker) (l : Left) (os : List Outcome) → LeftTyped p l → AskerFits import who → TurnFits (held_asked p x plan k import args who l os)
   asked_fits k import args who l [] h w = (any_notes (call_note import args (store_at who) (stack_at p who) None ∷ []), tt)
   asked_fits k import args who l (refused e ∷ os) h w = (any_notes (call_note import args (store_at who) (stack_at p who) None ∷ note (ended e) (store_at who) ∷ []), tt)
   asked_fits k import args who l (given a ∷ os) h w =
@@ -146,7 +101,7 @@ module _ (p : Module) (v : Valid p) (plan : Plan) (ex : ExportsTyped p) where
       tested_fits k import args who (with_outcomes l os) a (fault_of results (length (store_at who).memory) plan (in_start who) import a) (pause_of a.ticks) h w
       (λ passed. answer_typed results a.value (test_passed (answers results a.value) _ (or_else_first _ _ passed)) ∙ sym (results_are p v import))
 
-  busy_turn : (ph : Phase) (l : Left) (outs : List ValType) (o : Next) → PhaseTyped ph → LeftTyped l → NextFits p outs o → TurnFits (busy_step p x plan ph l o)
+  busy_turn : (ph : Phase) (l : Left) (outs : List ValType) (o : Next) → PhaseTyped p ph → LeftTyped p l → NextFits p outs o → TurnFits (busy_step p x plan ph l o)
   busy_turn ph l outs (steps k d) t h n = (any_notes [], (outs, n, t, h))
   busy_turn (is_running task) l outs (asks k import args d) t h n = asked_fits k import args (inside task d) l l.outcomes h (t, outs, n.2)
   busy_turn (unwinds e i a) l outs (asks k import args d) t h n = broken_fits k 1 d.store
@@ -163,8 +118,8 @@ module _ (p : Module) (v : Valid p) (plan : Plan) (ex : ExportsTyped p) where
   busy_turn ph l outs (traps k trap s) t h n = (any_notes (note (ended (trap_end plan.area ph trap s)) s ∷ []), tt)
   busy_turn ph l outs stuck t h n = absurd n
 
-  aside_back_fits : (k : ℕ) (ph : Phase) (th : Then) (l : Left) (results : List Value) (s : Store) → PhaseTyped ph → ThenFits ph th
-      → LeftTyped l → StoreFits p s → TurnFits (aside_back p x plan k ph th l results s)
+  aside_back_fits : (k : ℕ) (ph : Phase) (th : Then) (l : Left) (results : List Value) (s : Store) → PhaseTyped p ph → ThenFits p ph th
+      → LeftTyped p l → StoreFits p s → TurnFits (aside_back p x plan k ph th l results s)
   aside_back_fits k (unwinds e i a) (give_zero c) l results s t w h so =
       let zeros : types_of (zeros_of p i) ≡ results_of p i = zeros_typed (func_type_at p i).results ∙ sym (results_are p v i) in
       (any_notes [], (w.0, answers_fit p w.0 c s (zeros_of p i) so (subst (λ ts. CallersFit p w.0 ts (c.here ∷ c.under)) (sym zeros) w.1), t, h))
@@ -192,31 +147,31 @@ module _ (p : Module) (v : Valid p) (plan : Plan) (ex : ExportsTyped p) where
   )
   aside_back_fits k _ _ l results s t w h so = absurd w
 
-  aside_turn : (ph : Phase) (th : Then) (l : Left) (outs : List ValType) (o : Next) → PhaseTyped ph → ThenFits ph th → LeftTyped l → NextFits p outs o → TurnFits (aside_step p x plan ph th l o)
+  aside_turn : (ph : Phase) (th : Then) (l : Left) (outs : List ValType) (o : Next) → PhaseTyped p ph → ThenFits p ph th → LeftTyped p l → NextFits p outs o → TurnFits (aside_step p x plan ph th l o)
   aside_turn ph th l outs (steps k d) t w h n = (any_notes [], (outs, n, t, w, h))
   aside_turn ph th l outs (asks k import args d) t w h n = broken_fits k 6 d.store
   aside_turn ph th l outs (returns k results s) t w h n = aside_back_fits k ph th l results s t w h n.0
   aside_turn ph th l outs (traps k trap s) t w h n = (any_notes (note (ended (trap_end plan.area ph trap s)) s ∷ []), tt)
   aside_turn ph th l outs stuck t w h n = absurd n
 
-  enters_fits : (ph : Phase) (e : Entry) (s : Store) (l : Left) (o : Option Func) → StoreFits p s → EntryTyped e → PhaseTyped ph
-      → LeftTyped l → defined_at p e.func ≡ o → TurnFits (busy_enters ph e s l o)
+  enters_fits : (ph : Phase) (e : Entry) (s : Store) (l : Left) (o : Option Func) → StoreFits p s → EntryTyped p e → PhaseTyped p ph
+      → LeftTyped p l → defined_at p e.func ≡ o → TurnFits (busy_enters ph e s l o)
   enters_fits ph e s l None so t a h there = tt
   enters_fits ph e s l (Some f) so t a h there = (any_notes [], (results_of p e.func, calls_fit p s e.args e.func f v so there t.1, a, h))
 
-  next_fits : (s : Store) (l : Left) (es : List Entry) → StoreFits p s → All EntryTyped es → TurnFits (held_next p s l es)
+  next_fits : (s : Store) (l : Left) (es : List Entry) → StoreFits p s → All (EntryTyped p) es → TurnFits (held_next p s l es)
   next_fits s l [] so h = tt
   next_fits s l (e ∷ es) so h =
-      let t = All-head EntryTyped e es h in
-      enters_fits (is_running (an_entry e)) e s (record { number = l.number; entries = es; outcomes = l.outcomes }) (defined_at p e.func) so t t (All-tail EntryTyped e es h) refl
+      let t = All-head (EntryTyped p) e es h in
+      enters_fits (is_running (an_entry e)) e s (record { number = l.number; entries = es; outcomes = l.outcomes }) (defined_at p e.func) so t t (All-tail (EntryTyped p) e es h) refl
 
   called_fits : (ph : Phase) (s : Store) (f : ℕ) (args : List Value) (th : Then) (l : Left) (o : Option Func) → StoreFits p s
-      → Callable p f (types_of args) → PhaseTyped ph → ThenFits ph th → LeftTyped l
+      → Callable p f (types_of args) → PhaseTyped p ph → ThenFits p ph th → LeftTyped p l
       → defined_at p f ≡ o → TurnFits (aside_called ph s f args th l o)
   called_fits ph s f args th l None so c t w h there = tt
   called_fits ph s f args th l (Some g) so c t w h there = (any_notes [], (results_of p f, calls_fit p s args f g v so there (sym c.1), t, w, h))
 
-  start_fits : (f : ℕ) (s : Store) (l : Left) (o : Option Func) → StoreFits p s → (func_type_at p f).params ≡ [] → LeftTyped l → defined_at p f ≡ o → TurnFits (held_start p x plan f s l o)
+  start_fits : (f : ℕ) (s : Store) (l : Left) (o : Option Func) → StoreFits p s → (func_type_at p f).params ≡ [] → LeftTyped p l → defined_at p f ≡ o → TurnFits (held_start p x plan f s l o)
   start_fits f s l (Some g) so e h there = (any_notes [], (results_of p f, calls_fit p s [] f g v so there (sym e), tt, h))
   start_fits f s l None so e h there = by_import (ltb f (func_imports p))
     where
@@ -224,25 +179,25 @@ module _ (p : Module) (v : Valid p) (plan : Plan) (ex : ExportsTyped p) where
       by_import true = asked_fits 0 f [] (outermost s) l l.outcomes h so
       by_import false = tt
 
-  pub turn_fits : (t : Held) → HeldFits t → TurnFits (protocol p x plan t)
+  pub turn_fits : (t : Held) → HeldFits p t → TurnFits (protocol p x plan t)
   turn_fits (free s l) h = next_fits s l l.entries h.0 h.2
-  turn_fits (starting f s l) h = start_fits f s l (defined_at p f) h.0 h.1 h.3 refl
+  turn_fits (starting f s l) h = start_fits f s l (defined_at p f) h.0 h.1.0 h.2 refl
   turn_fits (busy ph c l) h = busy_turn ph l h.0 (step p c) h.2 h.3 (steps_fit p h.0 c v h.1)
   turn_fits (calling ph s f args th l) h = called_fits ph s f args th l (defined_at p f) h.0 h.1 h.2 h.3 h.4 refl
   turn_fits (aside ph c th l) h = aside_turn ph th l h.0 (step p c) h.2 h.3 h.4 (steps_fit p h.0 c v h.1)
   turn_fits (entering ph e s l) h = enters_fits ph e s l (defined_at p e.func) h.0 h.1 h.2 h.3 refl
   turn_fits (over s) h = tt
 
-  pub begun_fits : (l : Left) (o : Opening) (start : Option ℕ) (n : ℕ) → LeftTyped l → ((s : Store) → o ≡ opens s → StoreFits p s)
+  pub begun_fits : (l : Left) (o : Opening) (start : Option ℕ) (n : ℕ) → LeftTyped p l → ((s : Store) → o ≡ opens s → StoreFits p s)
       → ((f : ℕ) → start ≡ Some f → ((func_type_at p f).params ≡ []) × (f < length (func_sorts p)))
-      → RanKeeps (protocol p x plan) HeldFits AnyNote (held_continued p plan n (held_begun start l o))
-  begun_fits l (fails_as e) start n h so st = after_keeps (protocol p x plan) HeldFits AnyNote turn_fits n (held_begun start l (fails_as e)) (any_notes (note (ended e) no_store ∷ []), tt)
+      → RanKeeps (protocol p x plan) (HeldFits p) AnyNote (held_continued p plan n (held_begun start l o))
+  begun_fits l (fails_as e) start n h so st = after_keeps (protocol p x plan) (HeldFits p) AnyNote turn_fits n (held_begun start l (fails_as e)) (any_notes (note (ended e) no_store ∷ []), tt)
   begun_fits l (opens s) start n h so st = by_start start st
     where
       by_start : (o : Option ℕ) → ((f : ℕ) → o ≡ Some f → ((func_type_at p f).params ≡ []) × (f < length (func_sorts p)))
-          → RanKeeps (protocol p x plan) HeldFits AnyNote (held_continued p plan n (held_started s l o))
-      by_start None r = after_keeps (protocol p x plan) HeldFits AnyNote turn_fits n (held_started s l None) (any_notes (done_notes s l.entries), on_fits s l l.entries refl (so s refl) h)
-      by_start (Some f) r = after_keeps (protocol p x plan) HeldFits AnyNote turn_fits n (held_started s l (Some f)) (any_notes [], (so s refl, (r f refl).0, (r f refl).1, h))
+          → RanKeeps (protocol p x plan) (HeldFits p) AnyNote (held_continued p plan n (held_started s l o))
+      by_start None r = after_keeps (protocol p x plan) (HeldFits p) AnyNote turn_fits n (held_started s l None) (any_notes (done_notes s l.entries), on_fits s l l.entries refl (so s refl) h)
+      by_start (Some f) r = after_keeps (protocol p x plan) (HeldFits p) AnyNote turn_fits n (held_started s l (Some f)) (any_notes [], (so s refl, r f refl, h))
 
   -- ---- where it stops
 
@@ -287,7 +242,7 @@ module _ (p : Module) (v : Valid p) (plan : Plan) (ex : ExportsTyped p) where
   busy_goes ph l outs (traps k trap s) n e = cc
   busy_goes ph l outs stuck n e = n
 
-  aside_back_goes : (k : ℕ) (ph : Phase) (th : Then) (l : Left) (results : List Value) (s : Store) → ThenFits ph th → aside_back p x plan k ph th l results s ≡ stops → ⊥
+  aside_back_goes : (k : ℕ) (ph : Phase) (th : Then) (l : Left) (results : List Value) (s : Store) → ThenFits p ph th → aside_back p x plan k ph th l results s ≡ stops → ⊥
   aside_back_goes k (unwinds y i a) (give_zero c) l results s w e = cc
   aside_back_goes k (unwinds y i a) test_unwound l results s w e = if_goes (is_state 1 results) k 2 (calling (unwinds y i a) s x.stop_unwind [] pause_there l) s e
   aside_back_goes k (unwinds y i a) pause_there l results s w e = cc
@@ -296,7 +251,7 @@ module _ (p : Module) (v : Valid p) (plan : Plan) (ex : ExportsTyped p) where
   aside_back_goes k (rewinds y i a sp) (give_answer c) l results s w e = cc
   aside_back_goes k _ _ l results s w e = w
 
-  aside_goes : (ph : Phase) (th : Then) (l : Left) (outs : List ValType) (o : Next) → ThenFits ph th → NextFits p outs o → aside_step p x plan ph th l o ≡ stops → ⊥
+  aside_goes : (ph : Phase) (th : Then) (l : Left) (outs : List ValType) (o : Next) → ThenFits p ph th → NextFits p outs o → aside_step p x plan ph th l o ≡ stops → ⊥
   aside_goes ph th l outs (steps k d) w n e = cc
   aside_goes ph th l outs (asks k import args d) w n e = cc
   aside_goes ph th l outs (returns k results s) w n e = aside_back_goes k ph th l results s w e
@@ -311,10 +266,10 @@ module _ (p : Module) (v : Valid p) (plan : Plan) (ex : ExportsTyped p) where
   called_goes ph s f args th l g None d e = cc
   called_goes ph s f args th l g (Some h) d e = cc
 
-  next_goes : (s : Store) (l : Left) (es : List Entry) → SomeLeft es → All EntryTyped es → held_next p s l es ≡ stops → ⊥
+  next_goes : (s : Store) (l : Left) (es : List Entry) → SomeLeft es → All (EntryTyped p) es → held_next p s l es ≡ stops → ⊥
   next_goes s l [] some h e = some
   next_goes s l (y ∷ es) some h e =
-      let there = (All-head EntryTyped y es h).0 in
+      let there = (All-head (EntryTyped p) y es h).0 in
       enters_goes (is_running (an_entry y)) y s (record { number = l.number; entries = es; outcomes = l.outcomes }) there.0 (defined_at p y.func) there.1 e
 
   start_goes : (f : ℕ) (s : Store) (l : Left) (o : Option Func) → defined_at p f ≡ o → f < length (func_sorts p) → held_start p x plan f s l o ≡ stops → ⊥
@@ -325,22 +280,32 @@ module _ (p : Module) (v : Valid p) (plan : Plan) (ex : ExportsTyped p) where
       by_import true z e = asked_goes 0 f [] (outermost s) l l.outcomes e
       by_import false z e = let i = not_defined p f lt d in let j = ltb-false f (func_imports p) z in omega (arith, i, j)
 
-  stops_over : (t : Held) → HeldFits t → protocol p x plan t ≡ stops → (s : Store) × (t ≡ over s)
+  stops_over : (t : Held) → HeldFits p t → protocol p x plan t ≡ stops → (s : Store) × (t ≡ over s)
   stops_over (free s l) h e = absurd (next_goes s l l.entries h.1 h.2 e)
-  stops_over (starting f s l) h e = absurd (start_goes f s l (defined_at p f) refl h.2 e)
+  stops_over (starting f s l) h e = absurd (start_goes f s l (defined_at p f) refl h.1.1 e)
   stops_over (busy ph c l) h e = absurd (busy_goes ph l h.0 (step p c) (steps_fit p h.0 c v h.1) e)
   stops_over (calling ph s f args th l) h e = absurd (called_goes ph s f args th l h.1.0.0 (defined_at p f) h.1.0.1 e)
   stops_over (aside ph c th l) h e = absurd (aside_goes ph th l h.0 (step p c) h.3 (steps_fit p h.0 c v h.1) e)
   stops_over (entering ph y s l) h e = absurd (enters_goes ph y s l h.1.0.0 (defined_at p y.func) h.1.0.1 e)
   stops_over (over s) h e = (s, refl)
 
-pub protocol_stops_over : ProtocolStopsOver
-protocol_stops_over p plan os n v fits ex e =
+pub protocol_runs_fit : ProtocolRunsFit
+protocol_runs_fit p plan os n v fits ex =
     let globals : types_of plan.globals ≡ global_types (imported imported_global p) = listed_typed _ plan.globals fits.globals.typed in
     let run = begun_fits p v plan ex (all_left plan os) (opening p plan.globals) p.start n
-    (All-weaker (EntryFits p) (EntryTyped p v plan ex) (λ y h. entry_typed y h) plan.entries fits.entries)
+    (All-weaker (EntryFits p) (EntryTyped p) (λ y h. entry_typed y h) plan.entries fits.entries)
     (λ s o. openings_fit p plan.globals s v globals o) (λ f o. (start_takes_none p f v o, start_there p f p.start (valid_instance p v).start o)) in
-    stops_over p v plan ex (Protocol p plan os n).last run.1 e
+    run.1
   where
-    entry_typed : (y : Entry) → EntryFits p y → ((f : Func) × (defined_at p y.func ≡ Some f)) × (types_of y.args ≡ (func_type_at p y.func).params)
+    entry_typed : (y : Entry) → EntryFits p y → EntryTyped p y
     entry_typed y h = (h.defined, listed_typed (func_type_at p y.func).params y.args h.args.typed)
+
+pub protocol_stops_over : ProtocolStopsOver
+protocol_stops_over p plan os n v fits ex e = stops_over p v plan ex (Protocol p plan os n).last (protocol_runs_fit p plan os n v fits ex) e
+
+pub protocol_states_stop : ProtocolStatesStop
+protocol_states_stop p plan t v ex h = (stops_over p v plan ex t h, λ there. subst (λ (u : Held). protocol p (exports_of p) plan u ≡ stops) (sym there.1) refl)
+
+pub protocol_states_stay : ProtocolStatesStay
+protocol_states_stay p plan t u n notes v ex h l =
+    (leads_keeps (protocol p (exports_of p) plan) (HeldFits p) (λ (y : Note). Unit {0}) (λ s k. turn_fits p v plan ex s k) t u n notes h l).1

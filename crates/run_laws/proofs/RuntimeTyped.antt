@@ -7,7 +7,8 @@ use Rattle.wa_types.specs.Runtime.{func_space, global_space, runtime_types, runt
 use Rattle.wa_types.specs.Validity.{Valid}
 use Rattle.wa_model.proofs.FittingNames.{defined_type}
 use Rattle.run_laws.specs.RuntimeParts.{RuntimeExported}
-use Rattle.run_laws.specs.Stopping.{Callable, ExportsTyped, RuntimeIsTyped}
+use Rattle.run_laws.specs.FittingStates.{Callable, ExportsTyped}
+use Rattle.run_laws.specs.Stopping.{RuntimeIsTyped}
 
 got_behind : (xs ys : List FuncType) (i : ℕ) → slice_get (xs ++ ys) (length xs + i) ≡ slice_get ys i
 got_behind [] ys i = let z : 0 + i ≡ i = omega arith in ap (slice_get ys) z

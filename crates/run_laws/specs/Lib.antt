@@ -1,3 +1,4 @@
+pub mod FittingStates
 pub mod Growing
 pub mod RewrittenByHand
 pub mod RuntimeParts

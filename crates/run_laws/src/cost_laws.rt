@@ -1,6 +1,6 @@
 //! Laws of runs at greater and lower costs. Each is the contract of a function that does nothing.
 
-ghost use Rattle.run_laws.specs.Stopping.{BlockingStopsOver, ProtocolStopsOver};
+ghost use Rattle.run_laws.specs.Stopping.{BlockingRunsFit, BlockingStatesStay, BlockingStatesStop, BlockingStopsOver, ProtocolRunsFit, ProtocolStatesStay, ProtocolStatesStop, ProtocolStopsOver};
 ghost use Rattle.run_laws.specs.Growing.{BlockingEndIsLast, ComparedLower, ExpectedEndIsLast, ExpectedGrow, PausesLower, ProtocolEndIsLast};
 
 /// What is expected within a cost begins what is expected within more.
@@ -21,8 +21,19 @@ pub fn ends_are_last()
     ensures protocol { ProtocolEndIsLast }
 {}
 
-/// A run of a valid module stops only where all is over, with blocking imports and under the protocol.
+/// From each state over a store that fits a valid module, with blocking imports and under the protocol, no move is made
+/// exactly where all is over. So a run of a plan that fits stops only there.
 pub fn runs_stop_over()
+    ensures blocking_states { BlockingStatesStop }
+    ensures protocol_states { ProtocolStatesStop }
     ensures blocking { BlockingStopsOver }
     ensures protocol { ProtocolStopsOver }
+{}
+
+/// Moves lead from such states to such states, and runs of plans that fit stand there.
+pub fn states_stay_fitting()
+    ensures blocking_moves { BlockingStatesStay }
+    ensures protocol_moves { ProtocolStatesStay }
+    ensures blocking { BlockingRunsFit }
+    ensures protocol { ProtocolRunsFit }
 {}

@@ -6,3 +6,5 @@ pub mod Order
 pub mod Results
 pub mod SavedOperands
 pub mod WalkPoints
+pub mod TypingWalks
+pub mod Wanted

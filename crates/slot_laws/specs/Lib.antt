@@ -1,3 +1,4 @@
 pub mod SlotBounds
 pub mod PauseLaws
 pub mod WalkPoints
+pub mod TypingWalks

@@ -1,8 +1,10 @@
 -- Laws of slots and result locals: their order, what they are, how many, and which slots a frame saves.
-use Rattle.std.specs.Prelude.{◌≡◌, ◌↔◌, ◌⊎◌, ◌≤◌, ◌<◌, ◌+◌, ◌^◌, ℕ, suc, List, [], ◌∷◌, length, reverse, Some, All, true, slice_get}
+use Rattle.std.specs.Prelude.{◌≡◌, ◌↔◌, ◌⊎◌, ◌≤◌, ◌<◌, ◌+◌, ◌^◌, ℕ, suc, List, [], ◌∷◌, length, map, reverse, Some, All, true, slice_get}
 use Rattle.std.specs.List.{list_any}
 use Rattle.wa_types.specs.declared.values.ValType.{ValType}
 use Rattle.wa_types.specs.declared.values.ValType.TheVariants.{I32, I64}
+use Rattle.wa_types.specs.declared.values.Value.{Value}
+use Rattle.wa_types.specs.Typing.{type_of}
 use Rattle.wa_types.specs.Syntax.{a_block, a_loop, Code, done, plain, nest, branch, Func, Module}
 use Rattle.wa_types.specs.Pruned.{pruned}
 use Rattle.wa_types.specs.Modules.{around, locals_of}
@@ -11,7 +13,7 @@ use Rattle.wa_types.specs.Validity.{Valid}
 use Rattle.wa_types.specs.Sizes.{StrictSizeRule}
 use Rattle.wa_types.specs.Pausing.{Policy}
 use Rattle.wa_types.specs.Points.{AtPoint, func_call_points}
-use Rattle.wa_types.specs.Frames.{Pair, same_pair, SlotPairs, ResultPairs, Count, Place, Saved}
+use Rattle.wa_types.specs.Frames.{Pair, same_pair, SlotPairs, ResultPairs, Count, Place, Saved, Suspended, wanted}
 
 -- ---- order
 
@@ -107,3 +109,11 @@ OperandsAreSaved =
     (m : Module) (policy : Policy) (f : Func) (place height : ℕ) (t : ValType) → OperandAt m f place height t
     → (i : ℕ) × ((p : Place) × (slice_get (Saved m policy f place) i ≡ Some p) × IsSlotOf m f height t p)
     × ((j : ℕ) (q : Place) → slice_get (Saved m policy f place) j ≡ Some q → IsSlotOf m f height t q → j ≡ i)
+
+-- The frame wants an operand at that place: each operand of a suspended activation whose operands have the types of its call's
+-- point has a place among the saved locals, its slot, where what is wanted is this operand.
+abbrev pub OperandsAreWanted : Type 0
+OperandsAreWanted =
+    (m : Module) (policy : Policy) (f : Func) (a : Suspended) (height : ℕ) (v : Value)
+    → slice_get (func_call_points m f) a.place ≡ Some (map type_of a.operands) → slice_get (reverse a.operands) height ≡ Some v
+    → (i : ℕ) × ((p : Place) × (slice_get (Saved m policy f a.place) i ≡ Some p) × IsSlotOf m f height (type_of v) p × (wanted m f a p ≡ Some v))

@@ -5,7 +5,7 @@
 //! they are no more than the instructions of its pruned body, and one. An operand that stands at a call has exactly one place
 //! in the frame under each policy, so none is lost (`specs/SlotBounds.antt`). The functions that may pause are told by one
 //! list, and are the least closed set (`specs/PauseLaws.antt`). What a walk finds that goes as the typing does are the operands
-//! of a point (`specs/WalkPoints.antt`).
+//! of a point (`specs/WalkPoints.antt`), and `Typing` is such a walk (`specs/TypingWalks.antt`).
 #![tactic(auto)]
 
 mod pause_laws;

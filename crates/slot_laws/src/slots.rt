@@ -1,6 +1,7 @@
 //! Laws of slots and result locals. Each is the contract of a function that does nothing.
 
-ghost use Rattle.slot_laws.specs.SlotBounds.{CallsAreAtPoints, CountFits, OperandsAreSaved, ResultsArePairs, ResultsAscend, ResultsStandOnce, SavedRise, SlotsAreFew, SlotsAscend, SlotsStandOnce};
+ghost use Rattle.slot_laws.specs.SlotBounds.{CallsAreAtPoints, CountFits, OperandsAreSaved, OperandsAreWanted, ResultsArePairs, ResultsAscend, ResultsStandOnce, SavedRise, SlotsAreFew, SlotsAscend, SlotsStandOnce};
+ghost use Rattle.slot_laws.specs.TypingWalks.{TypingStandsAtPoints};
 ghost use Rattle.slot_laws.specs.WalkPoints.{WalksStandAtPoints};
 
 /// Slots and result locals stand in order, by number and i32 before i64, each pair once.
@@ -28,14 +29,17 @@ pub fn calls_are_at_points()
     ensures { CallsAreAtPoints }
 {}
 
-/// A walk over code that goes as the typing of its operands goes stands at points of the code.
+/// A walk over code that goes as the typing of its operands goes stands at points of the code. `Typing` of `wasm_validate` is
+/// such a walk, so what its `types` answers are the operands of a point.
 pub fn walks_stand_at_points()
-    ensures { WalksStandAtPoints }
+    ensures points { WalksStandAtPoints }
+    ensures typing { TypingStandsAtPoints }
 {}
 
 /// What a frame saves stands in the order of the locals. Under each policy an operand that stands at a call has exactly one
-/// place there.
+/// place there, and what the frame wants at this place is the operand.
 pub fn operands_are_saved_once()
     ensures order { SavedRise }
     ensures operands { OperandsAreSaved }
+    ensures wanted { OperandsAreWanted }
 {}
