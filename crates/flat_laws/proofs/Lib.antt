@@ -1,8 +1,11 @@
-mod Depths
+pub mod Depths
 mod Example
+pub mod FlatModules
 pub mod GotLemmas
 pub mod OperandTypes
-mod Sizes
+pub mod RuntimeModules
+pub mod Sizes
 pub mod TableLabels
-mod Typing
-mod ValidModules
+pub mod Typing
+pub mod ValidModules
+pub mod WiderCode

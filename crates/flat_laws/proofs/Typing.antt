@@ -22,7 +22,7 @@ use Rattle.wa_model.proofs.FittingNames.{same_true}
 use Rattle.flat_laws.specs.Flatten.{Names, names, past, place, slot, slots, result_local, top, top_of, carry_to, carry, carry_all, arrive, flat, flat_plain, result_of, flattened}
 use Rattle.flat_laws.specs.Placed.{AllIn, HasResult, GoesOn, Good}
 use Rattle.flat_laws.specs.FlatModule.{extra_types}
-use Rattle.flat_laws.specs.StmtsTyped.{StmtsTyped}
+use Rattle.wa_model.specs.FlatTyped.{StmtsTyped}
 use Rattle.flat_laws.proofs.OperandTypes.{after_all, good_in}
 use Rattle.flat_laws.proofs.GotLemmas.{all_got_on, args_got}
 use Rattle.flat_laws.proofs.TableLabels.{AllLabels, table_typed}
@@ -131,7 +131,7 @@ abbrev pub Have : Names → List (Option ValType) → Type 0
 Have n [] = Unit {0}
 Have n (r ∷ lt) = HasResult n (length lt) r × Have n lt
 
-have_one : (n : Names) (lt : List (Option ValType)) (j : ℕ) (r : Option ValType) → Have n lt → slice_get lt j ≡ Some r → HasResult n (length lt - suc j) r
+pub have_one : (n : Names) (lt : List (Option ValType)) (j : ℕ) (r : Option ValType) → Have n lt → slice_get lt j ≡ Some r → HasResult n (length lt - suc j) r
 have_one n [] j r h e = cc
 have_one n (q ∷ lt) zero r h e = let z : q ≡ r = cc in let k : length lt ≡ length (q ∷ lt) - 1 = omega arith in subst (λ d. HasResult n d r) k (subst (HasResult n (length lt)) z h.0)
 have_one n (q ∷ lt) (suc j) r h e = let k : length lt - suc j ≡ length (q ∷ lt) - suc (suc j) = omega arith in subst (λ d. HasResult n d r) k (have_one n lt j r h.1 e)

@@ -1,34 +1,27 @@
--- A valid module and its flat one.
-use Rattle.std.proofs.Common.{◌≡◌, ◌∙◌, ℕ, zero, suc, ◌+◌, ◌-◌, ◌≤◌, ◌<◌, List, [], ◌∷◌, ◌++◌, length, map, drop, Option, Some, None, Bool, true, false, ◌||◌, ◌&&◌, inl, inr, refl, sym, ap, subst, arith}
-use Rattle.std.specs.Prelude.{slice_get, nat_lt, nat_eq, if◌then◌else◌, replicate}
-use Rattle.std.specs.List.{list_any, flat_map}
-use Rattle.std.specs.Option.{option_map}
+-- Code of valid modules: typed, with a slot for each operand and a local for each result.
+use Rattle.std.proofs.Common.{◌≡◌, ◌∙◌, ℕ, suc, ◌+◌, ◌≤◌, ◌<◌, List, [], ◌∷◌, ◌++◌, length, drop, Option, Some, None, Bool, true, false, ◌||◌, ◌&&◌, inl, inr, refl, sym, ap, subst, arith}
+use Rattle.std.specs.Prelude.{nat_eq, if◌then◌else◌}
+use Rattle.std.specs.List.{list_any}
 use Rattle.std.proofs.lemmas.Bool.{eq-eqb}
-use Rattle.std.proofs.lemmas.Grind.{flat_map-append}
 use Rattle.std.proofs.lemmas.List.{append_assoc}
 use Rattle.std.proofs.lemmas.List.Folds.{list_any-append}
-use Rattle.std.proofs.lemmas.Option.{slice_get-map}
 use Rattle.wa_types.specs.declared.values.ValType.{ValType}
 use Rattle.wa_types.specs.declared.values.ValType.TheVariants.{I32, I64}
-use Rattle.wa_types.specs.declared.syntax.Run.{Run}
 use Rattle.wa_types.specs.Encoding.{same_type}
-use Rattle.wa_types.specs.Syntax.{Plain, basic, local_get, local_set, local_tee, br, br_if, br_table, return, unreachable, call, call_indirect, Shape, a_block, a_loop, Code, done, plain, nest, branch, FuncType, Func, Elem, Module}
+use Rattle.wa_types.specs.Syntax.{Plain, basic, local_get, local_set, local_tee, br, br_if, br_table, return, unreachable, call, call_indirect, Shape, a_block, a_loop, Code, done, plain, nest, branch, Func, Module}
 use Rattle.wa_types.specs.Pruned.{is_last, pruned}
-use Rattle.wa_types.specs.Typing.{Around, listed, sig, label, Types, Typed}
+use Rattle.wa_types.specs.Typing.{Around, listed, sig, label, Types}
 use Rattle.wa_types.specs.Points.{Unless, AtPoint, after}
 use Rattle.wa_types.specs.Counts.{depth_of}
-use Rattle.wa_types.specs.declared.syntax.Space.TheVariants.{Func as a_func}
-use Rattle.wa_types.specs.Validity.{Valid, all_below, exported, start_indices, start_fits}
-use Rattle.wa_types.specs.Modules.{imported, imported_func, func_imports, func_sorts, func_types, func_type_at, type_at, or_empty, declared_locals, defined_at, locals_of, around}
+use Rattle.wa_types.specs.Validity.{Valid}
+use Rattle.wa_types.specs.Modules.{func_type_at, type_at, defined_at, around}
 use Rattle.wa_types.specs.Frames.{Pair, same_pair, pair_of, shape_pair, results_in, all_results, SlotPairs, ResultPairs}
 use Rattle.wa_types.proofs.TypingLemmas.{pruned_types}
 use Rattle.wa_types.proofs.SlotLemmas.{pairs_are_slots, pass_pairs}
 use Rattle.wa_model.proofs.FittingNames.{type_small, func_type_small, defined_type}
-use Rattle.flat_laws.specs.Flatten.{Names, names, past, place, flat, flat_plain, flattened}
+use Rattle.wa_model.proofs.FittingSteps.{body_typed}
+use Rattle.flat_laws.specs.Flatten.{Names, names, past, place, flat, flat_plain}
 use Rattle.flat_laws.specs.Placed.{AllIn, HasResult, GoesOn, Good}
-use Rattle.flat_laws.specs.FlatModule.{extra_types, IsFlat, Flattened, one_run, flat_func, flat_module}
-use Rattle.flat_laws.specs.StmtsTyped.{StmtsTyped}
-use Rattle.flat_laws.proofs.Typing.{wide, body_types, body_stmts}
 
 -- ---- flat code of pruned code
 
@@ -182,99 +175,16 @@ module _ (m : Module) (f : Func) where
       by None e = tt
       by (Some t) e = result_place 0 t (omega arith) (in_front_of 0 t (pair_of 0 (around m f).result) (results_in 1 (pruned f.body)) (ap (λ q. list_any (same_pair 0 t) (pair_of 0 q)) e ∙ itself 0 t))
 
--- ---- the module
+  -- the body of a function that is defined
+  pub good_func : Valid m → (x : ℕ) → defined_at m x ≡ Some f → Good (names m f) (around m f) ((around m f).result ∷ []) f.body (listed (around m f).result) [] []
+  good_func v x e = good_body (body_typed m v x f e)
 
-runs_are : (ts : List ValType) → declared_locals (map one_run ts) ≡ ts
-runs_are [] = refl
-runs_are (t ∷ ts) = ap (λ us. t ∷ us) (runs_are ts)
+-- what validity gives of functions and their types
+pub record Facts (m : Module) : Type 0 where
+  pub good : (x : ℕ) (f : Func) → defined_at m x ≡ Some f → Good (names m f) (around m f) ((around m f).result ∷ []) f.body (listed (around m f).result) [] [] × HasResult (names m f) 0 (around m f).result
+  pub small : (x : ℕ) → length (func_type_at m x).results ≤ 1
+  pub small_sort : (t : ℕ) → length (type_at m t).results ≤ 1
+  pub own_type : (x : ℕ) (f : Func) → defined_at m x ≡ Some f → func_type_at m x ≡ type_at m f.sort
 
-sorts_are : (m : Module) (fs : List Func) → map (λ (f : Func). f.sort) (map (flat_func m) fs) ≡ map (λ (f : Func). f.sort) fs
-sorts_are m [] = refl
-sorts_are m (f ∷ fs) = ap (λ xs. f.sort ∷ xs) (sorts_are m fs)
-
-module _ (m : Module) where
-  is_flat : (x : ℕ) (f : Func) → IsFlat m x f (Some (flat_func m f))
-  is_flat x f = (refl, flat_map-append (λ (r : Run). replicate r.count r.ty) f.locals (map one_run (extra_types m f)) ∙ ap (λ ts. declared_locals f.locals ++ ts) (runs_are (extra_types m f)))
-
-  found : (x : ℕ) → defined_at (flat_module m) x ≡ option_map (flat_func m) (defined_at m x)
-  found x = by (nat_lt x (func_imports m))
-    where
-      by : (b : Bool) → (if b then None else slice_get (map (flat_func m) m.funcs) (x - func_imports m)) ≡ option_map (flat_func m) (if b then None else slice_get m.funcs (x - func_imports m))
-      by true = refl
-      by false = slice_get-map (flat_func m) m.funcs (x - func_imports m)
-
-  same_types : (x : ℕ) → func_type_at (flat_module m) x ≡ func_type_at m x
-  same_types x = ap (λ sorts. or_empty (slice_get (map (type_at m) (imported imported_func m ++ sorts)) x)) (sorts_are m m.funcs)
-
-  body_typed : Valid m → (x : ℕ) (g : Func) → defined_at m x ≡ Some g → Types (around m g) ((around m g).result ∷ []) g.body (listed (around m g).result) []
-  body_typed v x g = by_import (nat_lt x (func_imports m))
-    where
-      by_import : (b : Bool) → (if b then None else slice_get m.funcs (x - func_imports m)) ≡ Some g → Types (around m g) ((around m g).result ∷ []) g.body (listed (around m g).result) []
-      by_import true e = cc
-      by_import false e = v.bodies (x - func_imports m) g e
-
-  pub valid_is_flattened : Valid m → Flattened m (flat_module m)
-  valid_is_flattened v = record {
-    flats = λ x f e. subst (IsFlat m x f) (sym (found x ∙ ap (option_map (flat_func m)) e)) (is_flat x f);
-    none = λ x e. found x ∙ ap (option_map (flat_func m)) e;
-    func_type = same_types;
-    sort = λ t. refl;
-    imports = refl;
-    most = refl;
-    good = λ x f e. (good_body m f (body_typed v x f e), own_result m f);
-    small = func_type_small m v;
-    small_sort = type_small m v;
-    own_type = defined_type m;
-  }
-
-  -- the context of a flat body
-  contexts : (f : Func) → wide m f ≡ around (flat_module m) (flat_func m f)
-  contexts f =
-      let locals : locals_of m f ++ extra_types m f ≡ locals_of (flat_module m) (flat_func m f) =
-      append_assoc (type_at m f.sort).params (declared_locals f.locals) (extra_types m f) ∙ ap (λ ts. (type_at m f.sort).params ++ ts) (sym (is_flat 0 f).1) in
-      let funcs : func_types m ≡ func_types (flat_module m) = ap (λ sorts. map (type_at m) (imported imported_func m ++ sorts)) (sym (sorts_are m m.funcs)) in
-      ap (λ ts. context f (func_types m) ts) locals ∙ ap (λ fs. context f fs (locals_of (flat_module m) (flat_func m f))) funcs
-    where
-      context : Func → List FuncType → List ValType → Around
-      context f fs ls = let c : Around = around m f in record { types = c.types; funcs = fs; table = c.table; memory = c.memory; globals = c.globals; locals = ls; result = c.result }
-
-  pub flat_is_typed : (x : ℕ) (f : Func) → Valid m → defined_at m x ≡ Some f → Typed (around (flat_module m) (flat_func m f)) (flat_func m f).body
-  flat_is_typed x f v e =
-      subst (λ c. Typed c (flat_func m f).body) (contexts f) (body_types m f (func_type_small m v) (type_small m v) 0 (good_body m f (body_typed v x f e)) (own_result m f))
-
-  sorts_stay : func_sorts (flat_module m) ≡ func_sorts m
-  sorts_stay = ap (λ sorts. imported imported_func m ++ sorts) (sorts_are m m.funcs)
-
-  types_stay : func_types (flat_module m) ≡ func_types m
-  types_stay = ap (λ sorts. map (type_at m) sorts) sorts_stay
-
-  body_of_list : (fs : List Func) (i : ℕ) (h : Func) → slice_get (map (flat_func m) fs) i ≡ Some h → (f : Func) × (slice_get fs i ≡ Some f) × (flat_func m f ≡ h)
-  body_of_list [] i h e = cc
-  body_of_list (f ∷ fs) zero h e = (f, refl, some_is (flat_func m f) h e)
-    where
-      some_is : (a b : Func) → Some a ≡ Some b → a ≡ b
-      some_is a b e = cc
-  body_of_list (f ∷ fs) (suc i) h e = body_of_list fs i h e
-
-  pub valid_stays : Valid m → Valid (flat_module m)
-  valid_stays v = record {
-    types = v.types;
-    sorts = ap (all_below (length m.types)) sorts_stay ∙ v.sorts;
-    bodies = λ i h e.
-        let w = body_of_list m.funcs i h e in
-        subst (λ (g : Func). Typed (around (flat_module m) g) g.body) w.2
-        (subst (λ c. Typed c (flat_func m w.0).body) (contexts w.0) (body_types m w.0 (func_type_small m v) (type_small m v) 0 (good_body m w.0 (v.bodies i w.0 w.1)) (own_result m w.0)));
-    limits = v.limits;
-    single = v.single;
-    constants = v.constants;
-    globals = v.globals;
-    tables = v.tables;
-    memories = v.memories;
-    funcs = ap (λ sorts. all_below (length sorts) (exported a_func m ++ start_indices m.start ++ flat_map (λ (e : Elem). e.funcs) m.elems)) sorts_stay ∙ v.funcs;
-    start = ap (start_fits m.start) types_stay ∙ v.start;
-    names = v.names;
-  }
-
-  pub flat_stmts_typed : (x : ℕ) (f : Func) → Valid m → defined_at m x ≡ Some f → StmtsTyped (around (flat_module m) (flat_func m f)) (None ∷ (around m f).result ∷ []) (flattened m x f).body
-  flat_stmts_typed x f v e =
-      subst (λ c. StmtsTyped c (None ∷ (around m f).result ∷ []) (flattened m x f).body) (contexts f) (body_stmts m f (func_type_small m v) (type_small m v) x (good_body m f (body_typed v x f e)) (own_result m f))
+pub facts : (m : Module) → Valid m → Facts m
+facts m v = record { good = λ x f e. (good_func m f v x e, own_result m f); small = func_type_small m v; small_sort = type_small m v; own_type = defined_type m }

@@ -1,70 +1,81 @@
--- The module whose bodies are the flat ones, and what validity of the original gives.
-use Rattle.std.specs.Prelude.{◌≡◌, ◌≤◌, ℕ, ◌+◌, ◌*◌, ◌++◌, List, [], ◌∷◌, length, map, Option, Some, None, reverse}
+-- The module in which some functions are flat, and what validity of the original gives.
+use Rattle.std.specs.Prelude.{◌≡◌, ◌≤◌, ◌<◌, ℕ, suc, ◌+◌, ◌*◌, ◌++◌, List, [], ◌∷◌, length, map, drop, Option, Some, None, Bool, true, false, reverse, slice_get}
 use Rattle.wa_types.specs.declared.values.ValType.{ValType}
 use Rattle.wa_types.specs.Syntax.{Code, Func, Module}
-use Rattle.wa_types.specs.Typing.{Around, listed, Typed}
+use Rattle.wa_types.specs.Typing.{Around, Typed}
 use Rattle.wa_types.specs.Pruned.{pruned}
-use Rattle.wa_types.specs.Modules.{func_imports, type_at, func_type_at, declared_locals, defined_at, around}
+use Rattle.wa_types.specs.Modules.{func_imports, func_sorts, type_at, func_type_at, declared_locals, defined_at, around}
+use Rattle.wa_types.specs.Pausing.{is_told}
 use Rattle.wa_types.specs.Frames.{Pair, SlotPairs, ResultPairs}
-use Rattle.wa_model.specs.Step.{memory_max}
-use Rattle.wa_model.specs.Flat.{Stmts, code_of, body_of, no_more, computes, copies, calls, leaps, leaps_if, leaps_by, nests, decides, halts}
-use Rattle.flat_laws.specs.Placed.{HasResult, Good}
-use Rattle.wa_types.specs.declared.syntax.Run.{Run}
+use Rattle.wa_types.specs.Base.{Base}
+use Rattle.wa_types.specs.Runtime.{with_runtime}
 use Rattle.wa_types.specs.Validity.{Valid}
 use Rattle.wa_types.specs.Bounds.{code_weight}
 use Rattle.wa_types.specs.Counts.{depth_of}
 use Rattle.wa_types.specs.Points.{func_call_points}
+use Rattle.wa_model.specs.Step.{memory_max}
+use Rattle.wa_model.specs.Flat.{Stmts, FlatFunc, FlatModule, code_of, body_of, no_more, computes, copies, calls, leaps, leaps_if, leaps_by, nests, decides, halts}
+use Rattle.wa_model.specs.FlatFits.{func_of_flat, with_flat}
+use Rattle.wa_model.specs.FlatTyped.{StmtsTyped}
 use Rattle.flat_laws.specs.Flatten.{Names, names, slots, flat, flattened}
 
 -- the types of a function's slots and result locals, in order
 abbrev pub extra_types : Module → Func → List ValType
 extra_types m f = map (λ (p : Pair). p.ty) (SlotPairs m f) ++ map (λ (p : Pair). p.ty) (ResultPairs m f)
 
-abbrev pub one_run : ValType → Run
-one_run t = record { count = 1; ty = t }
+-- the function of this index, flat
+abbrev pub flat_func : Module → ℕ → Func → Func
+flat_func m x f = func_of_flat m (flattened m x f)
 
--- a function with its flat body, and its slots and result locals behind its own
-abbrev pub flat_func : Module → Func → Func
-flat_func m f = record { sort = f.sort; locals = f.locals ++ map one_run (extra_types m f); body = body_of (flattened m 0 f) }
+-- the flat functions of those that are told, from index x on
+abbrev pub flat_told : Module → ℕ → List Bool → List Func → List FlatFunc
+flat_told m x [] fs = []
+flat_told m x (w ∷ which) [] = []
+flat_told m x (true ∷ which) (f ∷ fs) = flattened m x f ∷ flat_told m (suc x) which fs
+flat_told m x (false ∷ which) (f ∷ fs) = flat_told m (suc x) which fs
 
-abbrev pub flat_module : Module → Module
-flat_module m = record {
-  types = m.types;
-  imports = m.imports;
-  funcs = map (flat_func m) m.funcs;
-  tables = m.tables;
-  memories = m.memories;
-  globals = m.globals;
-  exports = m.exports;
-  start = m.start;
-  elems = m.elems;
-  segments = m.segments;
-  customs = m.customs;
-}
+-- The flat functions of a module: of those defined functions that are told, by one answer for each function, imports first.
+abbrev pub flats_of : Module → List Bool → FlatModule
+flats_of m which = record { funcs = flat_told m (func_imports m) (drop (func_imports m) which) m.funcs }
+
+-- The module in which these are flat, and every other function stays.
+abbrev pub flat_module : Module → List Bool → Module
+flat_module m which = with_flat m (flats_of m which)
 
 -- the function of this index has the flat body, and its locals behind those of f
 abbrev pub IsFlat : Module → ℕ → Func → Option Func → Type 0
 IsFlat m x f None = ⊥
 IsFlat m x f (Some g) = (g.body ≡ body_of (flattened m x f)) × (declared_locals g.locals ≡ declared_locals f.locals ++ extra_types m f)
 
--- A module, and one that is like it but for the bodies, which are flat.
-pub record Flattened (m p : Module) : Type 0 where
-  pub flats : (x : ℕ) (f : Func) → defined_at m x ≡ Some f → IsFlat m x f (defined_at p x)
-  pub none : (x : ℕ) → defined_at m x ≡ None → defined_at p x ≡ None
-  pub func_type : (x : ℕ) → func_type_at p x ≡ func_type_at m x
-  pub sort : (t : ℕ) → type_at p t ≡ type_at m t
+-- it is flat where it is told, and stays where it isn't
+abbrev pub IsPlaced : Bool → Module → ℕ → Func → Option Func → Type 0
+IsPlaced true m x f o = IsFlat m x f o
+IsPlaced false m x f o = o ≡ Some f
+
+-- A valid module, and one that is like it, as far as its own types and functions go, but for the functions that are told,
+-- which are flat. It may have more behind them.
+pub record Flattened (m p : Module) (which : List Bool) : Type 0 where
+  pub valid : Valid m
+  pub placed : (x : ℕ) (f : Func) → defined_at m x ≡ Some f → IsPlaced (is_told (slice_get which x)) m x f (defined_at p x)
+  pub none : (x : ℕ) → x < length (func_sorts m) → defined_at m x ≡ None → defined_at p x ≡ None
+  pub func_type : (x : ℕ) → x < length (func_sorts m) → func_type_at p x ≡ func_type_at m x
+  pub sort : (t : ℕ) → t < length m.types → type_at p t ≡ type_at m t
   pub imports : func_imports p ≡ func_imports m
   pub most : memory_max p ≡ memory_max m
-  pub good : (x : ℕ) (f : Func) → defined_at m x ≡ Some f → Good (names m f) (around m f) ((around m f).result ∷ []) f.body (listed (around m f).result) [] [] × HasResult (names m f) 0 (around m f).result
-  pub small : (x : ℕ) → length (func_type_at m x).results ≤ 1
-  pub small_sort : (t : ℕ) → length (type_at m t).results ≤ 1
-  pub own_type : (x : ℕ) (f : Func) → defined_at m x ≡ Some f → func_type_at m x ≡ type_at m f.sort
 
 -- ---- laws
 
--- A valid module and its flat one meet all that the laws of runs ask for.
+-- A valid module and the one in which the told functions are flat meet all that the laws of runs ask for.
 abbrev pub ValidIsFlattened : Type 0
-ValidIsFlattened = (m : Module) → Valid m → Flattened m (flat_module m)
+ValidIsFlattened = (m : Module) (which : List Bool) → Valid m → Flattened m (flat_module m which) which
+
+-- So do the original with the memory that it is compared with, and the same module with the runtime's parts behind.
+abbrev pub RuntimeIsFlattened : Type 0
+RuntimeIsFlattened = (m : Module) (which : List Bool) → Valid m → Flattened (Base m) (with_runtime (flat_module m which)) which
+
+-- With that memory a function has the same flat one, and the same slots and result locals.
+abbrev pub SameWithMemory : Type 0
+SameWithMemory = (m : Module) (x : ℕ) (f : Func) → Valid m → defined_at m x ≡ Some f → (flattened (Base m) x f ≡ flattened m x f) × (names (Base m) f ≡ names m f)
 
 -- The flat code is that of the pruned code.
 abbrev pub FlatOfPruned : Type 0
@@ -91,13 +102,19 @@ stacks_in (halts rest) = stacks_in rest
 abbrev pub StacksAreSlots : Type 0
 StacksAreSlots = (m : Module) (x : ℕ) (f : Func) → Typed (around m f) f.body → stacks_in (flattened m x f).body ≡ map (λ ops. reverse (slots (names m f) ops)) (func_call_points m f)
 
--- The flat body is typed, at no operands between its statements, among the function's locals.
+-- A flat body is typed among the flat function's locals, whichever functions are flat.
 abbrev pub FlatIsTyped : Type 0
-FlatIsTyped = (m : Module) (x : ℕ) (f : Func) → Valid m → defined_at m x ≡ Some f → Typed (around (flat_module m) (flat_func m f)) (flat_func m f).body
+FlatIsTyped = (m : Module) (which : List Bool) (x : ℕ) (f : Func) → Valid m → defined_at m x ≡ Some f → Typed (around (flat_module m which) (flat_func m x f)) (flat_func m x f).body
 
--- The flat module is valid.
+-- Each of its statements takes no operands to none.
+abbrev pub FlatStmtsTyped : Type 0
+FlatStmtsTyped =
+    (m : Module) (which : List Bool) (x : ℕ) (f : Func) → Valid m → defined_at m x ≡ Some f
+    → StmtsTyped (around (flat_module m which) (flat_func m x f)) (None ∷ (around m f).result ∷ []) (flattened m x f).body
+
+-- The module is valid, whichever functions are flat.
 abbrev pub ValidStays : Type 0
-ValidStays = (m : Module) → Valid m → Valid (flat_module m)
+ValidStays = (m : Module) (which : List Bool) → Valid m → Valid (flat_module m which)
 
 -- Flat statements nest no deeper than the pruned body.
 abbrev pub FlatIsShallow : Type 0

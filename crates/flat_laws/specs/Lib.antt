@@ -1,4 +1,3 @@
 pub mod FlatModule
 pub mod Flatten
 pub mod Placed
-pub mod StmtsTyped

@@ -1,5 +1,5 @@
 -- The instructions that branch, and the ends of sequences.
-use Rattle.std.proofs.Common.{◌≡◌, ◌∙◌, ℕ, zero, suc, ◌+◌, ◌-◌, ◌*◌, ◌≤◌, List, [], ◌∷◌, ◌++◌, length, take, drop, Option, Some, None, refl, sym, ap, subst, arith}
+use Rattle.std.proofs.Common.{◌≡◌, ◌∙◌, ℕ, zero, suc, ◌+◌, ◌-◌, ◌*◌, ◌≤◌, List, [], ◌∷◌, ◌++◌, length, take, drop, Option, Some, None, refl, sym, ap, subst, arith, Bool, true}
 use Rattle.std.specs.Prelude.{slice_get, unwrap_or}
 use Rattle.std.proofs.lemmas.List.{append_assoc, take-append-drop}
 use Rattle.wa_types.specs.declared.values.ValType.{ValType}
@@ -69,13 +69,13 @@ picked n new lt r vs [] last v al ac el cl = (el, cl)
 picked n new lt r vs (j ∷ js) last zero al ac el cl = (al.0, ac.0)
 picked n new lt r vs (j ∷ js) last (suc v) al ac el cl = picked n new lt r vs js last v al.1 ac.1 el cl
 
-module _ (m p : Module) (w : Flattened m p) (x : Ctx m) (ls extra ops : List Value) (l : Locals m x.f ls extra ops) (lt : List (Option ValType)) (outs own low : List ValType) (labels labels' : List Label) (e : types_of ops ≡ own ++ low)
+module _ (m p : Module) (which : List Bool) (w : Flattened m p which) (x : Ctx m which true) (ls extra ops : List Value) (l : Locals m x.f ls extra ops) (lt : List (Option ValType)) (outs own low : List ValType) (labels labels' : List Label) (e : types_of ops ≡ own ++ low)
     (ain : AllIn (names m x.f) (own ++ low)) (la : Labels (names m x.f) (around m x.f) lt outs low labels labels') where
   abbrev n : Names
   n = names m x.f
 
   abbrev pub P : (ex : List Value) (code : Code) (most : ℕ) (good : List Value → Type 0) (behind : Code) → Type 0
-  P ex code most good behind = Puts n ls (long_ls m p w x.f ls extra ops l) p (first_of m) x.s x.fn x.under' labels' ex [] code most good behind
+  P ex code most good behind = Puts n ls (long_ls m p which w x.f ls extra ops l) p (first_of m) x.s x.fn x.under' labels' ex [] code most good behind
 
   -- A branch's result goes to its local. `all` are all operands, `seen` those that the branch sees.
   pub to_label : (all seen ex : List Value) (j : ℕ) (r : Option ValType) (more : List ValType) (rest : Stmts) → slice_get lt j ≡ Some r → types_of seen ≡ listed r ++ more → length ex ≡ length extra → Holds n ex seen → Holds n ex all
@@ -85,40 +85,40 @@ module _ (m p : Module) (w : Flattened m p) (x : Ctx m) (ls extra ops : List Val
       let vs : List Value = take (arity_of r) seen in
       let both : vs ++ drop (arity_of r) seen ≡ seen = take-append-drop (arity_of r) seen in
       let vt : types_of vs ≡ listed r = ap (λ i. types_of (take i seen)) (arity_is r) ∙ (split_types (listed r) more seen ev).0 in
-      subst (λ o. Puts n ls (long_ls m p w x.f ls extra ops l) p (first_of m) x.s x.fn x.under' labels' ex [] (code_of (carry_to n (length lt - suc j) o (types_of seen) rest)) 2 (λ new. Holds n new all × Carried n new (length lt - suc j) r vs × ((d2 : ℕ) → Carried n ex d2 r vs → Carried n new d2 r vs)) (code_of rest)) (sym er)
-      (carries n ls (long_ls m p w x.f ls extra ops l) p (first_of m) x.s x.fn x.under' labels' r (length lt - suc j) vs (drop (arity_of r) seen) all ex (types_of seen) rest vt (sym (ap types_of both)) (label_has n (around m x.f) lt outs low labels labels' j r la er) (lo ∙ long) (subst (Holds n ex) (sym both) h) ha)
+      subst (λ o. Puts n ls (long_ls m p which w x.f ls extra ops l) p (first_of m) x.s x.fn x.under' labels' ex [] (code_of (carry_to n (length lt - suc j) o (types_of seen) rest)) 2 (λ new. Holds n new all × Carried n new (length lt - suc j) r vs × ((d2 : ℕ) → Carried n ex d2 r vs → Carried n new d2 r vs)) (code_of rest)) (sym er)
+      (carries n ls (long_ls m p which w x.f ls extra ops l) p (first_of m) x.s x.fn x.under' labels' r (length lt - suc j) vs (drop (arity_of r) seen) all ex (types_of seen) rest vt (sym (ap types_of both)) (label_has n (around m x.f) lt outs low labels labels' j r la er) (lo ∙ long) (subst (Holds n ex) (sym both) h) ha)
 
   locals_of_new : (new seen : List Value) → length new ≡ length extra → Holds n new seen → Locals m x.f ls new seen
   locals_of_new new seen lo h = record { typed = l.typed; size = lo ∙ l.size; holds = h }
 
   -- a branch without condition
-  pub branch_step : (j : ℕ) (r : Option ValType) (more : List ValType) → slice_get lt j ≡ Some r → types_of ops ≡ listed r ++ more → Quietly m p (cp x ls extra [] (code_of (carry n lt (types_of ops) j (leaps j no_more))) labels') (jump 0 m x.s x.fn x.under ls ops labels j)
+  pub branch_step : (j : ℕ) (r : Option ValType) (more : List ValType) → slice_get lt j ≡ Some r → types_of ops ≡ listed r ++ more → Quietly m p which (cp x ls extra [] (code_of (carry n lt (types_of ops) j (leaps j no_more))) labels') (jump 0 m x.s x.fn x.under ls ops labels j)
   unfolding code_of
   branch_step j r more er ev =
       let go = to_label ops ops extra j r more (leaps j no_more) er ev refl l.holds l.holds in
-      let ju = jumps m p w 0 x ls go.new ops lt outs low own more labels labels' j r la er (locals_of_new go.new ops go.long go.then_good.0) ev e go.then_good.1 in
+      let ju = jumps m p which w 0 x ls go.new ops lt outs low own more labels labels' j r la er (locals_of_new go.new ops go.long go.then_good.0) ev e go.then_good.1 in
       let fc = go.few in
-      paid m p _ ju.there (0 + 1) (go.cost + 1) _ (on p (first_of m) go.cost 0 1 1 _ _ _ go.goes (loud p (first_of m) 0 _ ju.there ju.goes tt tt)) (ju.next (0 + 1) (go.cost + 1) (omega arith) (omega arith))
+      paid m p which _ ju.there (0 + 1) (go.cost + 1) _ (on p (first_of m) go.cost 0 1 1 _ _ _ go.goes (loud p (first_of m) 0 _ ju.there ju.goes tt tt)) (ju.next (0 + 1) (go.cost + 1) (omega arith) (omega arith))
 
-  pub br_step : (j : ℕ) (mids : List ValType) → Takes (jump_sig (slice_get lt j)) own mids → Quietly m p (cp x ls extra [] (code_of (carry n lt (types_of ops) j (leaps j no_more))) labels') (jump 0 m x.s x.fn x.under ls ops labels j)
+  pub br_step : (j : ℕ) (mids : List ValType) → Takes (jump_sig (slice_get lt j)) own mids → Quietly m p which (cp x ls extra [] (code_of (carry n lt (types_of ops) j (leaps j no_more))) labels') (jump 0 m x.s x.fn x.under ls ops labels j)
   br_step j mids t = by (slice_get lt j) refl t
     where
-      by : (o : Option (Option ValType)) → slice_get lt j ≡ o → Takes (jump_sig o) own mids → Quietly m p (cp x ls extra [] (code_of (carry (names m x.f) lt (types_of ops) j (leaps j no_more))) labels') (jump 0 m x.s x.fn x.under ls ops labels j)
+      by : (o : Option (Option ValType)) → slice_get lt j ≡ o → Takes (jump_sig o) own mids → Quietly m p which (cp x ls extra [] (code_of (carry (names m x.f) lt (types_of ops) j (leaps j no_more))) labels') (jump 0 m x.s x.fn x.under ls ops labels j)
       by None er t = absurd t
       by (Some r) er t = branch_step j r (t.0 ++ low) er (e ∙ ap (λ z. z ++ low) t.1 ∙ append_assoc (listed r) t.0 low)
 
   pub return_step : (mids : List ValType) → Takes (leaves_sig (listed (around m x.f).result)) own mids
-      → Quietly m p (cp x ls extra [] (code_of (carry n lt (types_of ops) (length lt - 1) (leaps (length lt - 1) no_more))) labels') (leave 0 x.s ops (result_count m x.fn) x.under)
+      → Quietly m p which (cp x ls extra [] (code_of (carry n lt (types_of ops) (length lt - 1) (leaps (length lt - 1) no_more))) labels') (leave 0 x.s ops (result_count m x.fn) x.under)
   return_step mids t =
       let la2 = last_label n (around m x.f) lt outs low labels labels' la in
       let le = la2.0 in
       let z : length labels ≡ length lt - 1 = omega arith in
       let r : Option ValType = (around m x.f).result in
-      subst (λ o. Quietly m p (cp x ls extra [] (code_of (carry n lt (types_of ops) (length lt - 1) (leaps (length lt - 1) no_more))) labels') o) (jump_out 0 m x.s x.fn x.under ls ops labels)
-      (subst (λ j. Quietly m p (cp x ls extra [] (code_of (carry n lt (types_of ops) j (leaps j no_more))) labels') (jump 0 m x.s x.fn x.under ls ops labels (length labels))) z
+      subst (λ o. Quietly m p which (cp x ls extra [] (code_of (carry n lt (types_of ops) (length lt - 1) (leaps (length lt - 1) no_more))) labels') o) (jump_out 0 m x.s x.fn x.under ls ops labels)
+      (subst (λ j. Quietly m p which (cp x ls extra [] (code_of (carry n lt (types_of ops) j (leaps j no_more))) labels') (jump 0 m x.s x.fn x.under ls ops labels (length labels))) z
       (branch_step (length labels) r (t.0 ++ low) la2.1 (e ∙ ap (λ q. q ++ low) t.1 ∙ append_assoc (listed r) t.0 low)))
 
-  pub unreachable_step : Quietly m p (cp x ls extra [] (code_of (halts no_more)) labels') (traps 0 Unreachable x.s)
+  pub unreachable_step : Quietly m p which (cp x ls extra [] (code_of (halts no_more)) labels') (traps 0 Unreachable x.s)
   unfolding code_of
   unreachable_step = it_traps 0 0 0 _ stands tt refl (omega arith) (omega arith)
 
@@ -134,7 +134,7 @@ module _ (m p : Module) (w : Flattened m p) (x : Ctx m) (ls extra ops : List Val
 
   -- the number is read
   number_got : (v : ℕ) (os new : List Value) (code : Code) → ops ≡ V.I32 v ∷ os → length new ≡ length extra → Holds n new ops → Still p (first_of m) (cp x ls new [] (plain (local_get (top n (types_of ops))) code) labels') 1 0 (cp x ls new (V.I32 v ∷ []) code labels')
-  number_got v os new code eo lo h = get_top n ls (long_ls m p w x.f ls extra ops l) p (first_of m) x.s x.fn x.under' labels' new os [] (V.I32 v) (types_of ops) code (ap types_of eo) (subst (Holds n new) eo h)
+  number_got v os new code eo lo h = get_top n ls (long_ls m p which w x.f ls extra ops l) p (first_of m) x.s x.fn x.under' labels' new os [] (V.I32 v) (types_of ops) code (ap types_of eo) (subst (Holds n new) eo h)
 
   -- br_if
   module _ (j : ℕ) (mids : List ValType) (rest : Code) (g : Good (names m x.f) (around m x.f) lt rest outs mids low) where
@@ -142,20 +142,20 @@ module _ (m p : Module) (w : Flattened m p) (x : Ctx m) (ls extra ops : List Val
     if_code = code_of (carry n lt (drop 1 (types_of ops)) j (leaps_if (Local (top n (types_of ops))) j (flat n (around m x.f) lt rest (mids ++ low))))
 
     pub br_if_step : Takes (may_jump (slice_get lt j)) own mids
-        → Quietly m p (cp x ls extra [] if_code labels') (with_number ops (λ v below. choose v (jump 0 m x.s x.fn x.under ls below labels j) (steps 0 (running x.s x.fn x.under ls below rest labels))))
+        → Quietly m p which (cp x ls extra [] if_code labels') (with_number ops (λ v below. choose v (jump 0 m x.s x.fn x.under ls below labels j) (steps 0 (running x.s x.fn x.under ls below rest labels))))
     unfolding code_of
     br_if_step t = by (slice_get lt j) refl t
       where
         by : (o : Option (Option ValType)) → slice_get lt j ≡ o → Takes (may_jump o) own mids
-            → Quietly m p (cp x ls extra [] (code_of (carry (names m x.f) lt (drop 1 (types_of ops)) j (leaps_if (Local (top (names m x.f) (types_of ops))) j (flat (names m x.f) (around m x.f) lt rest (mids ++ low))))) labels') (with_number ops (λ v below. choose v (jump 0 m x.s x.fn x.under ls below labels j) (steps 0 (running x.s x.fn x.under ls below rest labels))))
+            → Quietly m p which (cp x ls extra [] (code_of (carry (names m x.f) lt (drop 1 (types_of ops)) j (leaps_if (Local (top (names m x.f) (types_of ops))) j (flat (names m x.f) (around m x.f) lt rest (mids ++ low))))) labels') (with_number ops (λ v below. choose v (jump 0 m x.s x.fn x.under ls below labels j) (steps 0 (running x.s x.fn x.under ls below rest labels))))
         by None er t = absurd t
-        by (Some r) er t = number_step (λ o. Quietly m p (cp x ls extra [] (code_of (carry (names m x.f) lt (drop 1 (types_of ops)) j (leaps_if (Local (top (names m x.f) (types_of ops))) j (flat (names m x.f) (around m x.f) lt rest (mids ++ low))))) labels') o) it_is_stuck _ (mids ++ low) typed by_value
+        by (Some r) er t = number_step (λ o. Quietly m p which (cp x ls extra [] (code_of (carry (names m x.f) lt (drop 1 (types_of ops)) j (leaps_if (Local (top (names m x.f) (types_of ops))) j (flat (names m x.f) (around m x.f) lt rest (mids ++ low))))) labels') o) it_is_stuck _ (mids ++ low) typed by_value
           where
             typed : types_of ops ≡ I32 ∷ (mids ++ low)
             typed = e ∙ ap (λ z. z ++ low) t.1 ∙ ap (λ z. I32 ∷ (z ++ low)) (sym t.2)
 
             by_value : (v : ℕ) (os : List Value) → ops ≡ V.I32 v ∷ os → types_of os ≡ mids ++ low
-                → Quietly m p (cp x ls extra [] (code_of (carry (names m x.f) lt (drop 1 (types_of ops)) j (leaps_if (Local (top (names m x.f) (types_of ops))) j (flat (names m x.f) (around m x.f) lt rest (mids ++ low))))) labels') (choose v (jump 0 m x.s x.fn x.under ls os labels j) (steps 0 (running x.s x.fn x.under ls os rest labels)))
+                → Quietly m p which (cp x ls extra [] (code_of (carry (names m x.f) lt (drop 1 (types_of ops)) j (leaps_if (Local (top (names m x.f) (types_of ops))) j (flat (names m x.f) (around m x.f) lt rest (mids ++ low))))) labels') (choose v (jump 0 m x.s x.fn x.under ls os labels j) (steps 0 (running x.s x.fn x.under ls os rest labels)))
             by_value v os eo et =
                 let ev : types_of os ≡ listed r ++ (t.0 ++ low) = et ∙ ap (λ z. z ++ low) t.2 ∙ append_assoc (listed r) t.0 low in
                 let seen : drop 1 (types_of ops) ≡ types_of os = ap (λ z. drop 1 (types_of z)) eo in
@@ -166,16 +166,16 @@ module _ (m p : Module) (w : Flattened m p) (x : Ctx m) (ls extra ops : List Val
                 let got_it = number_got v os go.new (plain (br_if j) (code_of (flat (names m x.f) (around m x.f) lt rest (mids ++ low)))) eo go.long go.then_good.0 in
                 let both = on p (first_of m) go.cost 0 1 0 _ _ _ go.goes got_it in
                 let fc = go.few in
-                subst (λ ts. Quietly m p (cp x ls extra [] (code_of (carry (names m x.f) lt ts j (leaps_if (Local (top (names m x.f) (types_of ops))) j (flat (names m x.f) (around m x.f) lt rest (mids ++ low))))) labels') (choose v (jump 0 m x.s x.fn x.under ls os labels j) (steps 0 (running x.s x.fn x.under ls os rest labels)))) (sym seen)
-                (branches v go.cost go.new lo fc both (jumps m p w 0 x ls go.new os lt outs low mids (t.0 ++ low) labels labels' j r la er lo ev et go.then_good.1) et)
+                subst (λ ts. Quietly m p which (cp x ls extra [] (code_of (carry (names m x.f) lt ts j (leaps_if (Local (top (names m x.f) (types_of ops))) j (flat (names m x.f) (around m x.f) lt rest (mids ++ low))))) labels') (choose v (jump 0 m x.s x.fn x.under ls os labels j) (steps 0 (running x.s x.fn x.under ls os rest labels)))) (sym seen)
+                (branches v go.cost go.new lo fc both (jumps m p which w 0 x ls go.new os lt outs low mids (t.0 ++ low) labels labels' j r la er lo ev et go.then_good.1) et)
               where
                 branches : (v : ℕ) (cost : ℕ) (new : List Value) → Locals m x.f ls new os → cost ≤ 2 → {c' : Configuration} → Still p (first_of m) c' (cost + 1) 0 (cp x ls new (V.I32 v ∷ []) (plain (br_if j) (code_of (flat (names m x.f) (around m x.f) lt rest (mids ++ low)))) labels')
-                    → Jumped m p w 0 (jump 0 m x.s x.fn x.under ls os labels j) (jump 0 p x.s x.fn x.under' (ls ++ new) [] labels' j) → types_of os ≡ mids ++ low
-                    → Quietly m p c' (choose v (jump 0 m x.s x.fn x.under ls os labels j) (steps 0 (running x.s x.fn x.under ls os rest labels)))
+                    → Jumped m p which w 0 (jump 0 m x.s x.fn x.under ls os labels j) (jump 0 p x.s x.fn x.under' (ls ++ new) [] labels' j) → types_of os ≡ mids ++ low
+                    → Quietly m p which c' (choose v (jump 0 m x.s x.fn x.under ls os labels j) (steps 0 (running x.s x.fn x.under ls os rest labels)))
                 branches zero cost new lo fc st ju et =
-                    it_steps (cost + 1 + 1) (0 + 1) _ (on p (first_of m) (cost + 1) 0 1 1 _ _ _ st (loud p (first_of m) 0 _ _ refl tt tt)) (omega arith) (omega arith) (again m p w x ls new os lt outs mids low (mids ++ low) rest labels labels' lo et et g la)
+                    it_steps (cost + 1 + 1) (0 + 1) _ (on p (first_of m) (cost + 1) 0 1 1 _ _ _ st (loud p (first_of m) 0 _ _ refl tt tt)) (omega arith) (omega arith) (again m p which w x ls new os lt outs mids low (mids ++ low) rest labels labels' lo et et g la)
                 branches (suc v) cost new lo fc st ju et =
-                    paid m p _ ju.there (0 + 1) (cost + 1 + 1) _ (on p (first_of m) (cost + 1) 0 1 1 _ _ _ st (loud p (first_of m) 0 _ ju.there ju.goes tt tt)) (ju.next (0 + 1) (cost + 1 + 1) (omega arith) (omega arith))
+                    paid m p which _ ju.there (0 + 1) (cost + 1 + 1) _ (on p (first_of m) (cost + 1) 0 1 1 _ _ _ st (loud p (first_of m) 0 _ ju.there ju.goes tt tt)) (ju.next (0 + 1) (cost + 1 + 1) (omega arith) (omega arith))
 
   -- ---- br_table
 
@@ -197,7 +197,7 @@ module _ (m p : Module) (w : Flattened m p) (x : Ctx m) (ls extra ops : List Val
       }
 
   pub br_table_step : (targets : List ℕ) (last : ℕ) (mids : List ValType) → Takes (jumps_sig lt targets (slice_get lt last)) own mids
-      → Quietly m p (cp x ls extra [] (code_of (carry_all n lt (drop 1 (types_of ops)) targets (carry n lt (drop 1 (types_of ops)) last (leaps_by (Local (top n (types_of ops))) targets last no_more)))) labels')
+      → Quietly m p which (cp x ls extra [] (code_of (carry_all n lt (drop 1 (types_of ops)) targets (carry n lt (drop 1 (types_of ops)) last (leaps_by (Local (top n (types_of ops))) targets last no_more)))) labels')
       (with_number ops (λ v below. jump (length targets + 1) m x.s x.fn x.under ls below labels (unwrap_or (slice_get targets v) last)))
   unfolding code_of
   br_table_step targets last mids t = by (slice_get lt last) refl t
@@ -206,16 +206,16 @@ module _ (m p : Module) (w : Flattened m p) (x : Ctx m) (ls extra ops : List Val
       abbrev_code ts = code_of (carry_all (names m x.f) lt ts targets (carry (names m x.f) lt ts last (leaps_by (Local (top (names m x.f) (types_of ops))) targets last no_more)))
 
       by : (o : Option (Option ValType)) → slice_get lt last ≡ o → Takes (jumps_sig lt targets o) own mids
-          → Quietly m p (cp x ls extra [] (code_of (carry_all (names m x.f) lt (drop 1 (types_of ops)) targets (carry (names m x.f) lt (drop 1 (types_of ops)) last (leaps_by (Local (top (names m x.f) (types_of ops))) targets last no_more)))) labels')
+          → Quietly m p which (cp x ls extra [] (code_of (carry_all (names m x.f) lt (drop 1 (types_of ops)) targets (carry (names m x.f) lt (drop 1 (types_of ops)) last (leaps_by (Local (top (names m x.f) (types_of ops))) targets last no_more)))) labels')
           (with_number ops (λ v below. jump (length targets + 1) m x.s x.fn x.under ls below labels (unwrap_or (slice_get targets v) last)))
       by None er t = absurd t
-      by (Some r) er t = number_step (λ o. Quietly m p (cp x ls extra [] (code_of (carry_all (names m x.f) lt (drop 1 (types_of ops)) targets (carry (names m x.f) lt (drop 1 (types_of ops)) last (leaps_by (Local (top (names m x.f) (types_of ops))) targets last no_more)))) labels') o) it_is_stuck _ (listed r ++ ((table_typed lt targets r own mids t).1 ++ low)) typed by_value
+      by (Some r) er t = number_step (λ o. Quietly m p which (cp x ls extra [] (code_of (carry_all (names m x.f) lt (drop 1 (types_of ops)) targets (carry (names m x.f) lt (drop 1 (types_of ops)) last (leaps_by (Local (top (names m x.f) (types_of ops))) targets last no_more)))) labels') o) it_is_stuck _ (listed r ++ ((table_typed lt targets r own mids t).1 ++ low)) typed by_value
         where
           typed : types_of ops ≡ I32 ∷ (listed r ++ ((table_typed lt targets r own mids t).1 ++ low))
           typed = let tt2 = table_typed lt targets r own mids t in e ∙ ap (λ z. z ++ low) tt2.2 ∙ ap (λ z. I32 ∷ z) (append_assoc (listed r) tt2.1 low)
 
           by_value : (v : ℕ) (os : List Value) → ops ≡ V.I32 v ∷ os → types_of os ≡ listed r ++ ((table_typed lt targets r own mids t).1 ++ low)
-              → Quietly m p (cp x ls extra [] (code_of (carry_all (names m x.f) lt (drop 1 (types_of ops)) targets (carry (names m x.f) lt (drop 1 (types_of ops)) last (leaps_by (Local (top (names m x.f) (types_of ops))) targets last no_more)))) labels')
+              → Quietly m p which (cp x ls extra [] (code_of (carry_all (names m x.f) lt (drop 1 (types_of ops)) targets (carry (names m x.f) lt (drop 1 (types_of ops)) last (leaps_by (Local (top (names m x.f) (types_of ops))) targets last no_more)))) labels')
               (jump (length targets + 1) m x.s x.fn x.under ls os labels (unwrap_or (slice_get targets v) last))
           by_value v os eo ev =
               let tt2 = table_typed lt targets r own mids t in
@@ -228,39 +228,39 @@ module _ (m p : Module) (w : Flattened m p) (x : Ctx m) (ls extra ops : List Val
               let new_long : length two.new ≡ length extra = two.long ∙ one.long in
               let pick = picked (names m x.f) two.new lt r (take (arity_of r) os) targets last v tt2.0 (all_carried_on (names m x.f) one.new two.new lt r (take (arity_of r) os) targets two.then_good.2 one.then_good.1) er two.then_good.1 in
               let front : types_of os ≡ (listed r ++ tt2.1) ++ low = ev ∙ sym (append_assoc (listed r) tt2.1 low) in
-              let ju = jumps m p w (length targets + 1) x ls two.new os lt outs low (listed r ++ tt2.1) (tt2.1 ++ low) labels labels' (unwrap_or (slice_get targets v) last) r la pick.0 (locals_of_new two.new os new_long h2.2) ev front pick.1 in
+              let ju = jumps m p which w (length targets + 1) x ls two.new os lt outs low (listed r ++ tt2.1) (tt2.1 ++ low) labels labels' (unwrap_or (slice_get targets v) last) r la pick.0 (locals_of_new two.new os new_long h2.2) ev front pick.1 in
               let got_it = number_got v os two.new (plain (br_table targets last) done) eo new_long (subst (Holds (names m x.f) two.new) (sym eo) h2) in
               let f1 = one.few in
               let f2 = two.few in
               let k : ℕ = suc (length targets + 1) in
               let st = on p (first_of m) one.cost 0 (two.cost + (1 + k)) (0 + (0 + k)) _ _ _ one.goes (on p (first_of m) two.cost 0 (1 + k) (0 + k) _ _ _ two.goes (on p (first_of m) 1 0 k k _ _ _ got_it (loud p (first_of m) (length targets + 1) _ ju.there ju.goes tt tt))) in
-              subst (λ ts. Quietly m p (cp x ls extra [] (code_of (carry_all (names m x.f) lt ts targets (carry (names m x.f) lt ts last (leaps_by (Local (top (names m x.f) (types_of ops))) targets last no_more)))) labels')
+              subst (λ ts. Quietly m p which (cp x ls extra [] (code_of (carry_all (names m x.f) lt ts targets (carry (names m x.f) lt ts last (leaps_by (Local (top (names m x.f) (types_of ops))) targets last no_more)))) labels')
               (jump (length targets + 1) m x.s x.fn x.under ls os labels (unwrap_or (slice_get targets v) last))) (sym seen)
-              (paid m p _ ju.there (0 + (0 + (0 + k))) (one.cost + (two.cost + (1 + k))) _ st (ju.next (0 + (0 + (0 + k))) (one.cost + (two.cost + (1 + k))) (omega arith) (omega arith)))
+              (paid m p which _ ju.there (0 + (0 + (0 + k))) (one.cost + (two.cost + (1 + k))) _ st (ju.next (0 + (0 + (0 + k))) (one.cost + (two.cost + (1 + k))) (omega arith) (omega arith)))
 
   -- ---- constructs
 
   pub block_step : (r : Option ValType) (body rest : Code) → HasResult n (length lt) r → Good n (around m x.f) (r ∷ lt) body (listed r) [] (own ++ low) → Good n (around m x.f) lt rest outs (listed r ++ own) low
-      → Quietly m p (cp x ls extra [] (code_of (nests a_block (flat n (around m x.f) (r ∷ lt) body (types_of ops)) (arrive n (length lt) r (types_of ops) (flat n (around m x.f) lt rest (listed r ++ types_of ops))))) labels') (steps 0 (running x.s x.fn x.under ls ops body (block_label (length ops) (arity_of r) rest done ∷ labels)))
+      → Quietly m p which (cp x ls extra [] (code_of (nests a_block (flat n (around m x.f) (r ∷ lt) body (types_of ops)) (arrive n (length lt) r (types_of ops) (flat n (around m x.f) lt rest (listed r ++ types_of ops))))) labels') (steps 0 (running x.s x.fn x.under ls ops body (block_label (length ops) (arity_of r) rest done ∷ labels)))
   unfolding code_of
   block_step r body rest has gb g =
       let la2 = in_block {r = r} {rest = rest} {skipped = done} {skipped' = done} outs own low la has ain refl g in
       let h : length (own ++ low) ≡ length ops = sym (ap length e) ∙ types_long ops in
-      let be = again m p w x ls extra ops (r ∷ lt) (listed r) [] (own ++ low) (types_of ops) body _ _ l e refl gb la2 in
-      subst (λ ts. Quietly m p (cp x ls extra [] (code_of (nests a_block (flat n (around m x.f) (r ∷ lt) body (types_of ops)) (arrive n (length lt) r ts (flat n (around m x.f) lt rest (listed r ++ ts))))) labels') (steps 0 (running x.s x.fn x.under ls ops body (block_label (length ops) (arity_of r) rest done ∷ labels)))) (sym e)
+      let be = again m p which w x ls extra ops (r ∷ lt) (listed r) [] (own ++ low) (types_of ops) body _ _ l e refl gb la2 in
+      subst (λ ts. Quietly m p which (cp x ls extra [] (code_of (nests a_block (flat n (around m x.f) (r ∷ lt) body (types_of ops)) (arrive n (length lt) r ts (flat n (around m x.f) lt rest (listed r ++ ts))))) labels') (steps 0 (running x.s x.fn x.under ls ops body (block_label (length ops) (arity_of r) rest done ∷ labels)))) (sym e)
       (it_steps 1 1 _ (loud p (first_of m) 0 _ _ refl tt tt) (omega arith) (omega arith)
-      (subst (λ k. Beside m (running x.s x.fn x.under ls ops body (block_label k (arity_of r) rest done ∷ labels)) (cp x ls extra [] (code_of (flat n (around m x.f) (r ∷ lt) body (types_of ops))) (block_label 0 0 (code_of (arrive n (length lt) r (own ++ low) (flat n (around m x.f) lt rest (listed r ++ (own ++ low))))) done ∷ labels'))) h be))
+      (subst (λ k. Beside m which (running x.s x.fn x.under ls ops body (block_label k (arity_of r) rest done ∷ labels)) (cp x ls extra [] (code_of (flat n (around m x.f) (r ∷ lt) body (types_of ops))) (block_label 0 0 (code_of (arrive n (length lt) r (own ++ low) (flat n (around m x.f) lt rest (listed r ++ (own ++ low))))) done ∷ labels'))) h be))
 
   pub loop_step : (r : Option ValType) (body rest : Code) → Good n (around m x.f) (None ∷ lt) body (listed r) [] (own ++ low) → Good n (around m x.f) lt rest outs (listed r ++ own) low
-      → Quietly m p (cp x ls extra [] (code_of (nests a_loop (flat n (around m x.f) (None ∷ lt) body (types_of ops)) (flat n (around m x.f) lt rest (listed r ++ types_of ops)))) labels') (steps 0 (running x.s x.fn x.under ls ops body (loop_label (length ops) body rest ∷ labels)))
+      → Quietly m p which (cp x ls extra [] (code_of (nests a_loop (flat n (around m x.f) (None ∷ lt) body (types_of ops)) (flat n (around m x.f) lt rest (listed r ++ types_of ops)))) labels') (steps 0 (running x.s x.fn x.under ls ops body (loop_label (length ops) body rest ∷ labels)))
   unfolding code_of
   loop_step r body rest gb g =
       let la2 = in_loop r outs own low la ain refl gb g in
       let h : length (own ++ low) ≡ length ops = sym (ap length e) ∙ types_long ops in
-      let be = again m p w x ls extra ops (None ∷ lt) (listed r) [] (own ++ low) (own ++ low) body _ _ l e e gb la2 in
-      subst (λ ts. Quietly m p (cp x ls extra [] (code_of (nests a_loop (flat n (around m x.f) (None ∷ lt) body ts) (flat n (around m x.f) lt rest (listed r ++ ts)))) labels') (steps 0 (running x.s x.fn x.under ls ops body (loop_label (length ops) body rest ∷ labels)))) (sym e)
+      let be = again m p which w x ls extra ops (None ∷ lt) (listed r) [] (own ++ low) (own ++ low) body _ _ l e e gb la2 in
+      subst (λ ts. Quietly m p which (cp x ls extra [] (code_of (nests a_loop (flat n (around m x.f) (None ∷ lt) body ts) (flat n (around m x.f) lt rest (listed r ++ ts)))) labels') (steps 0 (running x.s x.fn x.under ls ops body (loop_label (length ops) body rest ∷ labels)))) (sym e)
       (it_steps 1 1 _ (loud p (first_of m) 0 _ _ refl tt tt) (omega arith) (omega arith)
-      (subst (λ k. Beside m (running x.s x.fn x.under ls ops body (loop_label k body rest ∷ labels)) (cp x ls extra [] (code_of (flat n (around m x.f) (None ∷ lt) body (own ++ low))) (loop_label 0 (code_of (flat n (around m x.f) (None ∷ lt) body (own ++ low))) (code_of (flat n (around m x.f) lt rest (listed r ++ (own ++ low)))) ∷ labels'))) h be))
+      (subst (λ k. Beside m which (running x.s x.fn x.under ls ops body (loop_label k body rest ∷ labels)) (cp x ls extra [] (code_of (flat n (around m x.f) (None ∷ lt) body (own ++ low))) (loop_label 0 (code_of (flat n (around m x.f) (None ∷ lt) body (own ++ low))) (code_of (flat n (around m x.f) lt rest (listed r ++ (own ++ low)))) ∷ labels'))) h be))
 
   -- an if
   module _ (r : Option ValType) (a b rest : Code) (below : List ValType) (eo : own ≡ I32 ∷ below) (has : HasResult (names m x.f) (length lt) r) (ga : Good (names m x.f) (around m x.f) (r ∷ lt) a (listed r) [] (below ++ low)) (gb : Good (names m x.f) (around m x.f) (r ∷ lt) b (listed r) [] (below ++ low))
@@ -279,48 +279,48 @@ module _ (m p : Module) (w : Flattened m p) (x : Ctx m) (ls extra ops : List Val
 
     -- an arm begins
     arm_begins : (os : List Value) (k skipped skipped' : Code) → types_of os ≡ below ++ low → Holds n extra os → Good n (around m x.f) (r ∷ lt) k (listed r) [] (below ++ low)
-        → Beside m (running x.s x.fn x.under ls os k (block_label (length os) (arity_of r) rest skipped ∷ labels)) (cp x ls extra [] (arm k) (block_label 0 0 behind skipped' ∷ labels'))
+        → Beside m which (running x.s x.fn x.under ls os k (block_label (length os) (arity_of r) rest skipped ∷ labels)) (cp x ls extra [] (arm k) (block_label 0 0 behind skipped' ∷ labels'))
     arm_begins os k skipped skipped' et h gk =
         let ain2 : AllIn n (below ++ low) = (subst (λ z. AllIn n (z ++ low)) eo ain).1 in
         let la2 = in_block {r = r} {rest = rest} {skipped = skipped} {skipped' = skipped'} outs below low la has ain2 refl g in
         let len : length (below ++ low) ≡ length os = sym (ap length et) ∙ types_long os in
-        let be = again m p w x ls extra os (r ∷ lt) (listed r) [] (below ++ low) (below ++ low) k _ _ (locals_of_new extra os refl h) et et gk la2 in
-        subst (λ j. Beside m (running x.s x.fn x.under ls os k (block_label j (arity_of r) rest skipped ∷ labels)) (cp x ls extra [] (arm k) (block_label 0 0 behind skipped' ∷ labels'))) len be
+        let be = again m p which w x ls extra os (r ∷ lt) (listed r) [] (below ++ low) (below ++ low) k _ _ (locals_of_new extra os refl h) et et gk la2 in
+        subst (λ j. Beside m which (running x.s x.fn x.under ls os k (block_label j (arity_of r) rest skipped ∷ labels)) (cp x ls extra [] (arm k) (block_label 0 0 behind skipped' ∷ labels'))) len be
 
-    pub if_step : Quietly m p (cp x ls extra [] (if_stmts (drop 1 (types_of ops))) labels') (with_number ops chosen_arm)
+    pub if_step : Quietly m p which (cp x ls extra [] (if_stmts (drop 1 (types_of ops))) labels') (with_number ops chosen_arm)
     unfolding code_of
-    if_step = number_step (λ o. Quietly m p (cp x ls extra [] (if_stmts (drop 1 (types_of ops))) labels') o) it_is_stuck chosen_arm (below ++ low) typed by_value
+    if_step = number_step (λ o. Quietly m p which (cp x ls extra [] (if_stmts (drop 1 (types_of ops))) labels') o) it_is_stuck chosen_arm (below ++ low) typed by_value
       where
         typed : types_of ops ≡ I32 ∷ (below ++ low)
         typed = e ∙ ap (λ z. z ++ low) eo
 
-        by_value : (v : ℕ) (os : List Value) → ops ≡ V.I32 v ∷ os → types_of os ≡ below ++ low → Quietly m p (cp x ls extra [] (if_stmts (drop 1 (types_of ops))) labels') (chosen_arm v os)
+        by_value : (v : ℕ) (os : List Value) → ops ≡ V.I32 v ∷ os → types_of os ≡ below ++ low → Quietly m p which (cp x ls extra [] (if_stmts (drop 1 (types_of ops))) labels') (chosen_arm v os)
         by_value v os eq et =
             let h : Holds (names m x.f) extra (V.I32 v ∷ os) = subst (Holds (names m x.f) extra) eq l.holds in
             let got_it = number_got v os extra (branch None (arm a) (arm b) behind) eq refl l.holds in
-            subst (λ ts. Quietly m p (cp x ls extra [] (if_stmts ts) labels') (chosen_arm v os)) (sym (ap (drop 1) typed))
+            subst (λ ts. Quietly m p which (cp x ls extra [] (if_stmts ts) labels') (chosen_arm v os)) (sym (ap (drop 1) typed))
             (arms v got_it (arm_begins os a b (arm b) et h.2 ga) (arm_begins os b done done et h.2 gb))
           where
             arms : (v : ℕ) {c' : Configuration} → Still p (first_of m) c' 1 0 (cp x ls extra (V.I32 v ∷ []) (branch None (arm a) (arm b) behind) labels')
-                → Beside m (running x.s x.fn x.under ls os a (block_label (length os) (arity_of r) rest b ∷ labels)) (cp x ls extra [] (arm a) (block_label 0 0 behind (arm b) ∷ labels'))
-                → Beside m (running x.s x.fn x.under ls os b (block_label (length os) (arity_of r) rest done ∷ labels)) (cp x ls extra [] (arm b) (block_label 0 0 behind done ∷ labels'))
-                → Quietly m p c' (chosen_arm v os)
+                → Beside m which (running x.s x.fn x.under ls os a (block_label (length os) (arity_of r) rest b ∷ labels)) (cp x ls extra [] (arm a) (block_label 0 0 behind (arm b) ∷ labels'))
+                → Beside m which (running x.s x.fn x.under ls os b (block_label (length os) (arity_of r) rest done ∷ labels)) (cp x ls extra [] (arm b) (block_label 0 0 behind done ∷ labels'))
+                → Quietly m p which c' (chosen_arm v os)
             arms zero st ba bb = it_steps 2 1 _ (on p (first_of m) 1 0 1 1 _ _ _ st (loud p (first_of m) 0 _ _ refl tt tt)) (omega arith) (omega arith) bb
             arms (suc v) st ba bb = it_steps 2 1 _ (on p (first_of m) 1 0 1 1 _ _ _ st (loud p (first_of m) 0 _ _ refl tt tt)) (omega arith) (omega arith) ba
 
 -- The end of a sequence.
-pub end_step : (m p : Module) (w : Flattened m p) (x : Ctx m) (ls extra ops : List Value) (l : Locals m x.f ls extra ops) (lt : List (Option ValType)) (outs low : List ValType) (labels labels' : List Label) → types_of ops ≡ outs ++ low → AllIn (names m x.f) (outs ++ low)
-    → Labels (names m x.f) (around m x.f) lt outs low labels labels' → Quietly m p (cp x ls extra [] (code_of (carry (names m x.f) lt (types_of ops) 0 no_more)) labels') (finish m x.s x.fn x.under ls ops labels)
+pub end_step : (m p : Module) (which : List Bool) (w : Flattened m p which) (x : Ctx m which true) (ls extra ops : List Value) (l : Locals m x.f ls extra ops) (lt : List (Option ValType)) (outs low : List ValType) (labels labels' : List Label) → types_of ops ≡ outs ++ low → AllIn (names m x.f) (outs ++ low)
+    → Labels (names m x.f) (around m x.f) lt outs low labels labels' → Quietly m p which (cp x ls extra [] (code_of (carry (names m x.f) lt (types_of ops) 0 no_more)) labels') (finish m x.s x.fn x.under ls ops labels)
 unfolding code_of
-end_step m p w x ls extra ops l _ _ _ _ _ e ain (outermost has) =
+end_step m p which w x ls extra ops l _ _ _ _ _ e ain (outermost has) =
     let r : Option ValType = (around m x.f).result in
-    let go = to_label m p w x ls extra ops l (r ∷ []) (listed r) (listed r) [] [] _ e ain (outermost has) ops ops extra 0 r [] no_more refl e refl l.holds l.holds in
+    let go = to_label m p which w x ls extra ops l (r ∷ []) (listed r) (listed r) [] [] _ e ain (outermost has) ops ops extra 0 r [] no_more refl e refl l.holds l.holds in
     let fc = go.few in
     let l0 : Locals m x.f ls go.new [] = record { typed = l.typed; size = go.long ∙ l.size; holds = tt } in
-    paid m p _ _ (0 + 1) (go.cost + 1) _ (on p (first_of m) go.cost 0 1 1 _ _ _ go.goes (loud p (first_of m) 0 _ _ refl tt tt))
-    (ends m p w x ls go.new ops 0 (0 + 1) (go.cost + 1) [] l0 e go.then_good.1 (omega arith) (omega arith))
-end_step m p w x ls extra ops l _ _ _ _ _ e ain (in_block {ls = lt} {all = all} {labels = labels} {labels' = labels'} {r = r} {rest = rest} {skipped = skipped} {skipped' = skipped'} outs own low la has ain2 ea g) =
-    let go = to_label m p w x ls extra ops l (r ∷ lt) (listed r) (listed r) all _ _ e ain (in_block {skipped = skipped} {skipped' = skipped'} outs own low la has ain2 ea g) ops ops extra 0 r all no_more refl e refl l.holds l.holds in
+    paid m p which _ _ (0 + 1) (go.cost + 1) _ (on p (first_of m) go.cost 0 1 1 _ _ _ go.goes (loud p (first_of m) 0 _ _ refl tt tt))
+    (ends m p which w x ls go.new ops 0 (0 + 1) (go.cost + 1) [] l0 e go.then_good.1 (omega arith) (omega arith))
+end_step m p which w x ls extra ops l _ _ _ _ _ e ain (in_block {ls = lt} {all = all} {labels = labels} {labels' = labels'} {r = r} {rest = rest} {skipped = skipped} {skipped' = skipped'} outs own low la has ain2 ea g) =
+    let go = to_label m p which w x ls extra ops l (r ∷ lt) (listed r) (listed r) all _ _ e ain (in_block {skipped = skipped} {skipped' = skipped'} outs own low la has ain2 ea g) ops ops extra 0 r all no_more refl e refl l.holds l.holds in
     let fc = go.few in
     let z : length (r ∷ lt) - 1 ≡ length lt = omega arith in
     let vs : List Value = take (arity_of r) ops in
@@ -329,9 +329,9 @@ end_step m p w x ls extra ops l _ _ _ _ _ e ain (in_block {ls = lt} {all = all} 
     let vt : types_of vs ≡ listed r = ap (λ i. types_of (take i ops)) (arity_is r) ∙ sp.0 in
     let kt : types_of kept ≡ all = ap (λ i. types_of (drop i ops)) (arity_is r) ∙ sp.1 in
     let ca : Carried (names m x.f) go.new (length lt) r vs = subst (λ d. Carried (names m x.f) go.new d r vs) z go.then_good.1 in
-    subst (λ os. Quietly m p (cp x ls extra [] (code_of (carry (names m x.f) (r ∷ lt) (types_of ops) 0 no_more)) (block_label 0 0 (code_of (arrive (names m x.f) (length lt) r all (flat (names m x.f) (around m x.f) lt rest (listed r ++ all)))) skipped' ∷ labels')) (steps 0 (running x.s x.fn x.under ls os rest labels))) (take-append-drop (arity_of r) ops)
-    (paid m p _ _ (0 + 1) (go.cost + 1) _ (on p (first_of m) go.cost 0 1 1 _ _ _ go.goes (loud p (first_of m) 0 _ _ refl tt tt))
-    (behind_block m p w x ls go.new vs kept r lt outs own low all rest labels labels' (0 + 1) (go.cost + 1) 0 (go.long ∙ l.size) l.typed ea vt kt (holds_drop (names m x.f) (arity_of r) go.new ops go.then_good.0) ca g la (omega arith) (omega arith)))
-end_step m p w x ls extra ops l _ _ _ _ _ e ain (in_loop {ls = lt} {all = all} {labels = labels} {labels' = labels'} {body = body} {rest = rest} r outs own low la ain2 ea gb g) =
+    subst (λ os. Quietly m p which (cp x ls extra [] (code_of (carry (names m x.f) (r ∷ lt) (types_of ops) 0 no_more)) (block_label 0 0 (code_of (arrive (names m x.f) (length lt) r all (flat (names m x.f) (around m x.f) lt rest (listed r ++ all)))) skipped' ∷ labels')) (steps 0 (running x.s x.fn x.under ls os rest labels))) (take-append-drop (arity_of r) ops)
+    (paid m p which _ _ (0 + 1) (go.cost + 1) _ (on p (first_of m) go.cost 0 1 1 _ _ _ go.goes (loud p (first_of m) 0 _ _ refl tt tt))
+    (behind_block m p which w x ls go.new vs kept r lt outs own low all rest labels labels' (0 + 1) (go.cost + 1) 0 (go.long ∙ l.size) l.typed ea vt kt (holds_drop (names m x.f) (arity_of r) go.new ops go.then_good.0) ca g la (omega arith) (omega arith)))
+end_step m p which w x ls extra ops l _ _ _ _ _ e ain (in_loop {ls = lt} {all = all} {labels = labels} {labels' = labels'} {body = body} {rest = rest} r outs own low la ain2 ea gb g) =
     let ty : types_of ops ≡ (listed r ++ own) ++ low = e ∙ ap (λ z. listed r ++ z) ea ∙ sym (append_assoc (listed r) own low) in
-    it_steps 1 1 _ (loud p (first_of m) 0 _ _ refl tt tt) (omega arith) (omega arith) (again m p w x ls extra ops lt outs (listed r ++ own) low (listed r ++ all) rest labels labels' l ty e g la)
+    it_steps 1 1 _ (loud p (first_of m) 0 _ _ refl tt tt) (omega arith) (omega arith) (again m p which w x ls extra ops lt outs (listed r ++ own) low (listed r ++ all) rest labels labels' l ty e g la)

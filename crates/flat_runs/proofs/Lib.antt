@@ -6,6 +6,7 @@ mod Leaving
 mod PlainSteps
 mod Reductions
 mod ResultMoves
+mod SameSteps
 mod Shapes
 mod Slots
 mod Stretches

@@ -1,5 +1,5 @@
 -- Instructions that hold no other and go on behind themselves.
-use Rattle.std.proofs.Common.{◌≡◌, ◌∙◌, ℕ, zero, suc, ◌+◌, ◌-◌, ◌≤◌, ◌<◌, List, [], ◌∷◌, ◌++◌, length, map, take, drop, reverse, Option, Some, None, refl, sym, ap, subst, arith, length-append, length-drop, length-set}
+use Rattle.std.proofs.Common.{◌≡◌, ◌∙◌, ℕ, zero, suc, ◌+◌, ◌-◌, ◌≤◌, ◌<◌, List, [], ◌∷◌, ◌++◌, length, map, take, drop, reverse, Option, Some, None, refl, sym, ap, subst, arith, length-append, length-drop, length-set, Bool, true}
 use Rattle.std.specs.Prelude.{slice_get, slice_set}
 use Rattle.std.proofs.lemmas.List.{append-nil, length-map, get_or_append_left, set-append_left}
 use Rattle.std.proofs.lemmas.Option.{slice_get_within}
@@ -12,6 +12,7 @@ use Rattle.wa_types.specs.Accesses.{load_row, store_row}
 use Rattle.wa_types.specs.Syntax.{Basic, nop, drop as a_drop, select, const, num, global_get, global_set, load, store, memory_size, memory_grow, Plain, basic, local_get, local_set, local_tee, Code, plain, Func, Module}
 use Rattle.wa_types.specs.Typing.{Around, basic_sig, Takes, type_of, gets, sets as sets_sig, tees}
 use Rattle.wa_types.specs.Modules.{defined_at, locals_of, around}
+use Rattle.wa_types.specs.Pausing.{is_told}
 use Rattle.wa_types.specs.Frames.{SlotPairs}
 use Rattle.wa_model.specs.declared.flat.Operand.TheVariants.{Local}
 use Rattle.wa_model.specs.Store.{Store, value_at, Did, works, fails, lacks, takes, gives, act}
@@ -34,23 +35,24 @@ use Rattle.flat_runs.proofs.Slots.{holds_drop, holds_top, put_top, get_top, type
 use Rattle.flat_runs.proofs.ResultMoves.{sets, has_slot, head_type, tail_types}
 
 -- what stands while an instruction runs
-pub record Ctx (m : Module) : Type 0 where
+pub record Ctx (m : Module) (which : List Bool) (is_flat : Bool) : Type 0 where
   pub s : Store
   pub fits : StoreFits m s
   pub fn : ℕ
+  pub told : is_told (slice_get which fn) ≡ is_flat
   pub f : Func
   pub is : defined_at m fn ≡ Some f
   pub under : List Activation
   pub under' : List Activation
-  pub us : Callers m fn under under'
+  pub us : Callers m which fn under under'
 
-abbrev pub with_store : {m : Module} → Ctx m → (s : Store) → StoreFits m s → Ctx m
-with_store x s fits = record { s = s; fits = fits; fn = x.fn; f = x.f; is = x.is; under = x.under; under' = x.under'; us = x.us }
+abbrev pub with_store : {m : Module} {which : List Bool} {b : Bool} → Ctx m which b → (s : Store) → StoreFits m s → Ctx m which b
+with_store x s fits = record { s = s; fits = fits; fn = x.fn; told = x.told; f = x.f; is = x.is; under = x.under; under' = x.under'; us = x.us }
 
-abbrev pub cq : {m : Module} → Ctx m → (ls ops : List Value) → Code → List Label → Configuration
+abbrev pub cq : {m : Module} {which : List Bool} {b : Bool} → Ctx m which b → (ls ops : List Value) → Code → List Label → Configuration
 cq x ls ops code labels = running x.s x.fn x.under ls ops code labels
 
-abbrev pub cp : {m : Module} → Ctx m → (ls extra ops : List Value) → Code → List Label → Configuration
+abbrev pub cp : {m : Module} {which : List Bool} → Ctx m which true → (ls extra ops : List Value) → Code → List Label → Configuration
 cp x ls extra ops code labels = running x.s x.fn x.under' (ls ++ extra) ops code labels
 
 pub take_same : (k : ℕ) (xs : List Value) → take k (take k xs) ≡ take k xs
@@ -63,20 +65,20 @@ drop_same zero xs = refl
 drop_same (suc k) [] = refl
 drop_same (suc k) (x ∷ xs) = drop_same k xs
 
-module _ (m p : Module) (w : Flattened m p) where
+module _ (m p : Module) (which : List Bool) (w : Flattened m p which) where
   pub long_ls : (f : Func) (ls extra ops : List Value) → Locals m f ls extra ops → length ls ≡ (names m f).first
   long_ls f ls extra ops l = sym (length-map ls type_of) ∙ ap length l.typed
 
   -- a configuration of code that is good
-  pub again : (x : Ctx m) (ls extra ops : List Value) (lt : List (Option ValType)) (outs own low types : List ValType) (code : Code) (labels labels' : List Label) → Locals m x.f ls extra ops → types_of ops ≡ own ++ low → types_of ops ≡ types
+  pub again : (x : Ctx m which true) (ls extra ops : List Value) (lt : List (Option ValType)) (outs own low types : List ValType) (code : Code) (labels labels' : List Label) → Locals m x.f ls extra ops → types_of ops ≡ own ++ low → types_of ops ≡ types
       → Good (names m x.f) (around m x.f) lt code outs own low → Labels (names m x.f) (around m x.f) lt outs low labels labels'
-      → Beside m (cq x ls ops code labels) (cp x ls extra [] (code_of (flat (names m x.f) (around m x.f) lt code types)) labels')
+      → Beside m which (cq x ls ops code labels) (cp x ls extra [] (code_of (flat (names m x.f) (around m x.f) lt code types)) labels')
   again x ls extra ops lt outs own low types code labels labels' l e et g la =
-      subst (λ ts. Beside m (cq x ls ops code labels) (cp x ls extra [] (code_of (flat (names m x.f) (around m x.f) lt code ts)) labels')) et
-      (beside x.fits x.is x.us l (record { ls = lt; outs = outs; own = own; low = low; are = e; good = g; labelled = la; stands = refl }))
+      subst (λ ts. Beside m which (cq x ls ops code labels) (cp x ls extra [] (code_of (flat (names m x.f) (around m x.f) lt code ts)) labels')) et
+      (beside x.fits x.told x.is x.us l (record { ls = lt; outs = outs; own = own; low = low; are = e; good = g; labelled = la; stands = refl }))
 
   -- an instruction that touches only its own operands and the store
-  module _ (x : Ctx m) (ls extra ops : List Value) (l : Locals m x.f ls extra ops) (lt : List (Option ValType)) (outs own mids low : List ValType) (b : Basic) (rest : Code) (labels labels' : List Label) where
+  module _ (x : Ctx m which true) (ls extra ops : List Value) (l : Locals m x.f ls extra ops) (lt : List (Option ValType)) (outs own mids low : List ValType) (b : Basic) (rest : Code) (labels labels' : List Label) where
     abbrev n : Names
     n = names m x.f
 
@@ -112,17 +114,17 @@ module _ (m p : Module) (w : Flattened m p) where
         ∙ ap (did x.fn x.under' (ls ++ extra) labels' set_code x.s []) e
 
     same_act : SameAct (cq x ls ops (plain (basic b) rest) labels) (cp x ls extra args (plain (basic b) set_code) labels')
-    same_act = record { instruction = b; rest = rest; rest' = set_code; original = refl; flat_one = refl; operands = refl; same_store = refl }
+    same_act = record { instruction = b; rest = rest; rest' = set_code; original = refl; flat_one = refl; operands = take_same (takes b) ops; same_store = refl }
 
     by_act : types_of ops ≡ own ++ low → Takes (basic_sig (around m x.f) b) own mids → Good n (around m x.f) lt rest outs mids low → Labels n (around m x.f) lt outs low labels labels' → takes b ≤ length ops
         → (o : Did) → act (memory_max m) b x.s args ≡ o → DidFits m (mids ++ low) (drop (takes b) ops) o
-        → Follows m p (cq x ls ops (plain (basic b) rest) labels) (cp x ls extra [] (all_got (map Local (reverse (take (takes b) (slots n (types_of ops))))) (plain (basic b) set_code)) labels') (did x.fn x.under ls labels rest x.s (drop (takes b) ops) o)
+        → Follows m p which (cq x ls ops (plain (basic b) rest) labels) (cp x ls extra [] (all_got (map Local (reverse (take (takes b) (slots n (types_of ops))))) (plain (basic b) set_code)) labels') (did x.fn x.under ls labels rest x.s (drop (takes b) ops) o)
     by_act e t g la le (works s' vs) ea fits =
         let few : length (take (takes b) (slots n (types_of ops))) ≤ takes b = take_few (takes b) (slots n (types_of ops)) in
         let three : takes b ≤ 3 = takes_few b in
         let lv : length vs ≡ gives b = long_results vs e t le fits.1 in
         let one : gives b ≤ 1 = gives_few b in
-        let y : Ctx m = with_store x s' fits.0 in
+        let y : Ctx m which true = with_store x s' fits.0 in
         let set_it = sets n ls (long_ls x.f ls extra ops l) p (first_of m) s' x.fn x.under' labels' vs (drop (takes b) ops) extra (mids ++ low) after_code (omega arith) (sym fits.1) (good_in n (around m x.f) lt rest outs mids low g)
         (let z = l.size in omega arith) (holds_drop n (takes b) extra ops l.holds) in
         let after : Configuration = cp y ls extra vs (set_to (top_of n (length vs) (mids ++ low)) after_code) labels' in
@@ -155,7 +157,7 @@ module _ (m p : Module) (w : Flattened m p) where
   takes_long c memory_size own mids h = omega arith
   takes_long c memory_grow own mids h = let r = memory_moves c.memory (I32 ∷ []) (I32 ∷ []) own mids h in let i : length own ≡ suc (length r.0) = ap length r.1 in omega arith
 
-  module _ (x : Ctx m) (ls extra ops : List Value) (l : Locals m x.f ls extra ops) (lt : List (Option ValType)) (outs own mids low : List ValType) (rest : Code) (labels labels' : List Label) (e : types_of ops ≡ own ++ low)
+  module _ (x : Ctx m which true) (ls extra ops : List Value) (l : Locals m x.f ls extra ops) (lt : List (Option ValType)) (outs own mids low : List ValType) (rest : Code) (labels labels' : List Label) (e : types_of ops ≡ own ++ low)
       (g : Good (names m x.f) (around m x.f) lt rest outs mids low) (la : Labels (names m x.f) (around m x.f) lt outs low labels labels') where
     abbrev nn : Names
     nn = names m x.f
@@ -167,9 +169,9 @@ module _ (m p : Module) (w : Flattened m p) where
     rest_code = code_of (flat nn (around m x.f) lt rest (mids ++ low))
 
     abbrev F : Plain → Type 0
-    F i = Quietly m p (cp x ls extra [] (flat_code i) labels') (step_plain m x.s x.fn x.under ls ops labels rest i)
+    F i = Quietly m p which (cp x ls extra [] (flat_code i) labels') (step_plain m x.s x.fn x.under ls ops labels rest i)
 
-    pub basic_step : (b : Basic) → Takes (basic_sig (around m x.f) b) own mids → Follows m p (cq x ls ops (plain (basic b) rest) labels) (cp x ls extra [] (flat_code (basic b)) labels') (step_plain m x.s x.fn x.under ls ops labels rest (basic b))
+    pub basic_step : (b : Basic) → Takes (basic_sig (around m x.f) b) own mids → Follows m p which (cq x ls ops (plain (basic b) rest) labels) (cp x ls extra [] (flat_code (basic b)) labels') (step_plain m x.s x.fn x.under ls ops labels rest (basic b))
     unfolding code_of followed_by
     basic_step b t =
         let le : takes b ≤ length ops = let k = takes_long (around m x.f) b own mids t in let c : length ops ≡ length own + length low = sym (types_long ops) ∙ ap length e ∙ length-append own low in omega arith in
@@ -187,7 +189,7 @@ module _ (m p : Module) (w : Flattened m p) where
     get_step y t = by (slice_get (locals_of m x.f) y) refl t
       where
         by : (o : Option ValType) → slice_get (locals_of m x.f) y ≡ o → Takes (gets o) own mids
-            → Quietly m p (cp x ls extra [] (code_of (flat_plain (names m x.f) (around m x.f) lt (types_of ops) (mids ++ low) (local_get y) (flat (names m x.f) (around m x.f) lt rest (mids ++ low)))) labels') (step_plain m x.s x.fn x.under ls ops labels rest (local_get y))
+            → Quietly m p which (cp x ls extra [] (code_of (flat_plain (names m x.f) (around m x.f) lt (types_of ops) (mids ++ low) (local_get y) (flat (names m x.f) (around m x.f) lt rest (mids ++ low)))) labels') (step_plain m x.s x.fn x.under ls ops labels rest (local_get y))
         by None ey t = absurd t
         by (Some u) ey t =
             let v : Value = value_at ls y in
@@ -225,7 +227,7 @@ module _ (m p : Module) (w : Flattened m p) where
     set_step y t = by (slice_get (locals_of m x.f) y) refl t ops refl
       where
         by : (o : Option ValType) → slice_get (locals_of m x.f) y ≡ o → Takes (sets_sig o) own mids → (os : List Value) → ops ≡ os
-            → Quietly m p (cp x ls extra [] (plain (local_get (top (names m x.f) (types_of ops))) (plain (local_set y) (code_of (flat (names m x.f) (around m x.f) lt rest (mids ++ low))))) labels') (step_plain m x.s x.fn x.under ls os labels rest (local_set y))
+            → Quietly m p which (cp x ls extra [] (plain (local_get (top (names m x.f) (types_of ops))) (plain (local_set y) (code_of (flat (names m x.f) (around m x.f) lt rest (mids ++ low))))) labels') (step_plain m x.s x.fn x.under ls os labels rest (local_set y))
         by None ey t os eo = absurd t
         by (Some u) ey t [] eo = it_is_stuck
         by (Some u) ey t (v ∷ os) eo =
@@ -240,7 +242,7 @@ module _ (m p : Module) (w : Flattened m p) where
     tee_step y t = by (slice_get (locals_of m x.f) y) refl t ops refl
       where
         by : (o : Option ValType) → slice_get (locals_of m x.f) y ≡ o → Takes (tees o) own mids → (os : List Value) → ops ≡ os
-            → Quietly m p (cp x ls extra [] (plain (local_get (top (names m x.f) (types_of ops))) (plain (local_set y) (code_of (flat (names m x.f) (around m x.f) lt rest (mids ++ low))))) labels') (step_plain m x.s x.fn x.under ls os labels rest (local_tee y))
+            → Quietly m p which (cp x ls extra [] (plain (local_get (top (names m x.f) (types_of ops))) (plain (local_set y) (code_of (flat (names m x.f) (around m x.f) lt rest (mids ++ low))))) labels') (step_plain m x.s x.fn x.under ls os labels rest (local_tee y))
         by None ey t os eo = absurd t
         by (Some u) ey t [] eo = it_is_stuck
         by (Some u) ey t (v ∷ os) eo =

@@ -1,32 +1,25 @@
 -- Reductions in a row, the host's calls and the imports' answers.
-use Rattle.std.proofs.Common.{◌≡◌, ◌∙◌, ℕ, suc, ◌+◌, ◌≤◌, List, [], ◌∷◌, ◌++◌, length, Some, true, refl, sym, ap, subst, arith}
-use Rattle.std.proofs.lemmas.List.{append-nil, map-append}
+use Rattle.std.proofs.Common.{◌≡◌, ℕ, suc, ◌+◌, ◌≤◌, List, [], Some, true, refl, sym, subst, arith, Bool}
 use Rattle.wa_types.specs.declared.values.Value.{Value}
 use Rattle.wa_types.specs.Syntax.{Basic, basic, Code, plain, Func, Module}
-use Rattle.wa_types.specs.Typing.{type_of}
-use Rattle.wa_types.specs.Modules.{func_type_at, defined_at, around}
+use Rattle.wa_types.specs.Modules.{func_type_at, defined_at}
 use Rattle.wa_model.specs.Machine.{Leads, stays as stands_still, moves}
 use Rattle.wa_model.specs.Store.{Store}
-use Rattle.wa_model.specs.Configuration.{Activation, Configuration, running}
-use Rattle.wa_model.specs.Step.{Next, steps, entered, result_count, step}
+use Rattle.wa_model.specs.Configuration.{Configuration}
+use Rattle.wa_model.specs.Step.{Next, steps, entered, step}
 use Rattle.wa_model.specs.Blocking.{Note, resumed}
 use Rattle.wa_model.specs.Alone.{alone, Goes}
-use Rattle.wa_model.specs.Flat.{code_of, set_to}
 use Rattle.wa_model.specs.Fitting.{types_of, StoreFits, results_of}
 use Rattle.wa_model.proofs.Alone as A
-use Rattle.flat_laws.specs.Flatten.{names, top_of}
-use Rattle.flat_laws.specs.Placed.{AllIn}
-use Rattle.flat_runs.specs.Beside.{Loud, Stretch, stays, counts, skips, Still, stands, loudly, softly, first_of, Spot, Locals, Callers, host, above, Beside, beside, Asked}
+use Rattle.flat_runs.specs.Beside.{Loud, Stretch, stays, counts, skips, Still, stands, loudly, softly, first_of, host, Beside, Asked}
 use Rattle.flat_runs.proofs.Follows.{Quietly, it_steps, it_asks, it_returns, it_traps, it_is_stuck, Follows, quietly, works_too, fails_too}
-use Rattle.flat_laws.specs.FlatModule.{IsFlat, Flattened}
+use Rattle.flat_laws.specs.FlatModule.{Flattened, IsPlaced}
 use Rattle.flat_runs.specs.Laws.{FollowsFar, Comes}
-use Rattle.flat_runs.proofs.Slots.{types_long, holds_behind}
-use Rattle.flat_runs.proofs.ResultMoves.{sets}
-use Rattle.flat_laws.proofs.OperandTypes.{good_in}
-use Rattle.flat_runs.proofs.PlainSteps.{long_ls}
-use Rattle.flat_runs.proofs.Leaving.{count_is, few_results}
+use Rattle.flat_runs.proofs.Leaving.{answered}
 use Rattle.flat_runs.proofs.CallSteps.{begins}
 use Rattle.flat_runs.proofs.EachReduction.{each_step}
+use Rattle.wa_types.specs.Pausing.{is_told}
+use Rattle.std.specs.Prelude.{slice_get}
 
 pub stretch_goes : (p : Module) (first : ℕ → ℕ) (c d : Configuration) (cost lean : ℕ) → Stretch p first c cost lean d → Goes p c cost d × (lean ≤ cost)
 stretch_goes p first c _ _ _ stays = (stands_still, omega arith)
@@ -54,15 +47,15 @@ far p first j a k b c d e (skips {d = d1} {k = k1} {n = n} {l = l} s x ec) y = s
 acts_loud : (first : ℕ) (code rest : Code) (b : Basic) → code ≡ plain (basic b) rest → Loud first code
 acts_loud first code rest b e = subst (Loud first) (sym e) tt
 
-module _ (m p : Module) (w : Flattened m p) where
-  stepped : (c c' : Configuration) (k : ℕ) (d : Configuration) (o : Next) → o ≡ steps k d → Follows m p c c' o → FollowsFar m p c' (suc k) d
-  stepped c c' k d _ e (quietly h) = by _ e h
+module _ (m p : Module) (which : List Bool) (w : Flattened m p which) where
+  stepped : (c c' : Configuration) (k : ℕ) (d : Configuration) (o : Next) → o ≡ steps k d → Follows m p which c c' o → FollowsFar m p which c' (suc k) d
+  stepped c c' k d _ e (quietly qc h) = by _ e h
     where
-      by : (o : Next) → o ≡ steps k d → Quietly m p c' o → FollowsFar m p c' (suc k) d
+      by : (o : Next) → o ≡ steps k d → Quietly m p which c' o → FollowsFar m p which c' (suc k) d
       by _ e (it_steps {k = k1} {d = d1} cost lean to go le mo be) =
           let ek : k1 ≡ k = cc in
           let ed : d1 ≡ d = cc in
-          subst (λ z. FollowsFar m p c' (suc z) d) ek (subst (λ z. FollowsFar m p c' (suc k1) z) ed (record { cost = cost; lean = lean; to = to; goes = still_goes p (first_of m) c' to cost lean go; least = le; most = mo; both = be }))
+          subst (λ z. FollowsFar m p which c' (suc z) d) ek (subst (λ z. FollowsFar m p which c' (suc k1) z) ed (record { cost = cost; lean = lean; to = to; goes = still_goes p (first_of m) c' to cost lean go; least = le; most = mo; both = be }))
       by _ e (it_asks cost lean j at to st q a l c ask) = cc
       by _ e (it_returns cost lean j at st q a l c) = cc
       by _ e (it_traps cost lean j at st q a l c) = cc
@@ -71,7 +64,7 @@ module _ (m p : Module) (w : Flattened m p) where
       let ek : k1 ≡ k = cc in
       let ed : d1 ≡ d = cc in
       let acts : Stretch p (first_of m) at (suc j) (suc j) after = counts a (acts_loud (first_of m at.here.func) at.here.code sa.rest' sa.instruction sa.flat_one) stays (omega arith) (omega arith) in
-      subst (λ z. FollowsFar m p c' (suc z) d) ek (subst (λ z. FollowsFar m p c' (suc k1) z) ed
+      subst (λ z. FollowsFar m p which c' (suc z) d) ek (subst (λ z. FollowsFar m p which c' (suc k1) z) ed
       (record {
         cost = n1 + (suc j + n2);
         lean = l1 + (suc j + l2);
@@ -83,37 +76,18 @@ module _ (m p : Module) (w : Flattened m p) where
       }))
   stepped c c' k d _ e (fails_too n1 l1 j at st sa a l mo) = cc
 
-  pub each_stretch : (c c' d : Configuration) (n : ℕ) (es : List Note) → Beside m c c' → Leads (alone (λ c. true) m) c n es d → FollowsFar m p c' n d
+  pub each_stretch : (c c' d : Configuration) (n : ℕ) (es : List Note) → Beside m which c c' → Leads (alone (λ c. true) m) c n es d → FollowsFar m p which c' n d
   each_stretch c c' _ _ _ be stands_still = record { cost = 0; lean = 0; to = c'; goes = stays; least = omega arith; most = omega arith; both = be }
   each_stretch c c' d _ _ be (moves {t = t} {k = k} {n = n} {m = all} {es = es} {fs = fs} e rest em eg) =
-      let one = stepped c c' k t (step m c) (A.moved_alone (λ c. true) m c k es t e) (each_step m p w c c' be) in
+      let one = stepped c c' k t (step m c) (A.moved_alone (λ c. true) m c k es t e) (each_step m p which w c c' be) in
       let ih = each_stretch t one.to d n fs one.both rest in
       let l1 = one.least in let l2 = ih.least in let m1 = one.most in let m2 = ih.most in
       record { cost = one.cost + ih.cost; lean = one.lean + ih.lean; to = ih.to; goes = far p (first_of m) one.cost one.lean ih.cost ih.lean _ _ _ one.goes ih.goes; least = omega arith; most = omega arith; both = ih.both }
 
-  pub calls_begin : (s : Store) (args : List Value) (g : ℕ) (h h' : Func) → StoreFits m s → defined_at m g ≡ Some h → defined_at p g ≡ Some h' → types_of args ≡ (func_type_at m g).params → Comes m p (entered s [] args g h) (entered s [] args g h') 1
+  pub calls_begin : (s : Store) (args : List Value) (g : ℕ) (h h' : Func) → StoreFits m s → defined_at m g ≡ Some h → defined_at p g ≡ Some h' → types_of args ≡ (func_type_at m g).params → Comes m p which (entered s [] args g h) (entered s [] args g h') 1
   calls_begin s args g h h' fits e e' et =
-      let b = begins m p w s fits g h h' [] [] args e (subst (IsFlat m g h) e' (w.flats g h e)) host et in
-      record { cost = 1; lean = 1; to = b.to; goes = b.goes; few = omega arith; both = b.both }
+      let b = begins m p which w s fits g h h' [] [] args e (subst (IsPlaced (is_told (slice_get which g)) m g h) e' (w.placed g h e)) host et in
+      record { cost = b.cost; lean = b.lean; to = b.to; goes = b.goes; few = b.few; both = b.both }
 
-  answered : (s : Store) (g : ℕ) (values : List Value) → StoreFits m s → types_of values ≡ results_of m g → (a a' : Activation) (under under' : List Activation) → Callers m g (a ∷ under) (a' ∷ under')
-      → Comes m p (running s a.func under a.locals (values ++ a.operands) a.code a.labels) (running s a'.func under' a'.locals (values ++ a'.operands) a'.code a'.labels) 1
-  answered s g vs fits et _ _ under under' (above {fn = fn} {f = f} {ls = ls} {extra = extra} {ops = ops1} {taken = taken} {code = code} {labels = labels} {labels' = labels'} {stmts = stmts} is us lt sp) =
-      let l : Locals m f ls extra ops1 = record { typed = lt.typed; size = lt.size; holds = holds_behind (names m f) extra taken ops1 lt.holds } in
-      let types : types_of (vs ++ ops1) ≡ results_of m g ++ types_of ops1 = map-append type_of vs ops1 ∙ ap (λ z. z ++ types_of ops1) et in
-      let lv : length vs ≡ result_count m g = sym (types_long vs) ∙ ap length et ∙ sym (count_is m p w g) in
-      let size = l.size in
-      let few = few_results m p w g in
-      let c = count_is m p w g in
-      let ain : AllIn (names m f) (results_of m g ++ types_of ops1) = subst (AllIn (names m f)) (sym sp.are) (good_in (names m f) (around m f) sp.ls code sp.outs sp.own sp.low sp.good) in
-      let set_it = sets (names m f) ls (long_ls m p w f ls extra ops1 l) p (first_of m) s fn under' labels' vs ops1 extra (results_of m g ++ types_of ops1) (code_of stmts) (omega arith) (sym types) ain (omega arith) l.holds in
-      let l' : Locals m f ls set_it.new (vs ++ ops1) = record { typed = l.typed; size = set_it.long ∙ l.size; holds = set_it.then_good } in
-      let spot : Spot m f (types_of (vs ++ ops1)) code labels stmts labels' = subst (λ ts. Spot m f ts code labels stmts labels') (sym types) sp in
-      let to : Configuration = running s fn under' (ls ++ set_it.new) [] (code_of stmts) labels' in
-      let st : Still p (first_of m) (running s fn under' (ls ++ extra) (vs ++ []) (set_to (top_of (names m f) (result_count m g) (results_of m g ++ types_of ops1)) (code_of stmts)) labels') set_it.cost 0 to =
-      subst (λ us2. Still p (first_of m) (running s fn under' (ls ++ extra) us2 (set_to (top_of (names m f) (result_count m g) (results_of m g ++ types_of ops1)) (code_of stmts)) labels') set_it.cost 0 to) (sym (append-nil vs))
-      (subst (λ j. Still p (first_of m) (running s fn under' (ls ++ extra) vs (set_to (top_of (names m f) j (results_of m g ++ types_of ops1)) (code_of stmts)) labels') set_it.cost 0 to) lv set_it.goes) in
-      record { cost = set_it.cost; lean = 0; to = to; goes = st; few = set_it.few; both = beside fits is us l' spot }
-
-  pub answers_go_on : (s : Store) (g : ℕ) (d to : Configuration) (values : List Value) → StoreFits m s → Asked m g d to → types_of values ≡ results_of m g → Comes m p (resumed d s values) (resumed to s values) 1
-  answers_go_on s g d to values fits ask et = answered s g values fits et d.here to.here d.under to.under ask.waits
+  pub answers_go_on : (s : Store) (g : ℕ) (d to : Configuration) (values : List Value) → StoreFits m s → Asked m which g d to → types_of values ≡ results_of m g → Comes m p which (resumed d s values) (resumed to s values) 1
+  answers_go_on s g d to values fits ask et = answered m p which w s g values fits et d.here to.here d.under to.under ask.waits

@@ -11,7 +11,7 @@ use Rattle.wa_model.specs.Configuration.{Label, block_label, loop_label, Activat
 use Rattle.wa_model.specs.Step.{Next, steps, traps, leave, jump, finish, choose, with_top, with_number, invoke, through, param_count, same_func_type, step_plain, step_at, step}
 use Rattle.wa_model.specs.Untouched.{access_in, next_access}
 use Rattle.flat_laws.specs.FlatModule.{Flattened}
-use Rattle.flat_runs.specs.Beside.{first_of, Loud, IsQuiet, Still, stands, loudly, softly, Beside, beside, SameAct}
+use Rattle.flat_runs.specs.Beside.{first_of, Loud, IsQuiet, Still, stands, loudly, softly, Beside, beside, beside_same, SameAct}
 use Rattle.flat_runs.specs.Reducing.{Counted, whole, nothing, FlatSteps, FlatNext}
 use Rattle.flat_runs.proofs.Follows.{Quietly, it_steps, it_asks, it_returns, it_traps, it_is_stuck, Follows, quietly, works_too, fails_too}
 use Rattle.flat_runs.proofs.EachReduction.{each_step}
@@ -133,7 +133,7 @@ taken_access memory_grow ops = refl
 
 pub same_access : (c at : Configuration) → SameAct c at → next_access at ≡ next_access c
 same_access c at sa =
-    ap (access_in at.here.operands) sa.flat_one ∙ ap (accessed sa.instruction) sa.operands ∙ taken_access sa.instruction c.here.operands
+    ap (access_in at.here.operands) sa.flat_one ∙ sym (taken_access sa.instruction at.here.operands) ∙ ap (accessed sa.instruction) sa.operands ∙ taken_access sa.instruction c.here.operands
     ∙ sym (ap (access_in c.here.operands) sa.original)
 
 -- ---- the last of quiet reductions
@@ -195,15 +195,16 @@ module _ (p : Module) (first : ℕ → ℕ) where
 
 -- ---- the shapes
 
-same_stores : (m : Module) (d to : Configuration) → Beside m d to → to.store ≡ d.store
-same_stores m d to be = by d to be
+same_stores : (m : Module) (which : List Bool) (d to : Configuration) → Beside m which d to → to.store ≡ d.store
+same_stores m which d to be = by d to be
   where
-    by : (d to : Configuration) → Beside m d to → to.store ≡ d.store
-    by _ _ (beside fits is us l sp) = refl
+    by : (d to : Configuration) → Beside m which d to → to.store ≡ d.store
+    by _ _ (beside fits told is us l sp) = refl
+    by _ _ (beside_same fits told is us act) = refl
 
-module _ (m p : Module) (w : Flattened m p) where
-  by_last : (c f : Configuration) (k : ℕ) (d : Configuration) (cost lean : ℕ) (to : Configuration) → suc k ≤ lean → cost ≤ 16 * suc k → Beside m d to → Last p (first_of m) f cost lean to ⊎ NoneLeft f cost lean to → FlatSteps m p c f k d
-  by_last c f k d cost lean to le mo be (inl z) =
+module _ (m p : Module) (which : List Bool) (w : Flattened m p which) where
+  by_last : (c f : Configuration) → IsQuiet c.here.code → (k : ℕ) (d : Configuration) (cost lean : ℕ) (to : Configuration) → suc k ≤ lean → cost ≤ 16 * suc k → Beside m which d to → Last p (first_of m) f cost lean to ⊎ NoneLeft f cost lean to → FlatSteps m p which c f k d
+  by_last c f qc k d cost lean to le mo be (inl z) =
       let a = z.all in
       let b = z.all_lean in
       let short = still_short p (first_of m) f z.mid z.n z.l z.before in
@@ -216,8 +217,8 @@ module _ (m p : Module) (w : Flattened m p) where
         j = z.j;
         after = to;
         acts = z.acts;
-        act = inl z.quiet;
-        store = same_stores m d to be;
+        act = inl (qc, z.quiet);
+        store = same_stores m which d to be;
         lean = z.here;
         counted = z.counted;
         n2 = 0;
@@ -233,17 +234,17 @@ module _ (m p : Module) (w : Flattened m p) where
       counted_short : (first : ℕ → ℕ) (c : Configuration) (k l : ℕ) → Counted first c k l → l ≤ k
       counted_short first c k _ (whole lo) = omega arith
       counted_short first c k _ nothing = omega arith
-  by_last c f k d cost lean to le mo be (inr z) = let b = z.none_lean in absurd (omega arith)
+  by_last c f qc k d cost lean to le mo be (inr z) = let b = z.none_lean in absurd (omega arith)
 
-  quiet_shape : (c f : Configuration) (o : Next) → Quietly m p f o → FlatNext m p c f o
-  quiet_shape c f _ (it_steps {k = k} {d = d} cost lean to go le mo be) = by_last c f k d cost lean to le mo be (last_is p (first_of m) f to cost lean go)
-  quiet_shape c f _ (it_asks cost lean j at to go q e le mo ask) = record { n = cost; l = lean; at = at; before = go; act = inl q; j = j; ends = (to, e, ask); least = le; most = mo }
-  quiet_shape c f _ (it_returns cost lean j at go q e le mo) = record { n = cost; l = lean; at = at; before = go; act = inl q; j = j; ends = e; least = le; most = mo }
-  quiet_shape c f _ (it_traps cost lean j at go q e le mo) = record { n = cost; l = lean; at = at; before = go; act = inl q; j = j; ends = e; least = le; most = mo }
-  quiet_shape c f _ it_is_stuck = tt
+  quiet_shape : (c f : Configuration) → IsQuiet c.here.code → (o : Next) → Quietly m p which f o → FlatNext m p which c f o
+  quiet_shape c f qc _ (it_steps {k = k} {d = d} cost lean to go le mo be) = by_last c f qc k d cost lean to le mo be (last_is p (first_of m) f to cost lean go)
+  quiet_shape c f qc _ (it_asks cost lean j at to go q e le mo ask) = record { n = cost; l = lean; at = at; before = go; act = inl (qc, q); j = j; ends = (to, e, ask); least = le; most = mo }
+  quiet_shape c f qc _ (it_returns cost lean j at go q e le mo) = record { n = cost; l = lean; at = at; before = go; act = inl (qc, q); j = j; ends = e; least = le; most = mo }
+  quiet_shape c f qc _ (it_traps cost lean j at go q e le mo) = record { n = cost; l = lean; at = at; before = go; act = inl (qc, q); j = j; ends = e; least = le; most = mo }
+  quiet_shape c f qc _ it_is_stuck = tt
 
-  shape : (c f : Configuration) (o : Next) → Follows m p c f o → FlatNext m p c f o
-  shape c f _ (quietly {o = o} h) = quiet_shape c f o h
+  shape : (c f : Configuration) (o : Next) → Follows m p which c f o → FlatNext m p which c f o
+  shape c f _ (quietly {o = o} qc h) = quiet_shape c f qc o h
   shape c f _ (works_too {d = d} n1 l1 at st sa j after a n2 l2 to go le mo be) =
       let short = still_short p (first_of m) f at n1 l1 st in
       record {
@@ -255,7 +256,7 @@ module _ (m p : Module) (w : Flattened m p) where
         after = after;
         acts = a;
         act = inr sa;
-        store = sym (still_store p (first_of m) after to n2 l2 go) ∙ same_stores m d to be;
+        store = sym (still_store p (first_of m) after to n2 l2 go) ∙ same_stores m which d to be;
         lean = suc j;
         counted = whole (subst (Loud (first_of m at.here.func)) (sym sa.flat_one) tt);
         n2 = n2;
@@ -269,5 +270,5 @@ module _ (m p : Module) (w : Flattened m p) where
       }
   shape c f _ (fails_too n1 l1 j at st sa e le mo) = record { n = n1; l = l1; at = at; before = st; act = inr sa; j = j; ends = e; least = le; most = mo }
 
-  pub each_reduction : (c f : Configuration) → Beside m c f → FlatNext m p c f (step m c)
-  each_reduction c f be = shape c f (step m c) (each_step m p w c f be)
+  pub each_reduction : (c f : Configuration) → Beside m which c f → FlatNext m p which c f (step m c)
+  each_reduction c f be = shape c f (step m c) (each_step m p which w c f be)

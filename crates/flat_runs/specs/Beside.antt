@@ -1,16 +1,17 @@
 -- How the flat code stands beside the original: one reduction of the original is a stretch of the flat code.
-use Rattle.std.specs.Prelude.{◌≡◌, ◌<◌, ℕ, suc, ◌+◌, ◌++◌, List, [], ◌∷◌, length, take, Option, Some, None}
+use Rattle.std.specs.Prelude.{◌≡◌, ◌<◌, ℕ, suc, ◌+◌, ◌++◌, List, [], ◌∷◌, length, take, Option, Some, None, Bool, true, false, slice_get}
 use Rattle.wa_types.specs.declared.values.ValType.{ValType}
 use Rattle.wa_types.specs.declared.values.Value.{Value}
 use Rattle.wa_types.specs.Syntax.{Basic, basic, local_get, local_set, Code, done, plain, Func, Module}
 use Rattle.wa_types.specs.Typing.{Around, listed, type_of}
+use Rattle.wa_types.specs.Pausing.{is_told}
 use Rattle.wa_types.specs.Modules.{defined_at, locals_of, around}
 use Rattle.wa_types.specs.Frames.{SlotPairs, ResultPairs}
 use Rattle.wa_model.specs.Store.{Store, takes, value_at}
 use Rattle.wa_model.specs.Configuration.{Label, block_label, loop_label, Activation, Configuration, running, waiting}
 use Rattle.wa_model.specs.Step.{steps, arity_of, result_count, step}
 use Rattle.wa_model.specs.Flat.{Stmts, code_of, set_to, result_got}
-use Rattle.wa_model.specs.Fitting.{types_of, StoreFits, results_of}
+use Rattle.wa_model.specs.Fitting.{types_of, StoreFits, ActFits, results_of}
 use Rattle.flat_laws.specs.Placed.{AllIn, HasResult, Good}
 use Rattle.flat_laws.specs.Flatten.{Names, names, place, top_of, arrive, flat, result_of}
 
@@ -82,24 +83,32 @@ pub record Locals (m : Module) (f : Func) (ls extra ops : List Value) : Type 0 w
   pub size : length extra ≡ length (SlotPairs m f) + length (ResultPairs m f)
   pub holds : Holds (names m f) extra ops
 
--- Activations that wait for the results of function g. The flat one waits with no operand below what the call took. All
--- operands just before the call, those that it took included, still stand in their slots.
-pub data Callers (m : Module) : (g : ℕ) → (under under' : List Activation) → Type 0 where
-  host : {g : ℕ} → Callers m g [] []
+-- Activations that wait for the results of function g. A flat one waits with no operand below what the call took. All
+-- operands just before the call, those that it took included, still stand in their slots. One of a function that stays is the
+-- original's.
+pub data Callers (m : Module) (which : List Bool) : (g : ℕ) → (under under' : List Activation) → Type 0 where
+  host : {g : ℕ} → Callers m which g [] []
   above : {g fn : ℕ} {f : Func} {under under' : List Activation} {ls extra ops taken : List Value} {code : Code} {labels labels' : List Label} {stmts : Stmts}
-      → defined_at m fn ≡ Some f → Callers m fn under under' → Locals m f ls extra (taken ++ ops) → Spot m f (results_of m g ++ types_of ops) code labels stmts labels'
-      → Callers m g (waiting fn ls ops taken code labels ∷ under) (waiting fn (ls ++ extra) [] taken (set_to (top_of (names m f) (result_count m g) (results_of m g ++ types_of ops)) (code_of stmts)) labels' ∷ under')
+      → is_told (slice_get which fn) ≡ true → defined_at m fn ≡ Some f → Callers m which fn under under' → Locals m f ls extra (taken ++ ops) → Spot m f (results_of m g ++ types_of ops) code labels stmts labels'
+      → Callers m which g (waiting fn ls ops taken code labels ∷ under) (waiting fn (ls ++ extra) [] taken (set_to (top_of (names m f) (result_count m g) (results_of m g ++ types_of ops)) (code_of stmts)) labels' ∷ under')
+  above_same : {g fn : ℕ} {f : Func} {under under' : List Activation} {ls ops taken : List Value} {code : Code} {labels : List Label}
+      → is_told (slice_get which fn) ≡ false → defined_at m fn ≡ Some f → Callers m which fn under under' → ActFits m fn ls code labels (results_of m g ++ types_of ops)
+      → Callers m which g (waiting fn ls ops taken code labels ∷ under) (waiting fn ls ops taken code labels ∷ under')
 
-pub data Beside (m : Module) : Configuration → Configuration → Type 0 where
+-- A configuration of the original and one of the module in which the told functions are flat.
+pub data Beside (m : Module) (which : List Bool) : Configuration → Configuration → Type 0 where
   beside : {s : Store} {fn : ℕ} {f : Func} {under under' : List Activation} {ls extra ops : List Value} {code : Code} {labels labels' : List Label} {stmts : Stmts}
-      → StoreFits m s → defined_at m fn ≡ Some f → Callers m fn under under' → Locals m f ls extra ops → Spot m f (types_of ops) code labels stmts labels'
-      → Beside m (running s fn under ls ops code labels) (running s fn under' (ls ++ extra) [] (code_of stmts) labels')
+      → StoreFits m s → is_told (slice_get which fn) ≡ true → defined_at m fn ≡ Some f → Callers m which fn under under' → Locals m f ls extra ops → Spot m f (types_of ops) code labels stmts labels'
+      → Beside m which (running s fn under ls ops code labels) (running s fn under' (ls ++ extra) [] (code_of stmts) labels')
+  beside_same : {s : Store} {fn : ℕ} {f : Func} {under under' : List Activation} {ls ops : List Value} {code : Code} {labels : List Label}
+      → StoreFits m s → is_told (slice_get which fn) ≡ false → defined_at m fn ≡ Some f → Callers m which fn under under' → ActFits m fn ls code labels (types_of ops)
+      → Beside m which (running s fn under ls ops code labels) (running s fn under' ls ops code labels)
 
 -- both wait for the results of import g
-pub record Asked (m : Module) (g : ℕ) (d to : Configuration) : Type 0 where
+pub record Asked (m : Module) (which : List Bool) (g : ℕ) (d to : Configuration) : Type 0 where
   pub same_store : to.store ≡ d.store
   pub store : StoreFits m d.store
-  pub waits : Callers m g (d.here ∷ d.under) (to.here ∷ to.under)
+  pub waits : Callers m which g (d.here ∷ d.under) (to.here ∷ to.under)
 
 -- Both stand at the same numeric, memory or global instruction, with the same operands for it and the same store.
 pub record SameAct (c at : Configuration) : Type 0 where
@@ -108,7 +117,7 @@ pub record SameAct (c at : Configuration) : Type 0 where
   pub rest' : Code
   pub original : c.here.code ≡ plain (basic instruction) rest
   pub flat_one : at.here.code ≡ plain (basic instruction) rest'
-  pub operands : at.here.operands ≡ take (takes instruction) c.here.operands
+  pub operands : take (takes instruction) at.here.operands ≡ take (takes instruction) c.here.operands
   pub same_store : at.store ≡ c.store
 
 -- ---- where flat activations wait
@@ -133,10 +142,15 @@ pub record AtCall (m : Module) (a a' : Activation) : Type 0 where
   pub locals : a'.locals ≡ a.locals ++ extra
   pub held : Locals m func a.locals extra (a.taken ++ a.operands)
 
-abbrev pub AllAtCalls : Module → (under under' : List Activation) → Type 0
-AllAtCalls m [] [] = Unit {0}
-AllAtCalls m (a ∷ under) (a' ∷ under') = AtCall m a a' × AllAtCalls m under under'
-AllAtCalls m _ _ = ⊥
+-- One whose function is told is as at a call; any other is the original's.
+abbrev pub AtCallOrSame : Bool → Module → (a a' : Activation) → Type 0
+AtCallOrSame true m a a' = AtCall m a a'
+AtCallOrSame false m a a' = a' ≡ a
+
+abbrev pub AllAtCalls : Module → List Bool → (under under' : List Activation) → Type 0
+AllAtCalls m which [] [] = Unit {0}
+AllAtCalls m which (a ∷ under) (a' ∷ under') = AtCallOrSame (is_told (slice_get which a.func)) m a a' × AllAtCalls m which under under'
+AllAtCalls m which _ _ = ⊥
 
 abbrev pub CallersAreAtCalls : Type 0
-CallersAreAtCalls = (m : Module) (g : ℕ) (under under' : List Activation) → Callers m g under under' → AllAtCalls m under under'
+CallersAreAtCalls = (m : Module) (which : List Bool) (g : ℕ) (under under' : List Activation) → Callers m which g under under' → AllAtCalls m which under under'

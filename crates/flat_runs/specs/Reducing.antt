@@ -1,6 +1,6 @@
 -- One reduction of the original beside the flat code: quiet reductions, one that leaves the store as the original's does, and
 -- quiet ones again.
-use Rattle.std.specs.Prelude.{◌≡◌, ◌≤◌, ℕ, suc, ◌+◌, ◌*◌, None, ◌⊎◌}
+use Rattle.std.specs.Prelude.{◌≡◌, ◌≤◌, ℕ, suc, ◌+◌, ◌*◌, None, ◌⊎◌, List, Bool}
 use Rattle.wa_types.specs.Syntax.{Module}
 use Rattle.wa_model.specs.Configuration.{Configuration}
 use Rattle.wa_model.specs.Step.{Next, steps, asks, returns, traps, stuck, step}
@@ -8,9 +8,9 @@ use Rattle.wa_model.specs.Untouched.{next_access}
 use Rattle.flat_laws.specs.FlatModule.{Flattened}
 use Rattle.flat_runs.specs.Beside.{first_of, Loud, IsQuiet, Still, Beside, Asked, SameAct}
 
--- The reduction that acts is quiet too, or performs the original's instruction with the same operands in the same store.
+-- The reduction that acts performs the original's instruction with the same operands in the same store, or both are quiet.
 abbrev pub Acts : (c mid : Configuration) → Type 0
-Acts c mid = IsQuiet mid.here.code ⊎ SameAct c mid
+Acts c mid = (IsQuiet c.here.code × IsQuiet mid.here.code) ⊎ SameAct c mid
 
 -- what one reduction of this cost counts in the lean cost, at least
 pub data Counted (first : ℕ → ℕ) (c : Configuration) (cost : ℕ) : (lean : ℕ) → Type 0 where
@@ -19,7 +19,7 @@ pub data Counted (first : ℕ → ℕ) (c : Configuration) (cost : ℕ) : (lean 
 
 -- The flat code goes on, from f, where the original's reduction from c to d costs suc k. The cost up to the end of the acting
 -- reduction is at least the original's, in lean cost too, and all of it at most 16 times that.
-pub record FlatSteps (m p : Module) (c f : Configuration) (k : ℕ) (d : Configuration) : Type 0 where
+pub record FlatSteps (m p : Module) (which : List Bool) (c f : Configuration) (k : ℕ) (d : Configuration) : Type 0 where
   pub n1 : ℕ
   pub l1 : ℕ
   pub mid : Configuration
@@ -38,10 +38,10 @@ pub record FlatSteps (m p : Module) (c f : Configuration) (k : ℕ) (d : Configu
   pub least : suc k ≤ n1 + suc j
   pub least_lean : suc k ≤ l1 + lean
   pub most : n1 + suc j + n2 ≤ 16 * suc k
-  pub both : Beside m d to
+  pub both : Beside m which d to
 
 -- The flat code comes to where it asks, returns or traps, by quiet reductions.
-pub record FlatEnds (m p : Module) (c f : Configuration) (k : ℕ) (end : (j : ℕ) → (at : Configuration) → Type 0) : Type 0 where
+pub record FlatEnds (m p : Module) (which : List Bool) (c f : Configuration) (k : ℕ) (end : (j : ℕ) → (at : Configuration) → Type 0) : Type 0 where
   pub n : ℕ
   pub l : ℕ
   pub at : Configuration
@@ -53,16 +53,16 @@ pub record FlatEnds (m p : Module) (c f : Configuration) (k : ℕ) (end : (j : �
   pub most : n + suc j ≤ 16 * suc k
 
 -- What the flat code does, from f, where the original, at c, does this next. Of a stuck one nothing is said.
-abbrev pub FlatNext : (m p : Module) → (c f : Configuration) → Next → Type 0
-FlatNext m p c f (steps k d) = FlatSteps m p c f k d
-FlatNext m p c f (asks k import args d) = FlatEnds m p c f k (λ j at. (to : Configuration) × (step p at ≡ asks j import args to) × Asked m import d to)
-FlatNext m p c f (returns k vs s) = FlatEnds m p c f k (λ j at. step p at ≡ returns j vs s)
-FlatNext m p c f (traps k t s) = FlatEnds m p c f k (λ j at. step p at ≡ traps j t s)
-FlatNext m p c f stuck = Unit {0}
+abbrev pub FlatNext : (m p : Module) → (which : List Bool) → (c f : Configuration) → Next → Type 0
+FlatNext m p which c f (steps k d) = FlatSteps m p which c f k d
+FlatNext m p which c f (asks k import args d) = FlatEnds m p which c f k (λ j at. (to : Configuration) × (step p at ≡ asks j import args to) × Asked m which import d to)
+FlatNext m p which c f (returns k vs s) = FlatEnds m p which c f k (λ j at. step p at ≡ returns j vs s)
+FlatNext m p which c f (traps k t s) = FlatEnds m p which c f k (λ j at. step p at ≡ traps j t s)
+FlatNext m p which c f stuck = Unit {0}
 
 -- Each reduction of the original is a few of the flat code.
 abbrev pub EachReduction : Type 0
-EachReduction = (m p : Module) (c f : Configuration) → Flattened m p → Beside m c f → FlatNext m p c f (step m c)
+EachReduction = (m p : Module) (which : List Bool) (c f : Configuration) → Flattened m p which → Beside m which c f → FlatNext m p which c f (step m c)
 
 -- A quiet reduction leaves the store, and no access of the memory stands next at one.
 abbrev pub QuietIsQuiet : Type 0

@@ -6,7 +6,8 @@ use Rattle.wa_types.specs.Syntax.{Func, Module}
 use Rattle.wa_types.specs.Frames.{Count}
 use Rattle.wa_model.specs.Flat.{FlatFunc}
 use Rattle.flat_laws.specs.Flatten.{flattened}
-use Rattle.flatten.specs.Whole.{flat_told, NonePasses, FirstPasses, FlatAnswer, Flattens}
+use Rattle.flat_laws.specs.FlatModule.{flat_told}
+use Rattle.flatten.specs.Whole.{NonePasses, FirstPasses, FlatAnswer, Flattens}
 use Rattle.flatten.specs.declared.fault.FlatFault.{FlatFault}
 use Rattle.flatten.specs.declared.fault.FlatFault.TheVariants.{Memory, Locals}
 use Rattle.wa_types.specs.Modules.{func_imports}

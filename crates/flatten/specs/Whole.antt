@@ -9,11 +9,11 @@ use Rattle.wa_types.specs.Points.{points}
 use Rattle.wa_types.specs.Frames.{Pair, Count, stands_at, same_pair, greatest, pairs_from, pair_of, results_in}
 use Rattle.wasm_validate.specs.Walk.{Walk}
 use Rattle.wa_types.specs.Modules.{func_imports}
-use Rattle.wa_model.specs.Flat.{FlatFunc}
 use Rattle.wa_model.specs.FlatView.{flat_func_of, flat_module_of}
 use Rattle.wa_model.specs.declared.flat.FlatFunc.{FlatFunc as FlatFuncValue}
 use Rattle.wa_model.specs.declared.flat.FlatModule.{FlatModule as FlatModuleValue}
 use Rattle.flat_laws.specs.Flatten.{Names, flattened}
+use Rattle.flat_laws.specs.FlatModule.{flats_of}
 use Rattle.flatten.specs.declared.fault.FlatFault.{FlatFault}
 use Rattle.flatten.specs.declared.fault.FlatFault.TheVariants.{Memory, Locals}
 
@@ -40,13 +40,6 @@ FlatAnswer m x f (Ok v) = (flat_func_of v ≡ flattened m x f) × (Count m f ≤
 FlatAnswer m x f (Err Memory) = Unit {0}
 FlatAnswer m x f (Err (Locals func count)) = (func ≡ x) × (count ≡ Count m f) × (50000 < Count m f)
 
--- the flat functions of those that are told, from index x on
-abbrev pub flat_told : Module → ℕ → List Bool → List Func → List FlatFunc
-flat_told m x [] fs = []
-flat_told m x (w ∷ which) [] = []
-flat_told m x (true ∷ which) (f ∷ fs) = flattened m x f ∷ flat_told m (suc x) which fs
-flat_told m x (false ∷ which) (f ∷ fs) = flat_told m (suc x) which fs
-
 -- No function that is told has too many locals.
 abbrev pub NonePasses : Module → List Bool → List Func → Type 0
 NonePasses m [] fs = Unit {0}
@@ -64,6 +57,6 @@ FirstPasses m func count x (false ∷ which) (f ∷ fs) = FirstPasses m func cou
 
 -- What flattening answers of a module and those functions that are told, imports first.
 abbrev pub Flattens : Module → List Bool → Result FlatModuleValue FlatFault → Type 0
-Flattens m which (Ok v) = ((flat_module_of v).funcs ≡ flat_told m (func_imports m) (drop (func_imports m) which) m.funcs) × NonePasses m (drop (func_imports m) which) m.funcs
+Flattens m which (Ok v) = ((flat_module_of v).funcs ≡ (flats_of m which).funcs) × NonePasses m (drop (func_imports m) which) m.funcs
 Flattens m which (Err Memory) = Unit {0}
 Flattens m which (Err (Locals func count)) = FirstPasses m func count (func_imports m) (drop (func_imports m) which) m.funcs

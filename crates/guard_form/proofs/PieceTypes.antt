@@ -9,7 +9,8 @@ use Rattle.wa_types.specs.Typing.{Around, listed, Types}
 use Rattle.wa_model.specs.declared.flat.Operand.{Operand}
 use Rattle.wa_model.specs.Flat.{Stmts, no_more, computes, copies, calls, leaps, leaps_if, leaps_by, nests, decides, halts, followed_by, got, all_got, set_to, slots_got, last_of, code_of}
 use Rattle.guard_form.specs.Pieces.{Units, no_unit, call_unit, nest_unit, if_unit, call_to, call_total, numbered, holds_call, piece_call, first_piece, unit_call, units}
-use Rattle.guard_form.specs.Typed.{UnitsTyped, StmtsTyped, PiecesTyped}
+use Rattle.wa_model.specs.FlatTyped.{StmtsTyped}
+use Rattle.guard_form.specs.Typed.{UnitsTyped, PiecesTyped}
 use Rattle.guard_form.proofs.Grouped.{then_then, then_got, then_all_got, then_slots, then_set, numbered_is}
 
 module _ (c : Around) where

@@ -2,9 +2,10 @@
 use Rattle.std.specs.Prelude.{◌≡◌, ℕ, List, [], ◌∷◌, Option, Some, None, true, slice_get}
 use Rattle.wa_types.specs.declared.values.ValType.{ValType}
 use Rattle.wa_types.specs.declared.values.ValType.TheVariants.{I32}
-use Rattle.wa_types.specs.Syntax.{local_set, br, br_if, br_table, Code, done, plain}
+use Rattle.wa_types.specs.Syntax.{Code, done, plain}
 use Rattle.wa_types.specs.Typing.{GlobalType, Around, listed, Types, Typed}
-use Rattle.wa_model.specs.Flat.{Stmts, no_more, computes, copies, calls, leaps, leaps_if, leaps_by, nests, decides, halts, followed_by, got, all_got, set_to, slots_got, last_of, result_got}
+use Rattle.wa_model.specs.Flat.{Stmts, got, set_to, slots_got, result_got}
+use Rattle.wa_model.specs.FlatTyped.{StmtsTyped}
 use Rattle.guard_form.specs.Pieces.{Units, no_unit, call_unit, nest_unit, if_unit, call_to, first_piece, units}
 use Rattle.guard_form.specs.Guarded.{GuardIndices, front, written_body}
 
@@ -16,19 +17,6 @@ UnitsTyped c ls first (call_unit slots x to behind rest) = Types c ls first [] [
 UnitsTyped c ls first (nest_unit s inner body behind rest) = Types c ls first [] [] × UnitsTyped c (None ∷ ls) inner body × UnitsTyped c ls behind rest
 UnitsTyped c ls first (if_unit o fa a fb b behind rest) = Types c ls first [] [] × Types c ls (got o done) (I32 ∷ []) [] × UnitsTyped c (None ∷ ls) fa a
     × UnitsTyped c (None ∷ ls) fb b × UnitsTyped c ls behind rest
-
--- each statement takes no operands to none
-abbrev pub StmtsTyped : Around → List (Option ValType) → Stmts → Type 0
-StmtsTyped c ls no_more = Unit {0}
-StmtsTyped c ls (computes op args to rest) = Types c ls (all_got args (followed_by op (set_to to done))) [] [] × StmtsTyped c ls rest
-StmtsTyped c ls (copies to from rest) = Types c ls (got from (plain (local_set to) done)) [] [] × StmtsTyped c ls rest
-StmtsTyped c ls (calls op stack args to rest) = Types c ls (slots_got (last_of args stack) (followed_by op (set_to to done))) [] [] × StmtsTyped c ls rest
-StmtsTyped c ls (leaps l rest) = Types c ls (plain (br l) done) [] [] × StmtsTyped c ls rest
-StmtsTyped c ls (leaps_if o l rest) = Types c ls (got o (plain (br_if l) done)) [] [] × StmtsTyped c ls rest
-StmtsTyped c ls (leaps_by o labels last rest) = Types c ls (got o (plain (br_table labels last) done)) [] [] × StmtsTyped c ls rest
-StmtsTyped c ls (nests s body rest) = StmtsTyped c (None ∷ ls) body × StmtsTyped c ls rest
-StmtsTyped c ls (decides o a b rest) = Types c ls (got o done) (I32 ∷ []) [] × StmtsTyped c (None ∷ ls) a × StmtsTyped c (None ∷ ls) b × StmtsTyped c ls rest
-StmtsTyped c ls (halts rest) = StmtsTyped c ls rest
 
 -- the type of the state's global
 abbrev pub an_i32 : GlobalType

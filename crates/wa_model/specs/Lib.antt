@@ -7,6 +7,7 @@ pub mod Expected
 pub mod Fitting
 pub mod Flat
 pub mod FlatFits
+pub mod FlatTyped
 pub mod FlatView
 pub mod Growth
 pub mod Heights

@@ -1,15 +1,12 @@
 -- Statements between which no operand stands: each takes no operands to none.
-use Rattle.std.specs.Prelude.{ℕ, List, [], ◌∷◌, Option, Some, None, ◌≡◌}
+use Rattle.std.specs.Prelude.{List, [], ◌∷◌, Option, None}
 use Rattle.wa_types.specs.declared.values.ValType.{ValType}
 use Rattle.wa_types.specs.declared.values.ValType.TheVariants.{I32}
-use Rattle.wa_types.specs.Syntax.{local_set, br, br_if, br_table, done, plain, Func, Module}
+use Rattle.wa_types.specs.Syntax.{local_set, br, br_if, br_table, done, plain}
 use Rattle.wa_types.specs.Typing.{Around, Types}
-use Rattle.wa_types.specs.Validity.{Valid}
-use Rattle.wa_types.specs.Modules.{around, defined_at}
 use Rattle.wa_model.specs.Flat.{Stmts, no_more, computes, copies, calls, leaps, leaps_if, leaps_by, nests, decides, halts, followed_by, got, all_got, set_to, slots_got, last_of}
-use Rattle.flat_laws.specs.Flatten.{flattened}
-use Rattle.flat_laws.specs.FlatModule.{flat_func, flat_module}
 
+-- each statement takes no operands to none
 abbrev pub StmtsTyped : Around → List (Option ValType) → Stmts → Type 0
 StmtsTyped c ls no_more = Unit {0}
 StmtsTyped c ls (computes op args to rest) = Types c ls (all_got args (followed_by op (set_to to done))) [] [] × StmtsTyped c ls rest
@@ -21,9 +18,3 @@ StmtsTyped c ls (leaps_by o labels last rest) = Types c ls (got o (plain (br_tab
 StmtsTyped c ls (nests s body rest) = StmtsTyped c (None ∷ ls) body × StmtsTyped c ls rest
 StmtsTyped c ls (decides o a b rest) = Types c ls (got o done) (I32 ∷ []) [] × StmtsTyped c (None ∷ ls) a × StmtsTyped c (None ∷ ls) b × StmtsTyped c ls rest
 StmtsTyped c ls (halts rest) = StmtsTyped c ls rest
-
--- Each statement of a flat function of a valid module takes no operands to none.
-abbrev pub FlatStmtsTyped : Type 0
-FlatStmtsTyped =
-    (m : Module) (x : ℕ) (f : Func) → Valid m → defined_at m x ≡ Some f
-    → StmtsTyped (around (flat_module m) (flat_func m f)) (None ∷ (around m f).result ∷ []) (flattened m x f).body

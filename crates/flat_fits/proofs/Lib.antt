@@ -1,0 +1,5 @@
+mod Calls
+mod Heights
+mod Items
+mod Statements
+mod Whole
