@@ -19,38 +19,38 @@ onto_append : (o : Option Callee) (xs ys : List Callee) → callee_onto o (xs ++
 onto_append None xs ys = refl
 onto_append (Some x) xs ys = refl
 
-calls_then : (a b : Code) → calls_of (followed_by a b) ≡ calls_of a ++ calls_of b
+pub calls_then : (a b : Code) → calls_of (followed_by a b) ≡ calls_of a ++ calls_of b
 unfolding followed_by calls_of
 calls_then done b = refl
 calls_then (plain p c) b = ap (callee_onto (callee p)) (calls_then c b) ∙ onto_append (callee p) (calls_of c) (calls_of b)
 calls_then (nest s t y c) b = ap (λ z. calls_of y ++ z) (calls_then c b) ∙ sym (append_assoc (calls_of y) (calls_of c) (calls_of b))
 calls_then (branch t y z c) b = ap (λ u. calls_of y ++ calls_of z ++ u) (calls_then c b) ∙ sym (append_assoc (calls_of y ++ calls_of z) (calls_of c) (calls_of b))
 
-calls_slots : (xs : List ℕ) (c : Code) → calls_of (slots_got xs c) ≡ calls_of c
+pub calls_slots : (xs : List ℕ) (c : Code) → calls_of (slots_got xs c) ≡ calls_of c
 unfolding calls_of
 calls_slots [] c = refl
 calls_slots (x ∷ xs) c = calls_slots xs c
 
-calls_set : (to : Option ℕ) (c : Code) → calls_of (set_to to c) ≡ calls_of c
+pub calls_set : (to : Option ℕ) (c : Code) → calls_of (set_to to c) ≡ calls_of c
 unfolding calls_of
 calls_set None c = refl
 calls_set (Some x) c = refl
 
-calls_call : (x : Callee) (c : Code) → calls_of (plain (call_to x) c) ≡ x ∷ calls_of c
+pub calls_call : (x : Callee) (c : Code) → calls_of (plain (call_to x) c) ≡ x ∷ calls_of c
 unfolding calls_of
 calls_call (direct y) c = refl
 calls_call (indirect t) c = refl
 
-calls_if : (o : Operand) (a b c : Code) → calls_of (got o (branch None a b c)) ≡ calls_of a ++ calls_of b ++ calls_of c
+pub calls_if : (o : Operand) (a b c : Code) → calls_of (got o (branch None a b c)) ≡ calls_of a ++ calls_of b ++ calls_of c
 unfolding calls_of
 calls_if (Local x) a b c = refl
 calls_if (Const v) a b c = refl
 
-calls_nest : (s : Shape) (a c : Code) → calls_of (nest s None a c) ≡ calls_of a ++ calls_of c
+pub calls_nest : (s : Shape) (a c : Code) → calls_of (nest s None a c) ≡ calls_of a ++ calls_of c
 unfolding calls_of
 calls_nest s a c = refl
 
-calls_done : calls_of done ≡ []
+pub calls_done : calls_of done ≡ []
 unfolding calls_of
 calls_done = refl
 
@@ -98,7 +98,7 @@ module _ (test : Callee → Bool) where
   told_head : (x : Callee) (xs : List Callee) → test x ≡ true → told (x ∷ xs) ≡ suc (told xs)
   told_head x xs e = ap (λ b. if b then suc (told xs) else told xs) e
 
-  told_both : (first : Code) (us : Units) → Calls F first → told (calls_of (flat_units us)) ≡ numbers_in us → told (flat_calls first us) ≡ numbers_in us
+  pub told_both : (first : Code) (us : Units) → Calls F first → told (calls_of (flat_units us)) ≡ numbers_in us → told (flat_calls first us) ≡ numbers_in us
   told_both first us ca e =
       let z = ap told (calls_then first (flat_units us)) in
       let y = told_append (calls_of first) (calls_of (flat_units us)) in
@@ -112,7 +112,7 @@ module _ (test : Callee → Bool) where
       ∙ calls_call x (set_to to (followed_by behind (flat_units rest)))
       ∙ ap (λ z. x ∷ z) (calls_set to (followed_by behind (flat_units rest)))
 
-  told_units : (us : Units) → PiecesCall F us → UnitsNumbered test us → told (calls_of (flat_units us)) ≡ numbers_in us
+  pub told_units : (us : Units) → PiecesCall F us → UnitsNumbered test us → told (calls_of (flat_units us)) ≡ numbers_in us
   told_units no_unit pc ut = ap told calls_done
   told_units (call_unit slots x to behind rest) pc ut =
       let ih = told_both behind rest pc.0 (told_units rest pc.1 ut.1) in

@@ -241,7 +241,7 @@ module _ (P : Callee → Type 0) where
   calls_none (nest s t b c) h = (calls_none b h.0, calls_none c h.1)
   calls_none (branch t a b c) h = (calls_none a h.0, calls_none b h.1, calls_none c h.2)
 
-or_false : (x y : Bool) → (x || y) ≡ false → (x ≡ false) × (y ≡ false)
+pub or_false : (x y : Bool) → (x || y) ≡ false → (x ≡ false) × (y ≡ false)
 or_false true y e = cc
 or_false false y e = (refl, e)
 
