@@ -73,7 +73,7 @@ module _ (n : Names) (c : Around) where
   calls_plain ls ops behind (call_indirect t) rest more e =
       let u : FuncType = or_empty (slice_get c.types t) in calls_calls (call_indirect t) (reverse (slots n ops)) (suc (length u.params)) (top_of n (length u.results) behind) rest ∙ ap (callee_onto (callee (call_indirect t))) e
 
-  calls_flat : (ls : List (Option ValType)) (code : Code) (ops : List ValType) → calls_of (code_of (flat n c ls code ops)) ≡ calls_of (pruned code)
+  pub calls_flat : (ls : List (Option ValType)) (code : Code) (ops : List ValType) → calls_of (code_of (flat n c ls code ops)) ≡ calls_of (pruned code)
   unfolding flat code_of calls_of pruned
   calls_flat ls done ops = calls_carry n (length ls - 1) (slice_get ls 0) ops no_more
   calls_flat ls (plain i rest) ops = calls_plain ls ops (after (sig c ls i) ops) i (flat n c ls rest (after (sig c ls i) ops)) rest (calls_flat ls rest (after (sig c ls i) ops))
