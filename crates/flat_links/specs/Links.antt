@@ -1,5 +1,5 @@
 -- The links of original and flat configurations in the headline: they stand beside one another, fit their modules, name what is
--- there, and are in range.
+-- there, and are in range; and the original's stands in its bodies, where each call leads to the next function inwards.
 use Rattle.std.specs.Prelude.{◌≡◌, ℕ, ◌<◌, List, ◌∷◌, All}
 use Rattle.wa_types.specs.Modules.{func_imports}
 use Rattle.wa_types.specs.declared.values.ValType.{ValType}
@@ -9,6 +9,8 @@ use Rattle.wa_model.specs.Fitting.{Fits, WaitingFits, StoreFits}
 use Rattle.wa_model.specs.Growth.{ConfigNamed, StoreNamed, spaces_of}
 use Rattle.wa_model.specs.Store.{Store}
 use Rattle.range_laws.specs.Ranges.{ConfigurationIn, StoreIn}
+use Rattle.stack_laws.proofs.SpotSteps.{ConfigurationAtSpots, WaitingAtSpots}
+use Rattle.stack_laws.proofs.StandingStates.{ConfigurationAt, WaitingAt}
 use Rattle.guard_frames.specs.Returned.{AllSameFlat}
 use Rattle.guard_runs.specs.Stopped.{AllNumbered, Stopped}
 use Rattle.headline_laws.specs.FlatLaw.{FlatStands, FlatAgain, AllLocalsFit}
@@ -31,6 +33,9 @@ module _ (k : Core) (B : Configuration → Configuration → Type 0) (A : ℕ �
     pub flat_fits : Fits k.flat flat_outs f
     pub named : ConfigNamed (spaces_of k.flat) f
     pub ranges : ConfigurationIn 0 c
+    pub spots : ConfigurationAtSpots (based k) c
+    pub root : ℕ
+    pub stands : ConfigurationAt (based k) c.store.table root c
     pub flat_ranges : ConfigurationIn 0 f
 
   -- both wait for the answer of an import
@@ -43,6 +48,9 @@ module _ (k : Core) (B : Configuration → Configuration → Type 0) (A : ℕ �
     pub flat_fits : WaitingFits k.flat flat_outs i f
     pub named : ConfigNamed (spaces_of k.flat) f
     pub ranges : ConfigurationIn 0 d
+    pub spots : WaitingAtSpots (based k) i d
+    pub root : ℕ
+    pub stands : WaitingAt (based k) d.store.table root i d
     pub flat_ranges : ConfigurationIn 0 f
 
   abbrev pub L : ℕ → Configuration → Configuration → Type 0
