@@ -58,13 +58,13 @@ module _ (k : Core) (fit : CoreFits k) (B : Configuration → Configuration → 
   }
 
   ok_of : (c f : Configuration) → (l : Linked k B A c f) → FlatOk k fit 0 l.flat_outs f
-  ok_of c f l = record { fits = l.flat_fits; named = l.named; ranges = l.flat_ranges }
+  ok_of c f l = record { fits = l.flat_fits; named = l.named }
 
   -- ---- one reduction
 
   module _ (top : ℕ) (c f : Configuration) (l : Linked k B A c f) (off : StaysOff k.plan.area (length c.store.memory) (next_access c)) where
     abbrev ok : FlatOk k fit top l.flat_outs f
-    ok = record { fits = l.flat_fits; named = l.named; ranges = l.flat_ranges }
+    ok = record { fits = l.flat_fits; named = l.named }
 
     -- where the flat side acts it is proper
     acts_properly : (mid : Configuration) → FlatOk k fit top l.flat_outs mid → mid.store ≡ f.store → SameAccess c mid → StaysOff k.plan.area (length mid.store.memory) (next_access mid)
@@ -95,7 +95,7 @@ module _ (k : Core) (fit : CoreFits k) (B : Configuration → Configuration → 
           behind = still_of k fit top l.flat_outs sb.after sb.to sb.n2 ok2 sb.behind;
           least = sb.least;
           most = sb.most;
-          link = record { beside = sb.both; outs = l.outs; fits = nf; flat_outs = l.flat_outs; flat_fits = ok3.fits; named = ok3.named; ranges = ni; spots = ns; root = l.root; stands = subst (λ t. ConfigurationAt (based k) t l.root d) (sym na.same) na; flat_ranges = ok3.ranges };
+          link = record { beside = sb.both; outs = l.outs; fits = nf; flat_outs = l.flat_outs; flat_fits = ok3.fits; named = ok3.named; ranges = ni; spots = ns; root = l.root; stands = subst (λ t. ConfigurationAt (based k) t l.root d) (sym na.same) na };
         }
     by_next (asks j0 i args d) eb nf ni ns na =
         let ok1 = quiet_ok k fit top l.flat_outs f eb.at eb.n ok eb.before in
@@ -103,7 +103,6 @@ module _ (k : Core) (fit : CoreFits k) (B : Configuration → Configuration → 
         let t = eb.there in
         let ff = subst (NextFits k.flat l.flat_outs) t.1 (steps_fit k.flat l.flat_outs eb.at fit.flat_valid ok1.fits) in
         let nn = subst (NextNamed (spaces_of k.flat)) t.1 (steps_same k fit eb.at ok1.named).1 in
-        let fi = subst (NextIn 0) t.1 (step_in 0 k.flat fit.flat_codes eb.at ok1.ranges) in
         record {
           n = eb.n;
           at = eb.at;
@@ -114,7 +113,7 @@ module _ (k : Core) (fit : CoreFits k) (B : Configuration → Configuration → 
           proper = proper_here k fit top l.flat_outs eb.at ok1.fits ok1.named (acts_properly eb.at ok1 keep eb.access);
           to = t.0;
           asks_there = (steps_same k fit eb.at ok1.named).0 ∙ t.1;
-          waits = record { beside = t.2; known = nf.0; outs = l.outs; fits = nf.2; flat_outs = l.flat_outs; flat_fits = ff.2; named = nn.1; ranges = ni.1; spots = ns; root = l.root; stands = subst (λ t. WaitingAt (based k) t l.root i d) (sym na.same) na; flat_ranges = fi.1 };
+          waits = record { beside = t.2; known = nf.0; outs = l.outs; fits = nf.2; flat_outs = l.flat_outs; flat_fits = ff.2; named = nn.1; ranges = ni.1; spots = ns; root = l.root; stands = subst (λ t. WaitingAt (based k) t l.root i d) (sym na.same) na };
         }
     by_next (returns j0 vs s) eb nf ni ns na =
         let ok1 = quiet_ok k fit top l.flat_outs f eb.at eb.n ok eb.before in
@@ -163,7 +162,7 @@ module _ (k : Core) (fit : CoreFits k) (B : Configuration → Configuration → 
         few = cb.few;
         to = cb.to;
         goes = still_of k fit top flat_outs f cb.to cb.n ok cb.goes;
-        link = record { beside = cb.both; outs = outs; fits = fits; flat_outs = flat_outs; flat_fits = ok2.fits; named = ok2.named; ranges = ranges; spots = spots; root = root; stands = stands; flat_ranges = ok2.ranges };
+        link = record { beside = cb.both; outs = outs; fits = fits; flat_outs = flat_outs; flat_fits = ok2.fits; named = ok2.named; ranges = ranges; spots = spots; root = root; stands = stands };
       }
 
   good_poked : (i : ℕ) (s : Store) (start : Bool) (a : Answer) → GoodStore k s → AnswerFits a → fault_of (func_type_at (based k) i).results (length s.memory) k.plan start i a ≡ None → GoodStore k (poked s a.pokes)
@@ -198,7 +197,6 @@ module _ (k : Core) (fit : CoreFits k) (B : Configuration → Configuration → 
       (record {
         fits = answers_fit k.flat l.flat_outs f s2 vs (flat_store s2 g2.fits) (subst (λ ts. CallersFit k.flat l.flat_outs ts (f.here ∷ f.under)) (sym flat_typed) l.flat_fits.waits);
         named = record { store = sn; here = record { func = named.here.func; code = named.here.code; labels = named.here.labels }; under = named.under };
-        ranges = answers_in_range 0 0 f s2 vs l.flat_ranges g2.ranges vin;
       })
       (law.answers s2 i d f vs l.beside g2.fits typed)
 
@@ -247,7 +245,6 @@ module _ (k : Core) (fit : CoreFits k) (B : Configuration → Configuration → 
               (record {
                 fits = calls_fit k.flat s args x eb.func fit.flat_valid (flat_store s g.fits) eb.defined flat_typed;
                 named = entered_named k.flat [] [] [] [] (names_there k fit) s [] args x eb.func g.named tt eb.defined;
-                ranges = calls_in_range k.flat 0 s args x eb.func fit.flat_codes g.ranges lawful.ranges eb.defined;
               })
               eb.comes;
         }

@@ -53,12 +53,11 @@ world_of k = record {
   lay = k.lay;
 }
 
--- What the flat module is: valid, in range, and the original but for functions, which keep their types.
+-- What the flat module is: valid, and the original but for functions, which keep their types.
 pub record CoreFits (k : Core) : Type 0 where
   pub valid : Valid k.original
   pub flat_valid : Valid k.flat
   pub codes : CodesIn (based k)
-  pub flat_codes : CodesIn k.flat
   pub functions_alone : k.flat ≡ record (based k) { funcs = k.flat.funcs }
   pub sorts : map (λ (f : Func). f.sort) k.flat.funcs ≡ map (λ (f : Func). f.sort) (based k).funcs
   pub plan : Fits k.original k.plan
