@@ -1,0 +1,2 @@
+pub mod FlatSide
+pub mod NumberedStmts
