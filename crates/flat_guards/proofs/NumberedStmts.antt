@@ -101,6 +101,17 @@ total_is (decides c a b rest) h =
     omega arith
 total_is (halts rest) h = total_is rest h
 
+-- ---- calls joined
+
+pub got_first : (xs ys : List Callee) (i : ℕ) (x : Callee) → slice_get xs i ≡ Some x → slice_get (xs ++ ys) i ≡ Some x
+got_first [] ys i x e = cc
+got_first (z ∷ xs) ys zero x e = e
+got_first (z ∷ xs) ys (suc i) x e = got_first xs ys i x e
+
+pub got_second : (xs ys : List Callee) (i : ℕ) → slice_get (xs ++ ys) (length xs + i) ≡ slice_get ys i
+got_second [] ys i = let z : length {A = Callee} [] + i ≡ i = omega arith in ap (slice_get ys) z
+got_second (x ∷ xs) ys i = let z : length (x ∷ xs) + i ≡ suc (length xs + i) = omega arith in ap (slice_get (x ∷ (xs ++ ys))) z ∙ got_second xs ys i
+
 -- ---- places
 
 module _ (test : Callee → Bool) where
@@ -149,15 +160,6 @@ module _ (test : Callee → Bool) where
       let z : n + 0 ≡ n = omega arith in ap (is_place ps) (sym z) ∙ h 0 c refl,
       λ i x e. let z : suc n + i ≡ n + suc i = omega arith in ap (is_place ps) z ∙ h (suc i) x e,
     )
-
-    got_first : (xs ys : List Callee) (i : ℕ) (x : Callee) → slice_get xs i ≡ Some x → slice_get (xs ++ ys) i ≡ Some x
-    got_first [] ys i x e = cc
-    got_first (z ∷ xs) ys zero x e = e
-    got_first (z ∷ xs) ys (suc i) x e = got_first xs ys i x e
-
-    got_second : (xs ys : List Callee) (i : ℕ) → slice_get (xs ++ ys) (length xs + i) ≡ slice_get ys i
-    got_second [] ys i = let z : length {A = Callee} [] + i ≡ i = omega arith in ap (slice_get ys) z
-    got_second (x ∷ xs) ys i = let z : length (x ∷ xs) + i ≡ suc (length xs + i) = omega arith in ap (slice_get (x ∷ (xs ++ ys))) z ∙ got_second xs ys i
 
     right_parts : (n : ℕ) (xs ys : List Callee) → Right n (xs ++ ys) → Right n xs × Right (n + length xs) ys
     right_parts n xs ys h = (

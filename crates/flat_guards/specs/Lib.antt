@@ -1,1 +1,2 @@
+pub mod CoreOf
 pub mod Emitted
