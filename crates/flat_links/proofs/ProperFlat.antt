@@ -66,14 +66,12 @@ module _ (k : Core) (fit : CoreFits k) (top : ℕ) where
   pub record FlatOk (outs : List ValType) (c : Configuration) : Type 0 where
     pub fits : Fits k.flat outs c
     pub named : ConfigNamed (spaces_of k.flat) c
-    pub ranges : ConfigurationIn 0 c
 
   -- a reduction keeps it
   pub ok_on : (outs : List ValType) (c d : Configuration) (j : ℕ) → FlatOk outs c → step k.flat c ≡ steps j d → FlatOk outs d
   ok_on outs c d j ok e = record {
     fits = subst (NextFits k.flat outs) e (steps_fit k.flat outs c fit.flat_valid ok.fits);
     named = subst (NextNamed (spaces_of k.flat)) e (steps_same k fit c ok.named).1;
-    ranges = subst (NextIn 0) e (step_in 0 k.flat fit.flat_codes c ok.ranges);
   }
 
   pub quiet_ok : (outs : List ValType) (c d : Configuration) (m : ℕ) → FlatOk outs c → QuietGoes k.flat c m d → FlatOk outs d

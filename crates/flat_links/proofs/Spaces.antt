@@ -61,15 +61,15 @@ module _ (k : Core) (fit : CoreFits k) where
   names_there = valid_named k.flat fit.flat_valid
 
   pub sorts_same : func_sorts k.flat ≡ func_sorts (based k)
-  sorts_same = ap func_sorts fit.functions_alone ∙ ap (λ xs. imported imported_func b ++ xs) fit.sorts
+  sorts_same = fit.sorts
 
   pub type_same : (t : ℕ) → type_at k.flat t ≡ type_at (based k) t
   type_same t = ap (λ z. type_at z t) fit.functions_alone
 
   pub func_type_same : (x : ℕ) → func_type_at k.flat x ≡ func_type_at (based k) x
   func_type_same x =
-      ap (λ z. func_type_at z x) fit.functions_alone
-      ∙ ap (λ ss. or_empty (slice_get (map (type_at b) (imported imported_func b ++ ss)) x)) fit.sorts
+      ap (λ z. or_empty (slice_get (map (type_at z) (func_sorts k.flat)) x)) fit.functions_alone
+      ∙ ap (λ ss. or_empty (slice_get (map (type_at b) ss) x)) fit.sorts
 
   pub results_same : (x : ℕ) → results_of k.flat x ≡ results_of (based k) x
   results_same x = ap (λ t. listed (slice_get t.results 0)) (func_type_same x)

@@ -1,0 +1,3 @@
+pub mod FlatSide
+pub mod NumberedStmts
+pub mod PairedFlat

@@ -1,0 +1,2 @@
+pub mod CoreOf
+pub mod Emitted

@@ -1,0 +1,2 @@
+//! The written module of one whose functions may pause, beside its flat module.
+#![tactic(auto)]
