@@ -1,0 +1,3 @@
+//! The module that rewriting emits, as a definition: functions that may pause are flat, guarded and with frames, all others
+//! stay, and the runtime's parts stand behind. Laws of it are contracts of functions that do nothing.
+#![tactic(auto)]
