@@ -1,1 +1,5 @@
--- nothing yet
+pub mod Emitted
+pub mod WiderTypes
+pub mod WrittenTypes
+pub mod WrittenSizes
+pub mod EmittedRewritten
