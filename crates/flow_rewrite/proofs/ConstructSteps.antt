@@ -19,12 +19,13 @@ use Rattle.guard_form.proofs.UnitLemmas.{Some_unit, arm_is}
 use Rattle.flow_rewrite.specs.declared.guards.Guards.{Guards}
 use Rattle.flow_rewrite.specs.declared.sequence.Sequence.{Sequence}
 use Rattle.flow_rewrite.specs.declared.sequence.Part.{Part}
-use Rattle.flow_rewrite.specs.Raising.{Raisable}
-use Rattle.flow_rewrite.specs.Statements.{with_rest, one_code, one_place, one_holds, Fits}
-use Rattle.flow_rewrite.specs.Emitting.{Puts, indices, first_of, written_with, Same, Good, Settled, IsPart, Stepped}
-use Rattle.flow_rewrite.proofs.StmtLemmas.{if_true, if_false}
-use Rattle.flow_rewrite.proofs.FitLemmas.{raisable_puts, one_raisable}
-use Rattle.flow_rewrite.proofs.PutLemmas.{put_one}
+use Rattle.flat_pieces.specs.Raising.{Raisable}
+use Rattle.flat_pieces.specs.Statements.{with_rest, one_code, one_place, one_holds, Fits}
+use Rattle.flat_pieces.specs.Putting.{Puts}
+use Rattle.flow_rewrite.specs.Emitting.{indices, first_of, written_with, Same, Good, Settled, IsPart, Stepped}
+use Rattle.flat_pieces.proofs.StmtLemmas.{if_true, if_false}
+use Rattle.flat_pieces.proofs.FitLemmas.{raisable_puts, one_raisable}
+use Rattle.flat_pieces.proofs.PutLemmas.{put_one}
 use Rattle.flow_rewrite.proofs.SequenceLemmas.{step_piece, raisable_none}
 
 pub or_false : (x y : Bool) → (x || y) ≡ false → (x ≡ false) × (y ≡ false)

@@ -14,10 +14,11 @@ use Rattle.guard_form.proofs.UnitLemmas.{Some_unit, choice_is, choice_one, choic
 use Rattle.flow_rewrite.specs.declared.guards.Guards.{Guards}
 use Rattle.flow_rewrite.specs.declared.sequence.Sequence.{Sequence}
 use Rattle.flow_rewrite.specs.declared.sequence.Part.{Part}
-use Rattle.flow_rewrite.specs.Statements.{Fits}
-use Rattle.flow_rewrite.specs.Emitting.{Puts, indices, first_of, written_with, Same, Good, Settled, IsPart, Stepped, choice_code}
-use Rattle.flow_rewrite.proofs.StmtLemmas.{if_true}
-use Rattle.flow_rewrite.proofs.PutLemmas.{put_one}
+use Rattle.flat_pieces.specs.Statements.{Fits}
+use Rattle.flat_pieces.specs.Putting.{Puts}
+use Rattle.flow_rewrite.specs.Emitting.{indices, first_of, written_with, Same, Good, Settled, IsPart, Stepped, choice_code}
+use Rattle.flat_pieces.proofs.StmtLemmas.{if_true}
+use Rattle.flat_pieces.proofs.PutLemmas.{put_one}
 use Rattle.flow_rewrite.proofs.ConstructSteps.{or_false, not_both, true_or, part_some, part_none, part_plain, part_arm, piece_stepped, numbers_few, good_behind, condition_is}
 
 choice_by : (i : GuardIndices) (k : ℕ) (ua ub : Units) (b1 b2 : Bool) → (b1 ≡ true → Some_unit ua) → (b1 ≡ false → ua ≡ no_unit) → (b2 ≡ true → Some_unit ub)

@@ -13,10 +13,11 @@ use Rattle.wa_model.specs.Flat.{Stmts, no_more}
 use Rattle.guard_form.specs.Pieces.{no_unit, numbers_in, call_total, holds_call, first_piece, units}
 use Rattle.guard_form.specs.Guarded.{GuardIndices, by_state, raised, guarded, front}
 use Rattle.flow_rewrite.specs.declared.sequence.Sequence.{Sequence}
-use Rattle.flow_rewrite.specs.Raising.{Raisable}
-use Rattle.flow_rewrite.specs.Statements.{with_rest, one_code, one_place, one_holds}
-use Rattle.flow_rewrite.specs.Emitting.{Puts, first_of, written_with, Same, Good, Settled}
-use Rattle.flow_rewrite.proofs.StmtLemmas.{holds_with, total_with, first_with, units_with}
+use Rattle.flat_pieces.specs.Raising.{Raisable}
+use Rattle.flat_pieces.specs.Statements.{with_rest, one_code, one_place, one_holds}
+use Rattle.flat_pieces.specs.Putting.{Puts}
+use Rattle.flow_rewrite.specs.Emitting.{first_of, written_with, Same, Good, Settled}
+use Rattle.flat_pieces.proofs.StmtLemmas.{holds_with, total_with, first_with, units_with}
 
 -- ---- pieces
 

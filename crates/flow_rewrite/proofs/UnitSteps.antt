@@ -19,10 +19,11 @@ use Rattle.guard_form.specs.Guarded.{GuardIndices, index_with, raised, sought, n
 use Rattle.guard_form.specs.Grouping.{is_place}
 use Rattle.flow_rewrite.specs.declared.guards.Guards.{Guards}
 use Rattle.flow_rewrite.specs.declared.sequence.Sequence.{Sequence}
-use Rattle.flow_rewrite.specs.Statements.{one_code, Fits}
-use Rattle.flow_rewrite.specs.Emitting.{Puts, indices, first_of, written_with, Same, Good, Settled, Stepped}
-use Rattle.flow_rewrite.proofs.PutLemmas.{put_one, br_if_is}
-use Rattle.flow_rewrite.proofs.FitLemmas.{raisable_puts, one_raisable}
+use Rattle.flat_pieces.specs.Statements.{one_code, Fits}
+use Rattle.flat_pieces.specs.Putting.{Puts}
+use Rattle.flow_rewrite.specs.Emitting.{indices, first_of, written_with, Same, Good, Settled, Stepped}
+use Rattle.flat_pieces.proofs.PutLemmas.{put_one, br_if_is}
+use Rattle.flat_pieces.proofs.FitLemmas.{raisable_puts, one_raisable}
 use Rattle.flow_rewrite.proofs.SequenceLemmas.{same_on, step_piece, raisable_none}
 
 pub taken_is : (xs : List ℕ) (args kept : ℕ) → args ≤ length xs → kept + args ≡ length xs → take (length xs - kept) (drop kept xs) ≡ last_of args xs

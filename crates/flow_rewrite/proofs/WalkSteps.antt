@@ -22,9 +22,10 @@ use Rattle.guard_form.specs.Guarded.{raised, front}
 use Rattle.flow_rewrite.specs.declared.guards.Guards.{Guards}
 use Rattle.flow_rewrite.specs.declared.sequence.Sequence.{Sequence}
 use Rattle.flow_rewrite.specs.declared.sequence.Part.{Part}
-use Rattle.flow_rewrite.specs.Statements.{with_rest, one_code, one_place, one_holds, IsSimple, Fits}
-use Rattle.flow_rewrite.specs.Emitting.{Puts, indices, first_of, written_with, Same, IsPart, Stepped, Ready, ReadyAt, Walked}
-use Rattle.flow_rewrite.proofs.StmtLemmas.{if_true, if_false, in_front_is, fits_one, one_plain, leaf_of, stmts_step, stmts_end, call_is, total_with}
+use Rattle.flat_pieces.specs.Statements.{with_rest, one_code, one_place, one_holds, IsSimple, Fits}
+use Rattle.flat_pieces.specs.Putting.{Puts}
+use Rattle.flow_rewrite.specs.Emitting.{indices, first_of, written_with, Same, IsPart, Stepped, Ready, ReadyAt, Walked}
+use Rattle.flat_pieces.proofs.StmtLemmas.{if_true, if_false, in_front_is, fits_one, one_plain, leaf_of, stmts_step, stmts_end, call_is, total_with}
 use Rattle.flow_rewrite.proofs.SequenceLemmas.{raisable_none}
 use Rattle.flow_rewrite.proofs.ConstructSteps.{first_is, piece_stepped, numbers_few}
 

@@ -6,7 +6,7 @@ ghost use Rattle.wa_model.specs.FlatView.{flat_func_of};
 ghost use Rattle.wa_model.specs.FlatFits.{FlatFits};
 ghost use Rattle.guard_form.specs.Guarded.{guarded, guarded_code};
 ghost use Rattle.guard_form.specs.Pieces.{call_total};
-ghost use Rattle.flow_rewrite.specs.Raising.{Raisable};
+ghost use Rattle.flat_pieces.specs.Raising.{Raisable};
 ghost use Rattle.flow_rewrite.specs.Emitting.{indices, Rises};
 
 use crate::guards::{Guards, put_guarded};

@@ -3,7 +3,7 @@ use Rattle.wa_types.specs.Syntax.{done}
 use Rattle.wa_types.specs.View.{onto}
 use Rattle.wa_types.proofs.ViewLemmas.{onto_done, onto_none}
 use Rattle.flow_rewrite.specs.Emitting.{indices, choice_code}
-use Rattle.flow_rewrite.proofs.PutLemmas.{one_const}
+use Rattle.flat_pieces.proofs.PutLemmas.{one_const}
 use Rattle.flow_rewrite.proofs.constructs.choice.Goals as goal
 
 pub returns-then-not-else_held : goal.returns-then-not-else_held

@@ -3,7 +3,7 @@ use Rattle.wa_types.specs.View.{code}
 use Rattle.wa_types.proofs.ViewLemmas.{in_if}
 use Rattle.wa_model.specs.FlatView.{stmts}
 use Rattle.guard_form.specs.Guarded.{raised}
-use Rattle.flow_rewrite.specs.Raising.{Raisable}
+use Rattle.flat_pieces.specs.Raising.{Raisable}
 use Rattle.flow_rewrite.proofs.ConstructSteps.{condition_raisable}
 use Rattle.flow_rewrite.proofs.IfSteps.{if_free, if_held}
 use Rattle.flow_rewrite.proofs.constructs.put_if.Goals as goal

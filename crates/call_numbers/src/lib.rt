@@ -1,0 +1,6 @@
+//! Which calls of a flat function get a number: the places of those at which it may pause.
+#![tactic(auto)]
+
+mod numbering;
+
+pub use numbering::number_calls;
