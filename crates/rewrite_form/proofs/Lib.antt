@@ -1,0 +1,5 @@
+pub mod Emitted
+pub mod WiderTypes
+pub mod WrittenTypes
+pub mod WrittenSizes
+pub mod EmittedRewritten
