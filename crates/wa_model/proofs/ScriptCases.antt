@@ -10,7 +10,7 @@ use Rattle.wa_types.specs.declared.values.Trap.TheVariants.{Unreachable}
 use Rattle.wa_model.specs.declared.events.End.TheVariants.{UnwindTrap}
 use Rattle.wa_model.specs.Outside.{Line, Event, called, paused, returned, ended, shown}
 use Rattle.wa_model.specs.Script.{Script, ScriptFault, breaks, too_many}
-use Rattle.wa_model.specs.ScriptLines.{begins_program, answers, line_says, word_text, value_in, number_in}
+use Rattle.wa_model.specs.ScriptLines.{begins_program, has_steps, shows, detaches, answers, line_says, word_text, value_in, number_in, hex_in}
 use Rattle.wa_model.specs.ScriptText.{script_text}
 use Rattle.wa_model.specs.Transcript.{Names, event_line, Transcript, last_line, refusal_line, script, invalid, limit}
 
@@ -44,6 +44,27 @@ least_values = (refl, refl, refl, refl)
 no_negative_zero : value_in (codes "i32:-0") ≡ None
 unfolding script_text is_utf8 chars encode digits
 no_negative_zero = refl
+
+-- escapes stand in each word, the first one too; what they stand for is no longer looked at as a blank
+escaped_keyword : line_says (codes "%70rogram a%20b") ≡ Ok (Some (begins_program (codes "a b")))
+unfolding script_text is_utf8 chars encode digits
+escaped_keyword = refl
+
+escape_before_keyword : line_says (codes "other %zz") ≡ Err 1
+unfolding script_text is_utf8 chars encode digits
+escape_before_keyword = refl
+
+no_plus : (value_in (codes "i32:+1") ≡ None) × (value_in (codes "i32:") ≡ None) × (value_in (codes "i64:01") ≡ None) × (value_in (codes "f32:1") ≡ None)
+unfolding script_text is_utf8 chars encode digits
+no_plus = (refl, refl, refl, refl)
+
+great_values : (value_in (codes "i64:-1") ≡ Some (V.I64 18446744073709551615)) × (value_in (codes "i64:18446744073709551615") ≡ Some (V.I64 18446744073709551615)) × (value_in (codes "i64:18446744073709551616") ≡ None)
+unfolding script_text is_utf8 chars encode digits
+great_values = (refl, refl, refl)
+
+hex_digits : (hex_in (codes "0") ≡ None) × (hex_in (codes "000") ≡ None) × (hex_in (codes "0g") ≡ None) × (hex_in (codes "aB") ≡ Some (171 ∷ []))
+unfolding script_text is_utf8 chars encode digits
+hex_digits = (refl, refl, refl, refl)
 
 -- ---- lines
 
@@ -81,6 +102,19 @@ ticks_behind = refl
 no_policy : line_says (codes "save some") ≡ Err 3
 unfolding script_text is_utf8 chars encode digits
 no_policy = refl
+
+ranges : (line_says (codes "steps 1000000001") ≡ Err 4) × (line_says (codes "show 0 4097") ≡ Err 4) × (line_says (codes "show 0 0") ≡ Err 4) × (line_says (codes "detach d 0") ≡ Err 4) × (line_says (codes "area 4294967296 8") ≡ Err 4)
+unfolding script_text is_utf8 chars encode digits
+ranges = (refl, refl, refl, refl, refl)
+
+bounds : (line_says (codes "steps 1000000000") ≡ Ok (Some (has_steps 1000000000))) × (line_says (codes "show 0 4096") ≡ Ok (Some (shows 0 4096))) × (line_says (codes "detach d 1") ≡ Ok (Some (detaches (codes "d") 1)))
+unfolding script_text is_utf8 chars encode digits
+bounds = (refl, refl, refl)
+
+-- `ticks` twice, and `ticks` without a number, are of a wrong form, whatever the numbers are
+ticks_twice : (line_says (codes "answer env.read none ticks 1 ticks 1") ≡ Err 3) × (line_says (codes "answer env.read none ticks") ≡ Err 3) × (line_says (codes "answer env.read x poke") ≡ Err 3)
+unfolding script_text is_utf8 chars encode digits
+ticks_twice = (refl, refl, refl)
 
 -- ---- scripts
 
@@ -140,6 +174,34 @@ own_area = refl
 bad_list : fault (script_text (line (codes "program f") (codes "imports env"))) ≡ Some (breaks 2 8)
 unfolding script_text is_utf8 chars encode digits
 bad_list = refl
+
+-- within a line the rules are asked in their order: a number before the place of the line, that before the list, and a second line before its list
+number_before_place : fault (script_text (codes "area x 0")) ≡ Some (breaks 1 4)
+unfolding script_text is_utf8 chars encode digits
+number_before_place = refl
+
+place_before_list : fault (script_text (codes "imports env")) ≡ Some (breaks 1 5)
+unfolding script_text is_utf8 chars encode digits
+place_before_list = refl
+
+second_before_list : fault (script_text (line (codes "program f") (line (codes "imports env.a") (codes "imports env")))) ≡ Some (breaks 3 6)
+unfolding script_text is_utf8 chars encode digits
+second_before_list = refl
+
+-- a program without an area is told once all lines are lawful
+later_line : fault (script_text (line (codes "program f") (codes "save some"))) ≡ Some (breaks 2 3)
+unfolding script_text is_utf8 chars encode digits
+later_line = refl
+
+-- `detach` may stand anywhere, and lines without words count
+free_detach : fault (script_text (line (codes "detach d 1") (line [] (line (codes "# x") (codes "enter run"))))) ≡ Some (breaks 4 5)
+unfolding script_text is_utf8 chars encode digits
+free_detach = refl
+
+-- a comment is asked for UTF-8, and for no more
+bad_comment : fault (script_text (codes "# " ++ 195 ∷ [])) ≡ Some (breaks 1 1)
+unfolding script_text is_utf8 chars encode digits
+bad_comment = refl
 
 abbrev program_lines : List ℕ → List ℕ
 program_lines rest = line (codes "program f") (line (codes "area 0 8") rest)
