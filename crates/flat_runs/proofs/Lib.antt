@@ -3,11 +3,11 @@ mod CallSteps
 mod EachReduction
 mod Follows
 mod Leaving
-mod PlainSteps
-mod Reductions
+pub mod PlainSteps
+pub mod Reductions
 mod ResultMoves
 mod SameSteps
-mod Shapes
+pub mod Shapes
 mod Slots
 mod Stretches
 mod WaitingCalls

@@ -1,0 +1,4 @@
+pub mod BodyLemmas
+pub mod ConstructLemmas
+pub mod NestLemmas
+pub mod StartLemmas
