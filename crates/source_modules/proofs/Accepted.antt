@@ -27,9 +27,9 @@ use Rattle.asyncify_runtime.specs.Reserved.{reserved_at}
 use Rattle.source_modules.specs.declared.source.SourceFault.{SourceFault}
 use Rattle.source_modules.specs.Sources.{IsSource, IsRefusedFor, not_built}
 use Rattle.source_modules.specs.Refusals.{IsFaultOf, IsOfRead}
-use Rattle.source_modules.proofs.Grown.{with_runtime_length}
-use Rattle.source_modules.proofs.GrownFits.{grown_fits}
-use Rattle.source_modules.proofs.Spaces.{funcs_counted, globals_counted}
+use Rattle.emitted_bytes.proofs.Grown.{with_runtime_length}
+use Rattle.emitted_bytes.proofs.GrownFits.{grown_fits, grown_locals}
+use Rattle.emitted_bytes.proofs.Spaces.{funcs_counted, globals_counted}
 use Rattle.wa_types.specs.Norm.{Norm}
 use Rattle.wa_types.specs.Reading.{SpellsModule}
 use Rattle.wa_types.proofs.FileWriting.{written_spells}
@@ -81,27 +81,6 @@ read_refused s bytes (Malformed at) r h e = subst (IsFaultOf s bytes) (sym e) h
 read_refused s bytes (Float at) r h e = subst (IsFaultOf s bytes) (sym e) h
 read_refused s bytes (Deep at) r h e = subst (IsFaultOf s bytes) (sym e) h
 read_refused s bytes (Limit what n) r h e = subst (IsFaultOf s bytes) (sym e) h
-
-bare : (sort : ℕ) (body : Code) → local_count (runtime_func sort body).locals < 2 ^ 32
-bare sort body = omega arith
-
--- The runtime's functions declare no locals.
-pub grown_locals : (m : Module) → FewLocals m → FewLocals (with_runtime m)
-unfolding with_runtime
-grown_locals m h =
-    let P : Func → Type 0 = λ f. local_count f.locals < 2 ^ 32 in
-    let first = length m.types in
-    let state = global_space m in
-    let a = runtime_func first (start_code 1 state (state + 1)) in
-    let b = runtime_func (first + 1) (stop_code state (state + 1)) in
-    let c = runtime_func first (start_code 2 state (state + 1)) in
-    let d = runtime_func (first + 2) (state_code state) in
-    All-append P m.funcs (runtime_funcs first state (state + 1)) h
-    (All-cons P a (b ∷ c ∷ b ∷ d ∷ []) (bare first (start_code 1 state (state + 1)))
-    (All-cons P b (c ∷ b ∷ d ∷ []) (bare (first + 1) (stop_code state (state + 1)))
-    (All-cons P c (b ∷ d ∷ []) (bare first (start_code 2 state (state + 1)))
-    (All-cons P b (d ∷ []) (bare (first + 1) (stop_code state (state + 1)))
-    (All-cons P d [] (bare (first + 2) (state_code state)) (All-nil P))))))
 
 -- what is written of a source spells the norm of the module with the runtime's parts
 pub grown_spelled : (s : Settings) (bytes : List ℕ) (m : Module) → ((i : ℕ) → slice_index_or bytes i 0 < 2 ^ 8) → IsSource s bytes m → SpellsModule (Enc (with_runtime m)) (Norm (with_runtime m))

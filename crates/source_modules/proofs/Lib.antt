@@ -1,6 +1,2 @@
 pub mod Accepted
 pub mod FreeNames
-pub mod Grown
-pub mod GrownFits
-pub mod Lengths
-pub mod Spaces

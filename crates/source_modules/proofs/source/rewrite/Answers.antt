@@ -9,8 +9,9 @@ use Rattle.wa_types.specs.Norm.{Norm}
 use Rattle.wa_types.specs.Reading.{SpellsModule}
 use Rattle.wa_types.specs.Runtime.{with_runtime}
 use Rattle.wasm_encode.specs.Modules.{FewLocals}
-use Rattle.source_modules.proofs.Accepted.{strict, grown_short, few_locals, grown_locals, grown_spelled}
-use Rattle.source_modules.proofs.Spaces.{funcs_counted, globals_counted}
+use Rattle.source_modules.proofs.Accepted.{strict, grown_short, few_locals, grown_spelled}
+use Rattle.emitted_bytes.proofs.GrownFits.{grown_locals}
+use Rattle.emitted_bytes.proofs.Spaces.{funcs_counted, globals_counted}
 use Rattle.source_modules.proofs.source.rewrite.Goals as goal
 
 pub add_runtime-requires-clause-types : goal.add_runtime-requires-clause-types

@@ -4,11 +4,13 @@ use Rattle.std.specs.Prelude.{codes}
 use Rattle.std.proofs.lemmas.List.Elements.{All-nil, All-cons, All-append}
 use Rattle.wa_types.specs.declared.syntax.Run.{Run}
 use Rattle.wa_types.specs.declared.syntax.Limits.{Limits}
-use Rattle.wa_types.specs.Syntax.{Code, GlobalDef, Module}
+use Rattle.wa_types.specs.Syntax.{Code, Func, GlobalDef, Module}
 use Rattle.wa_types.specs.Base.{added_memories, one_page}
 use Rattle.wa_types.specs.Modules.{all_memories}
 use Rattle.wa_types.specs.Runtime.{with_runtime, runtime_func, runtime_funcs, runtime_globals, runtime_exports, zero_global, func_export, start_code, stop_code, state_code, test_code, func_space, global_space}
 use Rattle.wa_types.specs.Sizes.{CodeFits, LimitsFit, FuncFits, ExportFits, WellFormed}
+use Rattle.wasm_encode.specs.Locals.{local_count}
+use Rattle.wasm_encode.specs.Modules.{FewLocals}
 
 test_fits : (address : ℕ) → address < 2 ^ 32 → CodeFits (test_code address)
 test_fits address a = (a, ((refl, omega arith, omega arith), (a, ((refl, omega arith, omega arith), (tt, ((tt, tt), tt, tt))))))
@@ -80,3 +82,24 @@ grown_fits m w t f g = record {
   segments = w.segments;
   customs = w.customs;
 }
+
+pub bare : (sort : ℕ) (body : Code) → local_count (runtime_func sort body).locals < 2 ^ 32
+bare sort body = omega arith
+
+-- The runtime's functions declare no locals.
+pub grown_locals : (m : Module) → FewLocals m → FewLocals (with_runtime m)
+unfolding with_runtime
+grown_locals m h =
+    let P : Func → Type 0 = λ f. local_count f.locals < 2 ^ 32 in
+    let first = length m.types in
+    let state = global_space m in
+    let a = runtime_func first (start_code 1 state (state + 1)) in
+    let b = runtime_func (first + 1) (stop_code state (state + 1)) in
+    let c = runtime_func first (start_code 2 state (state + 1)) in
+    let d = runtime_func (first + 2) (state_code state) in
+    All-append P m.funcs (runtime_funcs first state (state + 1)) h
+    (All-cons P a (b ∷ c ∷ b ∷ d ∷ []) (bare first (start_code 1 state (state + 1)))
+    (All-cons P b (c ∷ b ∷ d ∷ []) (bare (first + 1) (stop_code state (state + 1)))
+    (All-cons P c (b ∷ d ∷ []) (bare first (start_code 2 state (state + 1)))
+    (All-cons P b (d ∷ []) (bare (first + 1) (stop_code state (state + 1)))
+    (All-cons P d [] (bare (first + 2) (state_code state)) (All-nil P))))))

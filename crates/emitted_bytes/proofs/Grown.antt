@@ -8,7 +8,7 @@ use Rattle.wa_types.specs.Encoding.{Enc, sections, with_customs, customs_behind,
 use Rattle.wa_types.specs.Base.{added_memories}
 use Rattle.wa_types.specs.Modules.{all_memories}
 use Rattle.wa_types.specs.Runtime.{with_runtime, runtime_types, runtime_globals, runtime_funcs, runtime_exports, runtime_func, func_space, global_space, start_code, stop_code, state_code, test_code}
-use Rattle.source_modules.proofs.Lengths.{section_grows, shortest_length, shortest_signed_length, sized_length}
+use Rattle.emitted_bytes.proofs.Lengths.{section_grows, shortest_length, shortest_signed_length, sized_length}
 
 types_bytes : length (flat_map func_type_bytes runtime_types) ≤ 90
 types_bytes = simp length-append (omega (arith, shortest_length 0, shortest_length 1))
@@ -73,12 +73,12 @@ bodies_bytes first state address =
     )
 
 -- the lengths of sections together
-abbrev total : List (List ℕ) → ℕ
+abbrev pub total : List (List ℕ) → ℕ
 total [] = 0
 total (s ∷ ss) = length s + total ss
 
 -- the lengths of the custom sections behind them
-abbrev customs_total : ℕ → List (List ℕ) → List Custom → ℕ
+abbrev pub customs_total : ℕ → List (List ℕ) → List Custom → ℕ
 customs_total id [] cs = 0
 customs_total id (s ∷ ss) cs = length (customs_behind id cs) + customs_total (suc id) ss cs
 
@@ -89,7 +89,7 @@ with_customs_length id (s ∷ ss) cs =
     let b = length-append s (customs_behind id cs) in
     let c = with_customs_length (suc id) ss cs in omega (arith, a, b, c)
 
-enc_length : (m : Module) → length (Enc m) ≡ 8 + length (customs_behind 0 m.customs) + (total (sections m) + customs_total 1 (sections m) m.customs)
+pub enc_length : (m : Module) → length (Enc m) ≡ 8 + length (customs_behind 0 m.customs) + (total (sections m) + customs_total 1 (sections m) m.customs)
 unfolding Enc
 enc_length m =
     let a = length-append (preamble ++ customs_behind 0 m.customs) (with_customs 1 (sections m) m.customs) in
