@@ -9,7 +9,7 @@ use Rattle.printing.specs.Refused.{status_of, EndsInMemory}
 use Rattle.printing.proofs.Printed.{memory_alone}
 use Rattle.asyncify_app.specs.Ends.{IsRefusal}
 use Rattle.asyncify_app.specs.Transforms.{HasCause, RunsOutOfMemory}
-use Rattle.source_modules.specs.Sources.{Cause, malformed, float, deep, limit, reserved, invalid, not_built, IsRefusedFor, refusal_for}
+use Rattle.source_modules.specs.Sources.{Cause, malformed, float, deep, limit, reserved, invalid, rewritten_locals, long_output, IsRefusedFor, refusal_for}
 use Rattle.wa_model.specs.Command.{Command, transform, OnTransform}
 use Rattle.vault_port.specs.Files.{Files, bytes_of}
 use Rattle.wa_types.specs.Pausing.{Settings}
@@ -34,7 +34,8 @@ never_nine (deep at) e = absurd (omega (arith, e))
 never_nine (limit what found) e = absurd (omega (arith, e))
 never_nine (reserved name) e = absurd (omega (arith, e))
 never_nine (invalid func rule at) e = absurd (omega (arith, e))
-never_nine not_built e = absurd (omega (arith, e))
+never_nine (rewritten_locals found) e = absurd (omega (arith, e))
+never_nine (long_output found) e = absurd (omega (arith, e))
 
 -- a refusal's status is that of its cause
 pub refused_has_cause : (s : Settings) (files : Option Files) (input : List ℕ) (status : ℕ) (cause : Cause)

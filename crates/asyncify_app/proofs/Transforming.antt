@@ -1,22 +1,21 @@
 -- The file that was read, and the one that is written.
-use Rattle.std.proofs.Common.{◌≡◌, inl, inr, ℕ, ◌≤◌, List, Option, Some, None, refl, sym, ap, ◌∙◌, subst, take, length, arith}
+use Rattle.std.proofs.Common.{◌≡◌, inl, inr, ℕ, ◌≤◌, List, Bool, Option, Some, None, refl, sym, ap, ◌∙◌, subst, take, length, arith}
 use Rattle.std.proofs.lemmas.List.{take_all, length-take}
 use Rattle.vault_port.specs.Files.{Files, bytes_of, ChangesOnly, HoldsFrontAtMost}
 use Rattle.vault_port.specs.Told.{WhereTold, Becomes}
 use Rattle.wa_types.specs.Syntax.{Module}
 use Rattle.wa_types.specs.Encoding.{Enc}
-use Rattle.wa_types.specs.Norm.{Norm}
-use Rattle.wa_types.specs.Reading.{SpellsModule}
 use Rattle.wa_types.specs.Pausing.{Settings}
-use Rattle.wa_types.specs.Runtime.{with_runtime}
+use Rattle.rewrite_form.specs.Emitted.{asyncified}
+use Rattle.norm_laws.proofs.Norms.{norm_valid}
 use Rattle.wa_types.specs.declared.bounds.LimitKind.TheVariants.{File, Functions, Parameters, Body, Locals, Output, Script, Programs}
 use Rattle.wa_types.specs.ModuleBounds.{source_bounds}
 use Rattle.wasm_reader.specs.declared.read_fault.ReadFault.{ReadFault}
 use Rattle.wasm_reader.specs.declared.read_fault.ReadFault.TheVariants.{Memory, Malformed, Float, Deep, Limit}
 use Rattle.wasm_reader.specs.Answers.{IsAccepted, IsRefused}
-use Rattle.source_modules.specs.Sources.{IsFree, IsValidSource, IsSource, Cause, malformed, float, deep, limit, reserved, invalid, not_built, IsRefusedFor, IsRewritten}
+use Rattle.source_modules.specs.Sources.{IsFree, IsValidSource, IsRewritable, IsSource, Cause, malformed, float, deep, limit, reserved, invalid, rewritten_locals, long_output, IsRefusedFor, IsRewritten}
 use Rattle.asyncify_app.specs.Transforms.{HoldsSource, IsTransformed, IsCutShort, IsCount}
-use Rattle.source_modules.proofs.FreeNames.{sources_are_rewritten}
+use Rattle.source_modules.proofs.FreeNames.{parts_of_sources, quiet_sources}
 
 -- a front one byte past the limit that is within it is whole
 whole_front : (bytes : List ℕ) → length (take 8388609 bytes) ≤ 8388608 → take 8388609 bytes ≡ bytes
@@ -32,8 +31,11 @@ free_whole bytes m f = record { read = accepted_whole bytes m f.read; free = f.f
 valid_whole : (bytes : List ℕ) (m : Module) → IsValidSource (take 8388609 bytes) m → IsValidSource bytes m
 valid_whole bytes m v = record { unreserved = free_whole bytes m v.unreserved; valid = v.valid }
 
-source_whole : (s : Settings) (bytes : List ℕ) (m : Module) → IsSource s (take 8388609 bytes) m → IsSource s bytes m
-source_whole s bytes m h = record { accepted = valid_whole bytes m h.accepted; quiet = h.quiet }
+rewritable_whole : (s : Settings) (bytes : List ℕ) (m : Module) (which : List Bool) → IsRewritable s (take 8388609 bytes) m which → IsRewritable s bytes m which
+rewritable_whole s bytes m which h = record { accepted = valid_whole bytes m h.accepted; tells = h.tells; few = h.few }
+
+source_whole : (s : Settings) (bytes : List ℕ) (m : Module) (which : List Bool) → IsSource s (take 8388609 bytes) m which → IsSource s bytes m which
+source_whole s bytes m which h = record { rewritable = rewritable_whole s bytes m which h.rewritable; short = h.short }
 
 -- and so is what is refused
 within_whole : (bytes : List ℕ) (P : List ℕ → Type 0) → length (take 8388609 bytes) ≤ 8388608 → P (take 8388609 bytes) → P bytes
@@ -60,11 +62,12 @@ cause_whole s bytes (deep at) h = refused_whole bytes (Deep at) h
 cause_whole s bytes (limit what found) h = refused_whole bytes (Limit what found) h
 cause_whole s bytes (reserved name) h = (h.0, h.1, accepted_whole bytes h.0 h.2, h.3, h.4)
 cause_whole s bytes (invalid func rule at) h = (h.0, free_whole bytes h.0 h.1, h.2)
-cause_whole s bytes not_built h = (h.0, valid_whole bytes h.0 h.1, h.2, h.3)
+cause_whole s bytes (rewritten_locals found) h = (h.0, h.1, valid_whole bytes h.0 h.2, h.3, h.4)
+cause_whole s bytes (long_output found) h = (h.0, h.1, rewritable_whole s bytes h.0 h.1 h.2, h.3, h.4)
 
 -- the front that was read is of the file
-source_of : (s : Settings) (bytes whole : List ℕ) (m : Module) → bytes ≡ take 8388609 whole → IsSource s bytes m → IsSource s whole m
-source_of s bytes whole m e h = source_whole s whole m (subst (λ z. IsSource s z m) e h)
+source_of : (s : Settings) (bytes whole : List ℕ) (m : Module) (which : List Bool) → bytes ≡ take 8388609 whole → IsSource s bytes m which → IsSource s whole m which
+source_of s bytes whole m which e h = source_whole s whole m which (subst (λ z. IsSource s z m which) e h)
 
 -- what one change of the files means of another, where they are told
 pub becomes_by : (P Q : Files → Files → Type 0) (old new : Option Files) → ((a b : Files) → old ≡ Some a → P a b → Q a b) → Becomes old new P → Becomes old new Q
@@ -76,42 +79,51 @@ becomes_by P Q (Some a) None f h = h
 told : (P : Files → Type 0) (old : Option Files) (a : Files) → old ≡ Some a → WhereTold old P → P a
 told P old a e h = subst (λ (o : Option Files). WhereTold o P) e h
 
-transformed_at : (s : Settings) (input output bytes text : List ℕ) (functions : ℕ) (a b : Files) → bytes ≡ take 8388609 (bytes_of a input)
-    → IsRewritten s bytes functions text → ChangesOnly output text a b → IsTransformed s input output a b
-transformed_at s input output bytes text functions a b e w c = record {
-  «module» = w.0;
-  source = source_of s bytes (bytes_of a input) w.0 e w.1;
-  written = subst (λ (bs : List ℕ). ChangesOnly output bs a b) w.3 c;
-  spelled = subst (λ (bs : List ℕ). SpellsModule bs (Norm (with_runtime w.0))) w.3 w.4;
-  rewritten = sources_are_rewritten s bytes w.0 w.1;
-}
+transformed_at : (s : Settings) (input output bytes text : List ℕ) (functions instrumented : ℕ) (a b : Files) → bytes ≡ take 8388609 (bytes_of a input)
+    → IsRewritten s bytes functions instrumented text → ChangesOnly output text a b → IsTransformed s input output a b
+transformed_at s input output bytes text functions instrumented a b e w c =
+    let m : Module = w.0 in
+    let which : List Bool = w.1 in
+    let v = w.2.rewritable.accepted.valid in
+    let free = w.2.rewritable.accepted.unreserved.free in
+    let parts = parts_of_sources m s which v free w.2.rewritable.tells in
+    record {
+      «module» = m;
+      which = which;
+      source = source_of s bytes (bytes_of a input) m which e w.2;
+      written = subst (λ (bs : List ℕ). ChangesOnly output bs a b) w.5 c;
+      prepared = w.6;
+      valid = norm_valid (asyncified m s which) parts.valid_rewritten;
+      parts = parts;
+      rewritten = λ q. quiet_sources m s which v free w.2.rewritable.tells q;
+    }
 
 -- after the save
-pub transformed : (s : Settings) (input output bytes text : List ℕ) (functions : ℕ) (old mid new : Option Files) → mid ≡ old
-    → WhereTold old (λ all. bytes ≡ take 8388609 (bytes_of all input)) → IsRewritten s bytes functions text
+pub transformed : (s : Settings) (input output bytes text : List ℕ) (functions instrumented : ℕ) (old mid new : Option Files) → mid ≡ old
+    → WhereTold old (λ all. bytes ≡ take 8388609 (bytes_of all input)) → IsRewritten s bytes functions instrumented text
     → Becomes mid new (ChangesOnly output text) → Becomes old new (IsTransformed s input output)
-transformed s input output bytes text functions old mid new same read w saved =
+transformed s input output bytes text functions instrumented old mid new same read w saved =
     becomes_by (ChangesOnly output text) (IsTransformed s input output) old new
-    (λ a b e c. transformed_at s input output bytes text functions a b (told (λ all. bytes ≡ take 8388609 (bytes_of all input)) old a e read) w c)
+    (λ a b e c. transformed_at s input output bytes text functions instrumented a b (told (λ all. bytes ≡ take 8388609 (bytes_of all input)) old a e read) w c)
     (subst (λ (o : Option Files). Becomes o new (ChangesOnly output text)) same saved)
 
-left_at : (s : Settings) (input output bytes text : List ℕ) (functions : ℕ) (a b : Files) → bytes ≡ take 8388609 (bytes_of a input)
-    → IsRewritten s bytes functions text → HoldsFrontAtMost output text a b → IsCutShort s input output a b
-left_at s input output bytes text functions a b e w h = record {
+left_at : (s : Settings) (input output bytes text : List ℕ) (functions instrumented : ℕ) (a b : Files) → bytes ≡ take 8388609 (bytes_of a input)
+    → IsRewritten s bytes functions instrumented text → HoldsFrontAtMost output text a b → IsCutShort s input output a b
+left_at s input output bytes text functions instrumented a b e w h = record {
   left = elim h.changed [
-    | inl front ↦ inr (w.0, source_of s bytes (bytes_of a input) w.0 e w.1, front.0, subst (λ (bs : List ℕ). b output ≡ Some (take front.0 bs)) w.3 front.1)
+    | inl front ↦ inr (w.0, w.1, source_of s bytes (bytes_of a input) w.0 w.1 e w.2, front.0, subst (λ (bs : List ℕ). b output ≡ Some (take front.0 bs)) w.5 front.1)
     | inr same ↦ inl same
   ];
   others = h.others;
 }
 
 -- after a save that failed
-pub cut_short : (s : Settings) (input output bytes text : List ℕ) (functions : ℕ) (old mid new : Option Files) → mid ≡ old
-    → WhereTold old (λ all. bytes ≡ take 8388609 (bytes_of all input)) → IsRewritten s bytes functions text
+pub cut_short : (s : Settings) (input output bytes text : List ℕ) (functions instrumented : ℕ) (old mid new : Option Files) → mid ≡ old
+    → WhereTold old (λ all. bytes ≡ take 8388609 (bytes_of all input)) → IsRewritten s bytes functions instrumented text
     → Becomes mid new (HoldsFrontAtMost output text) → Becomes old new (IsCutShort s input output)
-cut_short s input output bytes text functions old mid new same read w saved =
+cut_short s input output bytes text functions instrumented old mid new same read w saved =
     becomes_by (HoldsFrontAtMost output text) (IsCutShort s input output) old new
-    (λ a b e c. left_at s input output bytes text functions a b (told (λ all. bytes ≡ take 8388609 (bytes_of all input)) old a e read) w c)
+    (λ a b e c. left_at s input output bytes text functions instrumented a b (told (λ all. bytes ≡ take 8388609 (bytes_of all input)) old a e read) w c)
     (subst (λ (o : Option Files). Becomes o new (HoldsFrontAtMost output text)) same saved)
 
 -- of files that did not change
@@ -120,11 +132,11 @@ uncut s input output None new e = subst (λ (o : Option Files). Becomes None o (
 uncut s input output (Some a) new e = subst (λ (o : Option Files). Becomes (Some a) o (IsCutShort s input output)) (sym e) (record { left = inl refl; others = λ other d. refl })
 
 -- what is counted
-pub counted : (s : Settings) (input bytes text : List ℕ) (functions len : ℕ) (old : Option Files) → len ≡ length text
-    → WhereTold old (λ all. bytes ≡ take 8388609 (bytes_of all input)) → IsRewritten s bytes functions text
-    → WhereTold old (λ all. IsCount s (bytes_of all input) functions len)
-counted s input bytes text functions len None l read w = tt
-counted s input bytes text functions len (Some a) l read w = (w.0, source_of s bytes (bytes_of a input) w.0 read w.1, w.2, l ∙ ap length w.3)
+pub counted : (s : Settings) (input bytes text : List ℕ) (functions instrumented len : ℕ) (old : Option Files) → len ≡ length text
+    → WhereTold old (λ all. bytes ≡ take 8388609 (bytes_of all input)) → IsRewritten s bytes functions instrumented text
+    → WhereTold old (λ all. IsCount s (bytes_of all input) functions instrumented len)
+counted s input bytes text functions instrumented len None l read w = tt
+counted s input bytes text functions instrumented len (Some a) l read w = (w.0, w.1, source_of s bytes (bytes_of a input) w.0 w.1 read w.2, w.3, w.4, l ∙ ap length w.5)
 
 -- what the front is refused for, the file is
 pub refused_for : (s : Settings) (input bytes : List ℕ) (old : Option Files) (cause : Cause)
@@ -134,18 +146,20 @@ refused_for s input bytes None cause read h = tt
 refused_for s input bytes (Some a) cause read h = cause_whole s (bytes_of a input) cause (subst (λ bs. IsRefusedFor s bs cause) read h)
 
 -- an accepted source is in the file
-pub held : (s : Settings) (input bytes text : List ℕ) (functions : ℕ) (old : Option Files)
-    → WhereTold old (λ all. bytes ≡ take 8388609 (bytes_of all input)) → IsRewritten s bytes functions text
+pub held : (s : Settings) (input bytes text : List ℕ) (functions instrumented : ℕ) (old : Option Files)
+    → WhereTold old (λ all. bytes ≡ take 8388609 (bytes_of all input)) → IsRewritten s bytes functions instrumented text
     → WhereTold old (λ all. HoldsSource s (bytes_of all input))
 unfolding HoldsSource
-held s input bytes text functions None read w = tt
-held s input bytes text functions (Some a) read w = (w.0, source_of s bytes (bytes_of a input) w.0 read w.1)
+held s input bytes text functions instrumented None read w = tt
+held s input bytes text functions instrumented (Some a) read w = (w.0, w.1, source_of s bytes (bytes_of a input) w.0 w.1 read w.2)
 
 cut_of_transformed : (s : Settings) (input output : List ℕ) (a b : Files) → IsTransformed s input output a b → IsCutShort s input output a b
-cut_of_transformed s input output a b t = record {
-  left = inr (t.«module», t.source, length (Enc (with_runtime t.«module»)), t.written.changed ∙ ap (λ (bs : List ℕ). Some bs) (sym (take_all (length (Enc (with_runtime t.«module»))) (Enc (with_runtime t.«module»)) (omega arith))));
-  others = t.written.others;
-}
+cut_of_transformed s input output a b t =
+    let text : List ℕ = Enc (asyncified t.«module» s t.which) in
+    record {
+      left = inr (t.«module», t.which, t.source, length text, t.written.changed ∙ ap (λ (bs : List ℕ). Some bs) (sym (take_all (length text) text (omega arith))));
+      others = t.written.others;
+    }
 
 -- what is whole is a first part too
 pub transformed_is_cut : (s : Settings) (input output : List ℕ) (old new : Option Files) → Becomes old new (IsTransformed s input output) → Becomes old new (IsCutShort s input output)

@@ -1,5 +1,5 @@
 -- Bytes are an accepted source or refused for causes of one status: each cause stops at a stage that none behind it does.
-use Rattle.std.proofs.Common.{arith, ◌≡◌, ℕ, zero, suc, ◌≤◌, inl, inr, List, [], Option, Some, None, refl, sym, ap, ◌∙◌, subst, length, Contains}
+use Rattle.std.proofs.Common.{arith, ◌≡◌, ℕ, zero, suc, ◌≤◌, inl, inr, List, [], Bool, Option, Some, None, refl, sym, ap, ◌∙◌, subst, length, Contains}
 use Rattle.std.proofs.lemmas.Bool.{cases_lt}
 use Rattle.wa_types.specs.declared.bounds.LimitKind.{LimitKind}
 use Rattle.wa_types.specs.declared.bounds.LimitKind.TheVariants.{File, Functions, Parameters, Body, Locals, Output, Script, Programs}
@@ -8,7 +8,10 @@ use Rattle.wa_types.specs.Marks.{floats, opens, IsLeast, function_count, paramet
 use Rattle.wa_types.specs.ModuleBounds.{source_bounds}
 use Rattle.wa_types.specs.Reading.{IsModule}
 use Rattle.wa_types.specs.FirstFault.{FirstFault}
-use Rattle.wa_types.specs.Pausing.{Settings, MayPause}
+use Rattle.wa_types.specs.Encoding.{Enc}
+use Rattle.wa_types.specs.Pausing.{Settings, TellsMayPause}
+use Rattle.slot_laws.proofs.Closed.{one_list}
+use Rattle.rewrite_form.specs.Emitted.{asyncified}
 use Rattle.wa_types.specs.Syntax.{Module}
 use Rattle.wa_types.proofs.FaultLemmas.{valid_no_fault}
 use Rattle.wa_types.proofs.OneFault.{fault_spells_none}
@@ -16,7 +19,7 @@ use Rattle.wa_types.proofs.OneModule.{one_module}
 use Rattle.wa_types.proofs.UniqueCode.{one_file}
 use Rattle.wasm_reader.specs.Answers.{IsFile, HasNoFloat, IsAccepted}
 use Rattle.asyncify_runtime.specs.Reserved.{reserved_at}
-use Rattle.source_modules.specs.Sources.{IsFree, IsValidSource, IsSource, Cause, malformed, float, deep, limit, reserved, invalid, not_built, IsRefusedFor, refusal_for}
+use Rattle.source_modules.specs.Sources.{IsFree, IsValidSource, rewritten_counts, IsRewritable, IsSource, Cause, malformed, float, deep, limit, reserved, invalid, rewritten_locals, long_output, IsRefusedFor, refusal_for}
 use Rattle.printing.specs.Refused.{status_of}
 
 -- how far bytes come
@@ -28,8 +31,9 @@ Reached s bytes (suc (suc (suc zero))) = (ss : List Section) × HasNoFloat sourc
 Reached s bytes (suc (suc (suc (suc zero)))) = (m : Module) × IsAccepted source_bounds bytes m
 Reached s bytes (suc (suc (suc (suc (suc zero))))) = (m : Module) × IsFree bytes m
 Reached s bytes (suc (suc (suc (suc (suc (suc zero)))))) = (m : Module) × IsValidSource bytes m
-Reached s bytes (suc (suc (suc (suc (suc (suc (suc zero))))))) = (m : Module) × IsSource s bytes m
-Reached s bytes (suc (suc (suc (suc (suc (suc (suc (suc n)))))))) = ⊥
+Reached s bytes (suc (suc (suc (suc (suc (suc (suc zero))))))) = (m : Module) × (which : List Bool) × IsRewritable s bytes m which
+Reached s bytes (suc (suc (suc (suc (suc (suc (suc (suc zero)))))))) = (m : Module) × (which : List Bool) × IsSource s bytes m which
+Reached s bytes (suc (suc (suc (suc (suc (suc (suc (suc (suc n))))))))) = ⊥
 
 down : (s : Settings) (bytes : List ℕ) (n : ℕ) → Reached s bytes (suc n) → Reached s bytes n
 down s bytes zero r = tt
@@ -38,8 +42,9 @@ down s bytes (suc (suc zero)) r = (r.0, r.1.file)
 down s bytes (suc (suc (suc zero))) r = (r.1.sections, r.1.within.before.before.before.before.before)
 down s bytes (suc (suc (suc (suc zero)))) r = (r.0, r.1.read)
 down s bytes (suc (suc (suc (suc (suc zero))))) r = (r.0, r.1.unreserved)
-down s bytes (suc (suc (suc (suc (suc (suc zero)))))) r = (r.0, r.1.accepted)
-down s bytes (suc (suc (suc (suc (suc (suc (suc n))))))) r = absurd r
+down s bytes (suc (suc (suc (suc (suc (suc zero)))))) r = (r.0, r.2.accepted)
+down s bytes (suc (suc (suc (suc (suc (suc (suc zero))))))) r = (r.0, r.1, r.2.rewritable)
+down s bytes (suc (suc (suc (suc (suc (suc (suc (suc n)))))))) r = absurd r
 
 below : (s : Settings) (bytes : List ℕ) (n k : ℕ) → k ≤ n → Reached s bytes n → Reached s bytes k
 below s bytes zero k h r = let e : 0 ≡ k = omega (arith, h) in subst (Reached s bytes) e r
@@ -60,7 +65,8 @@ stage (deep at) = 3
 stage (limit what found) = limit_stage what
 stage (reserved name) = 4
 stage (invalid func rule at) = 5
-stage not_built = 6
+stage (rewritten_locals found) = 6
+stage (long_output found) = 7
 
 reaches : (s : Settings) (bytes : List ℕ) (c : Cause) → IsRefusedFor s bytes c → Reached s bytes (stage c)
 reaches s bytes (malformed at) h = h.0
@@ -76,7 +82,8 @@ reaches s bytes (limit Script n) h = absurd h
 reaches s bytes (limit Programs n) h = absurd h
 reaches s bytes (reserved name) h = (h.0, h.2)
 reaches s bytes (invalid func rule at) h = (h.0, h.1)
-reaches s bytes not_built h = (h.0, h.1)
+reaches s bytes (rewritten_locals found) h = (h.0, h.2)
+reaches s bytes (long_output found) h = (h.0, h.1, h.2)
 
 no_least : (k : ℕ) (ks : List ℕ) → IsLeast k ks → ks ≡ [] → ⊥
 no_least k ks h e = let c : Contains [] k = subst (λ (xs : List ℕ). Contains xs k) e h.among in let lt = c.1 in absurd (omega arith)
@@ -121,8 +128,16 @@ stops s bytes (reserved name) h r =
     no_some (reserved_at r.0) h.1 (subst (λ (m : Module). reserved_at m ≡ Some h.1) (same_module bytes h.0 r.0 h.2 r.1.read) h.3) r.1.free
 stops s bytes (invalid func rule at) h r =
     valid_no_fault r.0 func rule at r.1.valid (subst (λ (m : Module). FirstFault m func rule at) (same_module bytes h.0 r.0 h.1.read r.1.unreserved.read) h.2)
-stops s bytes not_built h r =
-    r.1.quiet h.2 (subst (λ (m : Module). MayPause m s h.2) (same_module bytes h.0 r.0 h.1.unreserved.read r.1.accepted.unreserved.read) h.3)
+stops s bytes (rewritten_locals found) h r =
+    let e = same_module bytes h.0 r.0 h.2.unreserved.read r.2.accepted.unreserved.read in
+    let t = one_list r.0 s h.1 r.1 (subst (λ (m : Module). TellsMayPause m s h.1) e h.3) r.2.tells in
+    no_some (first_above 50000 (rewritten_counts h.0 h.1)) found h.4
+    (ap (λ (m : Module). first_above 50000 (rewritten_counts m h.1)) e ∙ ap (λ which. first_above 50000 (rewritten_counts r.0 which)) t ∙ r.2.few)
+stops s bytes (long_output found) h r =
+    let e = same_module bytes h.0 r.0 h.2.accepted.unreserved.read r.2.rewritable.accepted.unreserved.read in
+    let t = one_list r.0 s h.1 r.1 (subst (λ (m : Module). TellsMayPause m s h.1) e h.2.tells) r.2.rewritable.tells in
+    let same = ap (λ (m : Module). length (Enc (asyncified m s h.1))) e ∙ ap (λ which. length (Enc (asyncified r.0 s which))) t in
+    absurd (omega (arith, same, h.3, h.4, r.2.short))
 
 abbrev status_at : ℕ → ℕ
 status_at zero = 6
@@ -131,7 +146,7 @@ status_at (suc (suc zero)) = 4
 status_at (suc (suc (suc zero))) = 6
 status_at (suc (suc (suc (suc zero)))) = 7
 status_at (suc (suc (suc (suc (suc zero))))) = 5
-status_at (suc (suc (suc (suc (suc (suc n)))))) = 14
+status_at (suc (suc (suc (suc (suc (suc n)))))) = 6
 
 limit_six : (what : LimitKind) → 6 ≡ status_at (limit_stage what)
 limit_six File = refl
@@ -144,20 +159,22 @@ by_stage (deep at) = refl
 by_stage (limit what found) = limit_six what
 by_stage (reserved name) = refl
 by_stage (invalid func rule at) = refl
-by_stage not_built = refl
+by_stage (rewritten_locals found) = refl
+by_stage (long_output found) = refl
 
-limit_early : (what : LimitKind) → limit_stage what ≤ 6
+limit_early : (what : LimitKind) → limit_stage what ≤ 7
 limit_early File = omega arith
 limit_early _ = omega arith
 
-early : (c : Cause) → stage c ≤ 6
+early : (c : Cause) → stage c ≤ 7
 early (malformed at) = omega arith
 early (float at) = omega arith
 early (deep at) = omega arith
 early (limit what found) = limit_early what
 early (reserved name) = omega arith
 early (invalid func rule at) = omega arith
-early not_built = omega arith
+early (rewritten_locals found) = omega arith
+early (long_output found) = omega arith
 
 -- Two causes for which bytes are refused have one status.
 pub one_status : (s : Settings) (bytes : List ℕ) (c d : Cause) → IsRefusedFor s bytes c → IsRefusedFor s bytes d → status_of (refusal_for c) ≡ status_of (refusal_for d)
@@ -169,6 +186,6 @@ one_status s bytes c d h k = elim (cases_lt (stage c) (stage d)) [
   ]
 ]
 
--- A source of which nothing may pause isn't refused.
-pub source_passes : (s : Settings) (bytes : List ℕ) (m : Module) (c : Cause) → IsSource s bytes m → IsRefusedFor s bytes c → ⊥
-source_passes s bytes m c src h = stops s bytes c h (below s bytes 7 (suc (stage c)) (omega (arith, early c)) (m, src))
+-- An accepted source isn't refused.
+pub source_passes : (s : Settings) (bytes : List ℕ) (m : Module) (which : List Bool) (c : Cause) → IsSource s bytes m which → IsRefusedFor s bytes c → ⊥
+source_passes s bytes m which c src h = stops s bytes c h (below s bytes 8 (suc (stage c)) (omega (arith, early c)) (m, which, src))

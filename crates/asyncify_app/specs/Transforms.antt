@@ -1,5 +1,5 @@
 -- What `transform` does to the files and what it prints.
-use Rattle.std.specs.Prelude.{◌≡◌, ◌⊎◌, ℕ, List, ◌++◌, length, take, Option, Some, None, codes}
+use Rattle.std.specs.Prelude.{◌≡◌, ◌⊎◌, ℕ, List, ◌++◌, length, take, count_by, Bool, Option, Some, None, codes}
 use Rattle.std.specs.Fmt.{decimal}
 use Rattle.vault_port.specs.Files.{Files, bytes_of, KeepsOthers, ChangesOnly}
 use Rattle.vault_port.specs.Told.{WhereTold}
@@ -8,8 +8,12 @@ use Rattle.wa_types.specs.Syntax.{Module}
 use Rattle.wa_types.specs.Encoding.{Enc}
 use Rattle.wa_types.specs.Norm.{Norm}
 use Rattle.wa_types.specs.Pausing.{Settings}
-use Rattle.wa_types.specs.Reading.{SpellsModule}
-use Rattle.wa_types.specs.Runtime.{with_runtime}
+use Rattle.wa_types.specs.ModuleBounds.{prepared_bounds}
+use Rattle.wa_types.specs.Validity.{Valid}
+use Rattle.wasm_reader.specs.Answers.{IsAccepted}
+use Rattle.wa_model.specs.Quiet.{NeverPauses}
+use Rattle.rewrite_form.specs.Emitted.{asyncified}
+use Rattle.rewrite_form.specs.Rewritten.{RewritesButRuns}
 use Rattle.wa_model.specs.Rewrites.{Rewrites}
 use Rattle.wa_model.specs.Transcript.{refusal_line, read_fault, write_fault, line_end}
 use Rattle.printing.specs.Refused.{status_of, Prints, PrintsMemory}
@@ -21,34 +25,38 @@ unfoldable pub done_line : (functions instrumented bytes : ℕ) → List ℕ
 done_line functions instrumented bytes =
     codes "ok functions " ++ decimal functions ++ codes " instrumented " ++ decimal instrumented ++ codes " bytes " ++ decimal bytes ++ line_end
 
--- OUT holds the bytes of a module that is the module of IN, rewritten by these settings: under the host's protocol it behaves
--- like the original. The other files are as before.
+-- OUT holds the bytes of the module of IN, rewritten by these settings. They spell a valid module without a float, which passes
+-- no bound of a prepared module; under the host's protocol it behaves like the original. The other files are as before.
 pub record IsTransformed (s : Settings) (input output : List ℕ) (old new : Files) : Type 0 where
   pub «module» : Module
-  pub source : IsSource s (bytes_of old input) «module»
-  pub written : ChangesOnly output (Enc (with_runtime «module»)) old new
-  pub spelled : SpellsModule (Enc (with_runtime «module»)) (Norm (with_runtime «module»))
-  pub rewritten : Rewrites «module» s (Norm (with_runtime «module»))
+  pub which : List Bool
+  pub source : IsSource s (bytes_of old input) «module» which
+  pub written : ChangesOnly output (Enc (asyncified «module» s which)) old new
+  pub prepared : IsAccepted prepared_bounds (Enc (asyncified «module» s which)) (Norm (asyncified «module» s which))
+  pub valid : Valid (Norm (asyncified «module» s which))
+  -- each part of a rewriting but the runs, and, where nothing may pause, all of it
+  pub parts : RewritesButRuns «module» s (asyncified «module» s which)
+  pub rewritten : NeverPauses «module» s → Rewrites «module» s (Norm (asyncified «module» s which))
 
 -- OUT is as before, or holds some first bytes of what it would hold; the other files are as before.
 pub record IsCutShort (s : Settings) (input output : List ℕ) (old new : Files) : Type 0 where
   pub left : (new output ≡ old output)
-      ⊎ ((m : Module) × IsSource s (bytes_of old input) m × (n : ℕ) × (new output ≡ Some (take n (Enc (with_runtime m)))))
+      ⊎ ((m : Module) × (which : List Bool) × IsSource s (bytes_of old input) m which × (n : ℕ) × (new output ≡ Some (take n (Enc (asyncified m s which)))))
   pub others : KeepsOthers output old new
 
--- the functions of the module that these bytes spell, and the bytes of what is written
-abbrev pub IsCount : Settings → List ℕ → ℕ → ℕ → Type 0
-IsCount s source functions bytes =
-    (m : Module) × IsSource s source m × (functions ≡ length m.funcs) × (bytes ≡ length (Enc (with_runtime m)))
+-- the functions of the module that these bytes spell, how many of them may pause, and the bytes of what is written
+abbrev pub IsCount : Settings → List ℕ → (functions instrumented bytes : ℕ) → Type 0
+IsCount s source functions instrumented bytes =
+    (m : Module) × (which : List Bool) × IsSource s source m which × (functions ≡ length m.funcs) × (instrumented ≡ count_by (λ b. b) which) × (bytes ≡ length (Enc (asyncified m s which)))
 
 -- the line of a module that was written; where the files are told, that of the module in IN
 abbrev pub IsDoneLine : Settings → Option Files → List ℕ → List ℕ → Type 0
 IsDoneLine s files input line =
-    (functions : ℕ) × (bytes : ℕ) × (line ≡ done_line functions 0 bytes) × WhereTold files (λ all. IsCount s (bytes_of all input) functions bytes)
+    (functions : ℕ) × (instrumented : ℕ) × (bytes : ℕ) × (line ≡ done_line functions instrumented bytes) × WhereTold files (λ all. IsCount s (bytes_of all input) functions instrumented bytes)
 
 -- there is an accepted source in IN
 unfoldable pub HoldsSource : Settings → List ℕ → Type 0
-HoldsSource s bytes = (m : Module) × IsSource s bytes m
+HoldsSource s bytes = (m : Module) × (which : List Bool) × IsSource s bytes m which
 
 -- a cause of this status; where the files are told, IN is refused for it
 abbrev pub HasCause : Settings → Option Files → List ℕ → ℕ → Type 0

@@ -2,6 +2,7 @@
 ghost use Rattle.std.specs.Prelude.{◌≡◌, ◌⊎◌, ◌≤◌, map, None, IsSome};
 ghost use Rattle.std.specs.String.{string_bytes};
 ghost use Rattle.call_graph.specs.Settings.{settings_of};
+ghost use Rattle.call_graph.specs.declared.settings.Policy.TheVariants.{All};
 ghost use Rattle.vault_port.specs.Counts.{HasRisen};
 ghost use Rattle.vault_port.specs.Files.{bytes_of, IsMissing};
 ghost use Rattle.vault_port.specs.Told.{WhereTold, Becomes};
@@ -23,8 +24,7 @@ use vault_port::{Sink, Vault};
 /// Runs the command that the words spell, without the program's own name, over a vault of files and a sink for what
 /// it prints, and answers its status: 0 done, 2 no command, 3 bytes that spell no module, 4 a float, 5 a module that isn't
 /// valid, 6 a limit, 7 a reserved name, 9 want of memory, 10 a file that could not be read, 11 one that could not be
-/// written, 12 a sink that failed, 14 a module of which something may pause, which isn't built yet. Each refusal prints a line. Want of
-/// memory may come in the place of any other answer.
+/// written, 12 a sink that failed. Each refusal prints a line. Want of memory may come in the place of any other answer.
 pub fn asyncify<V: Vault, S: Sink>(
     alloc: Global,
     words: &[String],
@@ -111,6 +111,7 @@ fn run_transform<V: Vault, S: Sink>(
     input: &str,
     output: &str,
 ) -> u8
+    requires { settings.now.policy ≡ All }
     ensures status { (result ≡ 0) ⊎ IsRefusal result ⊎ (result ≡ 9) ⊎ (result ≡ 10) ⊎ (result ≡ 11) ⊎ (result ≡ 12) }
 
     // The causes.
@@ -141,7 +142,7 @@ fn run_transform<V: Vault, S: Sink>(
     ensures sink_faults { S.faults out.old ≤ S.faults out.new }
 {
     match transform(alloc, vault, settings, input, output) {
-        Ok(done) => report(alloc, out, done.functions, done.bytes),
+        Ok(done) => report(alloc, out, done),
         Err(TransformFault::Memory) => out_of_memory(out),
         Err(TransformFault::Read) => refuse_read(alloc, out, input),
         Err(TransformFault::Refused(refusal)) => refuse(alloc, out, refusal_kind(refusal)),

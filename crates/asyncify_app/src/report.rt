@@ -10,11 +10,13 @@ ghost use Rattle.source_modules.specs.Refusals.{cause_of};
 ghost use Rattle.source_modules.specs.Sources.{refusal_for};
 ghost use Rattle.asyncify_app.specs.Transforms.{done_line};
 
+use crate::transform::Done;
 use printing::out_of_memory;
 use source_modules::Refusal;
 use std::alloc::{AllocError, Global};
 use transcript::RefusalKind;
 use vault_port::{PutFault, Sink, put_whole};
+use wa_types::LimitKind;
 
 /// The status of a sink that failed while accepted output was printed.
 const SINK_FAULT: u8 = 12;
@@ -30,23 +32,30 @@ pub fn refusal_kind(refusal: Refusal) -> RefusalKind
         Refusal::Limit { what, found } => RefusalKind::Limit { what, found },
         Refusal::Reserved { name } => RefusalKind::Reserved { name },
         Refusal::Invalid { func, rule, at } => RefusalKind::Invalid { func, rule, at },
-        Refusal::NotBuilt => RefusalKind::NotBuilt,
+        Refusal::RewrittenLocals { found } => RefusalKind::Limit {
+            what: LimitKind::Locals,
+            found,
+        },
+        Refusal::Output { found } => RefusalKind::Limit {
+            what: LimitKind::Output,
+            found,
+        },
     }
 }
 
 /// Prints the line of a module that was written. Answers 0, 12 after a fault of the sink, or 9.
-pub fn report<S: Sink>(alloc: Global, out: &mut S, functions: usize, bytes: usize) -> u8
+pub fn report<S: Sink>(alloc: Global, out: &mut S, done: Done) -> u8
     ensures status { (result ≡ 0) ⊎ (result ≡ 9) ⊎ (result ≡ 12) }
     ensures printed { result ≡ 0 → Becomes (S.taken out.old) (S.taken out.new)
-        (Appends (done_line functions 0 bytes)) }
+        (Appends (done_line done.functions done.instrumented done.bytes)) }
     ensures fault { result ≡ 12 → HasRisen (S.faults out.old) (S.faults out.new) }
     ensures less { result ≡ 12 → Becomes (S.taken out.old) (S.taken out.new)
-        (AppendsLess (done_line functions 0 bytes)) }
+        (AppendsLess (done_line done.functions done.instrumented done.bytes)) }
     ensures memory { result ≡ 9 → Becomes (S.taken out.old) (S.taken out.new)
-        (PrintsMemory (done_line functions 0 bytes)) }
+        (PrintsMemory (done_line done.functions done.instrumented done.bytes)) }
     ensures faults { S.faults out.old ≤ S.faults out.new }
 {
-    let Ok(line) = done_line(alloc, functions, 0, bytes) else {
+    let Ok(line) = done_line(alloc, done.functions, done.instrumented, done.bytes) else {
         return out_of_memory(out);
     };
     match put_whole(out, line.as_bytes()) {

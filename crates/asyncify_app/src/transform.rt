@@ -1,6 +1,7 @@
 // The command `transform`.
 ghost use Rattle.std.specs.Prelude.{◌≡◌, ◌⊎◌, ◌≤◌, IfOk, IsErrOf, OnOk, OnErr, IsSome};
 ghost use Rattle.call_graph.specs.Settings.{settings_of};
+ghost use Rattle.call_graph.specs.declared.settings.Policy.TheVariants.{All};
 ghost use Rattle.vault_port.specs.Counts.{HasRisen};
 ghost use Rattle.vault_port.specs.Files.{bytes_of, IsMissing};
 ghost use Rattle.vault_port.specs.Told.{WhereTold, Becomes};
@@ -27,10 +28,11 @@ pub enum TransformFault {
     Write,
 }
 
-/// What was written: how many functions the source defines, and how many bytes the file holds.
+/// What was written: how many functions the source defines, how many of them may pause, and how many bytes the file holds.
 #[derive(Clone, Copy, Debug, PartialEq, Eq)]
 pub struct Done {
     pub functions: usize,
+    pub instrumented: usize,
     pub bytes: usize,
 }
 
@@ -46,10 +48,11 @@ pub fn transform<V: Vault>(
     input: &str,
     output: &str,
 ) -> Result<Done, TransformFault>
+    requires { settings.now.policy ≡ All }
     ensures done { OnOk result (Becomes (V.files vault.old) (V.files vault.new)
         (IsTransformed (settings_of settings.now) input.now output.now)) }
     ensures counts { IfOk result (λ d. WhereTold (V.files vault.old) (λ all.
-        IsCount (settings_of settings.now) (bytes_of all input.now) d.functions d.bytes)) }
+        IsCount (settings_of settings.now) (bytes_of all input.now) d.functions d.instrumented d.bytes)) }
 
     ensures read { IsErrOf result TransformFault.Read
         → HasRisen (V.fetch_faults vault.old) (V.fetch_faults vault.new)
@@ -82,6 +85,7 @@ pub fn transform<V: Vault>(
     match save_whole(vault, output, &written.text) {
         Ok(()) => Ok(Done {
             functions: written.functions,
+            instrumented: written.instrumented,
             bytes: written.text.len(),
         }),
         Err(SaveFault::Write) => Err(TransformFault::Write),

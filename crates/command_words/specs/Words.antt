@@ -3,6 +3,7 @@ use Rattle.std.specs.Prelude.{◌≡◌, List, ℕ, Option, Some, None, Result, 
 use Rattle.std.specs.Option.{option_map}
 use denote.Ref.{Bor}
 use Rattle.call_graph.specs.Settings.{settings_of}
+use Rattle.call_graph.specs.declared.settings.Policy.TheVariants.{All}
 use Rattle.wa_model.specs.Command.{Command, transform, Said, Place, anywhere, behind_imports, behind_options, Word, imports_word, ignore_imports_word, ignore_indirect_word, end_word, unknown_word, imports_with, name_word}
 use Rattle.command_words.specs.declared.words.Command.{Command as CommandValue}
 use Rattle.command_words.specs.declared.words.Command.TheVariants.{Transform}
@@ -16,6 +17,10 @@ use Rattle.command_words.specs.declared.said.Word.TheVariants.{Imports, ImportsW
 
 abbrev pub command_of : CommandValue → Command
 command_of (Transform settings input output) = transform (settings_of settings) input.now output.now
+
+-- frames save all locals
+abbrev pub SavesAll : CommandValue → Type 0
+SavesAll (Transform settings input output) = settings.policy ≡ All
 
 -- What was read is what the words spell; `Usage` says that they spell nothing.
 abbrev pub Reads : {X Y : Type 0} → (X → Y) → Result X WordsFault → Option Y → Type 0

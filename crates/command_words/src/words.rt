@@ -1,9 +1,9 @@
 // The words of the command line.
-ghost use Rattle.std.specs.Prelude.{◌≡◌, None, Some, false, map};
+ghost use Rattle.std.specs.Prelude.{◌≡◌, None, Some, false, map, IfOk};
 ghost use Rattle.std.specs.String.{string_bytes};
 ghost use Rattle.call_graph.specs.Settings.{choice_of};
 ghost use Rattle.wa_model.specs.Command.{choice_said, command, transform_said, with_files};
-ghost use Rattle.command_words.specs.Words.{Reads, command_of, said_of, text_of};
+ghost use Rattle.command_words.specs.Words.{Reads, SavesAll, command_of, said_of, text_of};
 
 use crate::said::{Place, Said, all_said};
 use call_graph::{Choice, ImportList, ListFault, Policy, Settings};
@@ -31,7 +31,8 @@ pub enum WordsFault {
 
 /// The command that the words spell, if they spell one.
 pub fn read_words<'w>(alloc: Global, words: &'w [String]) -> Result<Command<'w>, WordsFault>
-    ensures { Reads command_of result (command (map string_bytes words.now)) }
+    ensures command { Reads command_of result (command (map string_bytes words.now)) }
+    ensures policy { IfOk result SavesAll }
 {
     match words {
         [] => Err(WordsFault::Usage),
@@ -49,7 +50,8 @@ pub fn read_words<'w>(alloc: Global, words: &'w [String]) -> Result<Command<'w>,
 
 /// The `transform` that the words have said, if that is one whole.
 fn transform_said(alloc: Global, said: Said<'_>) -> Result<Command<'_>, WordsFault>
-    ensures { Reads command_of result (transform_said (Some (said_of said.entry))) }
+    ensures command { Reads command_of result (transform_said (Some (said_of said.entry))) }
+    ensures policy { IfOk result SavesAll }
 {
     match said.place {
         Place::BehindImports => Err(WordsFault::Usage),
@@ -59,7 +61,8 @@ fn transform_said(alloc: Global, said: Said<'_>) -> Result<Command<'_>, WordsFau
 }
 
 fn with_choice(alloc: Global, said: Said<'_>) -> Result<Command<'_>, WordsFault>
-    ensures { Reads command_of result (with_files (choice_said (text_of said.entry.imports) said.entry.ignore_imports) said.entry.ignore_indirect (text_of said.entry.input) (text_of said.entry.output)) }
+    ensures command { Reads command_of result (with_files (choice_said (text_of said.entry.imports) said.entry.ignore_imports) said.entry.ignore_indirect (text_of said.entry.input) (text_of said.entry.output)) }
+    ensures policy { IfOk result SavesAll }
 {
     match choice_said(alloc, said.imports, said.ignore_imports) {
         Ok(choice) => with_files(choice, said.ignore_indirect, said.input, said.output),
@@ -115,7 +118,8 @@ fn with_files<'w>(
     input: Option<&'w str>,
     output: Option<&'w str>,
 ) -> Result<Command<'w>, WordsFault>
-    ensures { Reads command_of result (with_files (Some (choice_of choice)) ignore_indirect (text_of input.entry) (text_of output.entry)) }
+    ensures command { Reads command_of result (with_files (Some (choice_of choice)) ignore_indirect (text_of input.entry) (text_of output.entry)) }
+    ensures policy { IfOk result SavesAll }
 {
     let Some(input) = input else {
         return Err(WordsFault::Usage);

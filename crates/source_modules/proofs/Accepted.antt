@@ -1,78 +1,135 @@
--- What an accepted source is: few locals, and few bytes with the runtime's parts behind it.
-use Rattle.std.proofs.Common.{◌≡◌, ℕ, suc, Bool, true, false, Some, ◌+◌, ◌≤◌, ◌<◌, ◌^◌, List, [], ◌∷◌, map, refl, sym, ◌∙◌, subst, length, arith, None}
-use Rattle.std.specs.List.{list_any}
-use Rattle.std.specs.Prelude.{slice_get}
-use Rattle.std.proofs.lemmas.List.Elements.{All-nil, All-cons, All-weaker, All-append}
+-- What an accepted source is: few locals, and not too many bytes when it is rewritten.
+use Rattle.std.proofs.Common.{◌≡◌, ℕ, zero, suc, ◌+◌, ◌-◌, ◌*◌, ◌≤◌, ◌<◌, ◌^◌, inl, inr, List, [], ◌∷◌, drop, length, Bool, true, false, Option, Some, None, refl, sym, ap, ◌∙◌, subst, arith}
+use Rattle.std.specs.Prelude.{slice_get, slice_index_or, nat_lt, if◌then◌else◌}
+use Rattle.std.proofs.lemmas.Bool.{le-ltb, lt-ltb, ltb-false}
+use Rattle.std.proofs.lemmas.List.Elements.{All-from_get_or}
 use Rattle.wa_types.specs.declared.syntax.Module.{Module as ModuleValue}
-use Rattle.wa_types.specs.ModuleBounds.{source_bounds}
-use Rattle.wa_types.specs.Marks.{first_above}
-use Rattle.wa_types.specs.Syntax.{Code, Func, Module}
-use Rattle.wa_types.specs.Pausing.{Settings, MayPause, TellsMayPause}
-use Rattle.wa_model.specs.Quiet.{NeverPauses}
 use Rattle.wa_types.specs.Encoding.{Enc}
-use Rattle.wa_types.specs.Runtime.{with_runtime, runtime_func, runtime_funcs, global_space, start_code, stop_code, state_code}
-use Rattle.wa_types.specs.Sizes.{StrictSizeRule}
+use Rattle.wa_types.specs.Frames.{Count}
+use Rattle.wa_types.specs.Marks.{first_above}
+use Rattle.wa_types.specs.ModuleBounds.{source_bounds, prepared_bounds}
+use Rattle.wa_types.specs.Modules.{func_imports, defined_at}
+use Rattle.wa_types.specs.Norm.{Norm}
+use Rattle.wa_types.specs.Pausing.{Settings, is_told}
+use Rattle.wa_types.specs.Reading.{SpellsModule}
+use Rattle.wa_types.specs.Sizes.{StrictSizeRule, WellFormed}
+use Rattle.wa_types.specs.Syntax.{Func, Module}
 use Rattle.wa_types.specs.Validity.{Valid}
 use Rattle.wa_types.specs.View.{module_of}
-use Rattle.wasm_encode.specs.Locals.{local_count}
+use Rattle.wa_types.proofs.FileWriting.{written_spells}
+use Rattle.wa_types.proofs.SpelledFits.{spelled_fits}
 use Rattle.wasm_encode.specs.Modules.{FewLocals}
 use Rattle.wasm_reader.specs.declared.read_fault.ReadFault.{ReadFault}
 use Rattle.wasm_reader.specs.declared.read_fault.ReadFault.TheVariants.{Memory, Malformed, Float, Deep, Limit}
 use Rattle.wasm_reader.specs.Answers.{IsAccepted, IsRefused}
-use Rattle.wasm_reader.specs.Locals.{func_locals}
 use Rattle.wasm_reader.proofs.Accepting.{accepted_spelled, accepted_strictly}
 use Rattle.wasm_reader.proofs.ShortFile.{written_short}
-use Rattle.wasm_reader.proofs.SpelledSizes.{none_above, spelled_locals}
+use Rattle.flatten.specs.Whole.{NonePasses, FirstPasses}
+use Rattle.rewrite_form.specs.Emitted.{asyncified}
+use Rattle.rewrite_form.specs.Sizes.{FewWritten}
+use Rattle.emitted_bytes.proofs.EmittedFits.{emitted_fits}
+use Rattle.emitted_bytes.proofs.EmittedLength.{emitted_few, emitted_short}
+use Rattle.prepared_modules.proofs.Numbers.{functions_counted}
+use Rattle.prepared_modules.proofs.Prepared.{emitted_prepared}
 use Rattle.asyncify_runtime.specs.Reserved.{reserved_at}
 use Rattle.source_modules.specs.declared.source.SourceFault.{SourceFault}
-use Rattle.source_modules.specs.Sources.{IsSource, IsRefusedFor, not_built}
+use Rattle.source_modules.specs.Sources.{IsValidSource, told_counts, rewritten_counts}
 use Rattle.source_modules.specs.Refusals.{IsFaultOf, IsOfRead}
-use Rattle.emitted_bytes.proofs.Grown.{with_runtime_length}
-use Rattle.emitted_bytes.proofs.GrownFits.{grown_fits, grown_locals}
-use Rattle.emitted_bytes.proofs.Spaces.{funcs_counted, globals_counted}
-use Rattle.wa_types.specs.Norm.{Norm}
-use Rattle.wa_types.specs.Reading.{SpellsModule}
-use Rattle.wa_types.proofs.FileWriting.{written_spells}
-use Rattle.wa_types.proofs.SpelledFits.{spelled_fits}
-use Rattle.std.proofs.lemmas.List.Elements.{All-from_get_or}
-use Rattle.std.specs.Prelude.{slice_index_or}
 
-some_told : (which : List Bool) → list_any (λ b. b) which ≡ true → (x : ℕ) × (slice_get which x ≡ Some true)
-some_told [] h = cc
-some_told (true ∷ which) h = (0, refl)
-some_told (false ∷ which) h = let r = some_told which h in (suc r.0, r.1)
+-- ---- locals
 
--- the parts of an accepted source
-pub made_source : (s : Settings) (bytes : List ℕ) (m v n : ModuleValue) → n ≡ v → v ≡ m → IsAccepted source_bounds bytes (module_of m)
-    → reserved_at (module_of m) ≡ None → Valid (module_of m) → NeverPauses (module_of v) s → IsSource s bytes (module_of n)
-made_source s bytes m v n e f a r d q =
-    let same : m ≡ n = sym (e ∙ f) in
-    subst (λ (z : ModuleValue). IsSource s bytes (module_of z)) same
-    (record { accepted = record { unreserved = record { read = a; free = r }; valid = d }; quiet = subst (λ (z : ModuleValue). NeverPauses (module_of z) s) f q })
+-- none passes
+pub none_passes : (m : Module) (ws : List Bool) (fs : List Func) → NonePasses m ws fs → first_above 50000 (told_counts m ws fs) ≡ None
+none_passes m [] fs h = refl
+none_passes m (w ∷ ws) [] h = refl
+none_passes m (true ∷ ws) (f ∷ fs) h = by (nat_lt 50000 (Count m f)) (le-ltb 50000 (Count m f) h.0) (none_passes m ws fs h.1)
+  where
+    by : (b : Bool) → b ≡ false → first_above 50000 (told_counts m ws fs) ≡ None → (if b then Some (Count m f) else first_above 50000 (told_counts m ws fs)) ≡ None
+    by true e n = cc
+    by false e n = n
+none_passes m (false ∷ ws) (f ∷ fs) h = none_passes m ws fs h
 
--- a valid source of which something may pause
-pub made_pausing : (s : Settings) (bytes : List ℕ) (m v : ModuleValue) (which : List Bool) → v ≡ m → IsAccepted source_bounds bytes (module_of m)
-    → reserved_at (module_of m) ≡ None → Valid (module_of m) → TellsMayPause (module_of v) s which → list_any (λ b. b) which ≡ true
-    → IsRefusedFor s bytes not_built
-made_pausing s bytes m v which f a r d tells h =
-    let t = some_told which h in
-    (module_of m, record { unreserved = record { read = a; free = r }; valid = d }, t.0, subst (λ (z : ModuleValue). MayPause (module_of z) s t.0) f ((tells.each t.0).0 t.1))
+-- the first that passes
+pub first_passes : (m : Module) (func count x : ℕ) (ws : List Bool) (fs : List Func) → FirstPasses m func count x ws fs → first_above 50000 (told_counts m ws fs) ≡ Some count
+first_passes m func count x [] fs h = absurd h
+first_passes m func count x (w ∷ ws) [] h = absurd h
+first_passes m func count x (true ∷ ws) (f ∷ fs) h = elim h [
+  | inl here ↦ by (nat_lt 50000 (Count m f)) (lt-ltb 50000 (Count m f) here.2) here.1
+  | inr later ↦ past (nat_lt 50000 (Count m f)) (le-ltb 50000 (Count m f) later.0) (first_passes m func count (suc x) ws fs later.1)
+]
+  where
+    by : (b : Bool) → b ≡ true → count ≡ Count m f → (if b then Some (Count m f) else first_above 50000 (told_counts m ws fs)) ≡ Some count
+    by true e same = ap (λ n. Some n) (sym same)
+    by false e same = cc
 
-pub strict : (s : Settings) (bytes : List ℕ) (m : Module) → IsSource s bytes m → StrictSizeRule m
-strict s bytes m h = accepted_strictly source_bounds bytes m refl h.accepted.unreserved.read
+    past : (b : Bool) → b ≡ false → first_above 50000 (told_counts m ws fs) ≡ Some count → (if b then Some (Count m f) else first_above 50000 (told_counts m ws fs)) ≡ Some count
+    past true e n = cc
+    past false e n = n
+first_passes m func count x (false ∷ ws) (f ∷ fs) h = first_passes m func count (suc x) ws fs h
 
--- a source grows little
-pub grown_short : (s : Settings) (bytes : List ℕ) (m : Module) → IsSource s bytes m → length (Enc (with_runtime m)) ≤ 8390608
-grown_short s bytes m h =
-    let a = h.accepted.unreserved.read in
-    omega (arith, with_runtime_length m, written_short bytes m (accepted_spelled source_bounds bytes m a), a.within.before.before.before.before.before.file.few)
+-- where none is above the bound
+few_told : (m : Module) (ws : List Bool) (fs : List Func) (i : ℕ) (f : Func) → first_above 50000 (told_counts m ws fs) ≡ None → slice_get fs i ≡ Some f → is_told (slice_get ws i) ≡ true → Count m f ≤ 50000
+few_told m [] fs i f n e t = cc
+few_told m (w ∷ ws) [] i f n e t = cc
+few_told m (true ∷ ws) (g ∷ fs) i f n e t = within (nat_lt 50000 (Count m g)) refl n i e t
+  where
+    within : (b : Bool) → nat_lt 50000 (Count m g) ≡ b → (if b then Some (Count m g) else first_above 50000 (told_counts m ws fs)) ≡ None
+        → (i : ℕ) → slice_get (g ∷ fs) i ≡ Some f → is_told (slice_get (true ∷ ws) i) ≡ true → Count m f ≤ 50000
+    within true b n i e t = cc
+    within false b n zero e t = let same : g ≡ f = cc in let c = ap (Count m) same in let l = ltb-false 50000 (Count m g) b in omega (arith, l, c)
+    within false b n (suc i) e t = few_told m ws fs i f n e t
+few_told m (false ∷ ws) (g ∷ fs) zero f n e t = cc
+few_told m (false ∷ ws) (g ∷ fs) (suc i) f n e t = few_told m ws fs i f n e t
 
--- its functions declare few locals
-pub few_locals : (s : Settings) (bytes : List ℕ) (m : Module) → IsSource s bytes m → FewLocals m
-few_locals s bytes m src =
-    let a = src.accepted.unreserved.read in
-    let e : first_above 50000 (map (func_locals m.types) m.funcs) ≡ None = subst (λ ns. first_above 50000 ns ≡ None) (spelled_locals a.sections m a.is_module) a.within.locals in
-    All-weaker (λ (f : Func). func_locals m.types f ≤ 50000) (λ (f : Func). local_count f.locals < 2 ^ 32) (λ f h. omega (arith, h)) m.funcs (none_above (func_locals m.types) 50000 m.funcs e)
+dropped_at : {X : Type 0} (n i : ℕ) (xs : List X) → slice_get (drop n xs) i ≡ slice_get xs (n + i)
+dropped_at zero i xs = let k : 0 + i ≡ i = omega arith in ap (slice_get xs) (sym k)
+dropped_at (suc n) i [] = refl
+dropped_at (suc n) i (x ∷ xs) = let k : suc (n + i) ≡ suc n + i = omega arith in dropped_at n i xs ∙ ap (slice_get (x ∷ xs)) k
+
+pub few_written : (m : Module) (which : List Bool) → first_above 50000 (rewritten_counts m which) ≡ None → FewWritten m which
+few_written m which n x f e t = by (nat_lt x (func_imports m)) refl e
+  where
+    by : (b : Bool) → nat_lt x (func_imports m) ≡ b → (if b then None else slice_get m.funcs (x - func_imports m)) ≡ Some f → Count m f ≤ 50000
+    by true b e = cc
+    by false b e =
+        let le = ltb-false x (func_imports m) b in
+        let sum : func_imports m + (x - func_imports m) ≡ x = omega (arith, le) in
+        few_told m (drop (func_imports m) which) m.funcs (x - func_imports m) f n e
+        (ap is_told (dropped_at (func_imports m) (x - func_imports m) which ∙ ap (slice_get which) sum) ∙ t)
+
+-- ---- a valid source
+
+module _ (bytes : List ℕ) (m : Module) (src : IsValidSource bytes m) where
+  read : IsAccepted source_bounds bytes m
+  read = src.unreserved.read
+
+  pub strict : StrictSizeRule m
+  strict = accepted_strictly source_bounds bytes m refl read
+
+  pub well : ((i : ℕ) → slice_index_or bytes i 0 < 2 ^ 8) → WellFormed m
+  well are_bytes = spelled_fits bytes m (All-from_get_or (λ b. b < 2 ^ 8) bytes 0 (λ i l. are_bytes i)) (accepted_spelled source_bounds bytes m read)
+
+  module _ (s : Settings) (which : List Bool) (few : first_above 50000 (rewritten_counts m which) ≡ None) where
+    pub source_few : FewLocals (asyncified m s which)
+    source_few = emitted_few m s which src.valid strict (few_written m which few)
+
+    pub source_short : length (Enc (asyncified m s which)) < 2 ^ 64
+    source_short =
+        let l = written_short bytes m (accepted_spelled source_bounds bytes m read) in
+        let n = functions_counted read.sections m read.is_module in
+        emitted_short m s which src.valid strict (few_written m which few) (omega (arith, n, read.within.before.before.before.before.functions))
+        (omega (arith, l, read.within.before.before.before.before.before.file.few))
+
+    -- what is written, where it isn't long, is a prepared module
+    pub source_prepared : ((i : ℕ) → slice_index_or bytes i 0 < 2 ^ 8) → length (Enc (asyncified m s which)) ≤ 67108864
+        → IsAccepted prepared_bounds (Enc (asyncified m s which)) (Norm (asyncified m s which))
+    source_prepared are_bytes short =
+        let fits = emitted_fits m s which src.valid (well are_bytes) strict (few_written m which few) in
+        emitted_prepared m s which bytes read src.valid (few_written m which few) short (written_spells (asyncified m s which) fits source_few (omega (arith, short)))
+
+-- the parts of a valid source
+pub made_source : (bytes : List ℕ) (m v : ModuleValue) → v ≡ m → IsAccepted source_bounds bytes (module_of m) → reserved_at (module_of m) ≡ None → Valid (module_of m) → IsValidSource bytes (module_of v)
+made_source bytes m v e a r d = subst (λ (z : ModuleValue). IsValidSource bytes (module_of z)) (sym e) (record { unreserved = record { read = a; free = r }; valid = d })
 
 -- what reading refuses
 pub read_refused : (s : Settings) (bytes : List ℕ) (fault : ReadFault) (r : SourceFault) → IsRefused source_bounds bytes fault → IsOfRead fault r → IsFaultOf s bytes r
@@ -81,11 +138,3 @@ read_refused s bytes (Malformed at) r h e = subst (IsFaultOf s bytes) (sym e) h
 read_refused s bytes (Float at) r h e = subst (IsFaultOf s bytes) (sym e) h
 read_refused s bytes (Deep at) r h e = subst (IsFaultOf s bytes) (sym e) h
 read_refused s bytes (Limit what n) r h e = subst (IsFaultOf s bytes) (sym e) h
-
--- what is written of a source spells the norm of the module with the runtime's parts
-pub grown_spelled : (s : Settings) (bytes : List ℕ) (m : Module) → ((i : ℕ) → slice_index_or bytes i 0 < 2 ^ 8) → IsSource s bytes m → SpellsModule (Enc (with_runtime m)) (Norm (with_runtime m))
-grown_spelled s bytes m are_bytes h =
-    let sizes = strict s bytes m h in
-    let fits = spelled_fits bytes m (All-from_get_or (λ b. b < 2 ^ 8) bytes 0 (λ i l. are_bytes i)) (accepted_spelled source_bounds bytes m h.accepted.unreserved.read) in
-    let all = grown_fits m fits sizes.types (omega (arith, sizes.funcs, funcs_counted m)) (omega (arith, sizes.globals, globals_counted m)) in
-    written_spells (with_runtime m) all (grown_locals m (few_locals s bytes m h)) (omega (arith, grown_short s bytes m h))

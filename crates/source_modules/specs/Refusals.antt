@@ -3,11 +3,11 @@ use Rattle.std.specs.Prelude.{◌≡◌, List, ℕ, Option}
 use Rattle.wasm_reader.specs.declared.read_fault.ReadFault.{ReadFault}
 use Rattle.wasm_reader.specs.declared.read_fault.ReadFault.TheVariants.{Memory as read_memory, Malformed as read_malformed, Float as read_float, Deep as read_deep, Limit as read_limit}
 use Rattle.source_modules.specs.declared.refusals.Refusal.{Refusal}
-use Rattle.source_modules.specs.declared.refusals.Refusal.TheVariants.{Malformed, Float, Deep, Limit, Reserved, Invalid, NotBuilt}
+use Rattle.source_modules.specs.declared.refusals.Refusal.TheVariants.{Malformed, Float, Deep, Limit, Reserved, Invalid, RewrittenLocals, Output}
 use Rattle.source_modules.specs.declared.source.SourceFault.{SourceFault}
 use Rattle.source_modules.specs.declared.source.SourceFault.TheVariants.{Memory, Refused}
 use Rattle.wa_types.specs.Pausing.{Settings}
-use Rattle.source_modules.specs.Sources.{Cause, malformed, float, deep, limit, reserved, invalid, not_built, IsRefusedFor}
+use Rattle.source_modules.specs.Sources.{Cause, malformed, float, deep, limit, reserved, invalid, rewritten_locals, long_output, IsRefusedFor}
 
 -- the cause that a refusal names
 abbrev pub cause_of : Refusal → Cause
@@ -17,7 +17,8 @@ cause_of (Deep at) = deep at
 cause_of (Limit what found) = limit what found
 cause_of (Reserved name) = reserved name
 cause_of (Invalid func rule at) = invalid func rule at
-cause_of NotBuilt = not_built
+cause_of (RewrittenLocals found) = rewritten_locals found
+cause_of (Output found) = long_output found
 
 -- want of memory, or a refusal for which the bytes are refused
 abbrev pub IsFaultOf : Settings → List ℕ → SourceFault → Type 0

@@ -1,18 +1,19 @@
 -- Which source modules are accepted, and why others are refused.
-use Rattle.std.specs.Prelude.{◌≡◌, ℕ, List, [], ◌∷◌, ◌++◌, slice_get, length, Option, Some, None}
+use Rattle.std.specs.Prelude.{◌≡◌, ◌<◌, ◌≤◌, ℕ, List, [], ◌∷◌, ◌++◌, length, count_by, drop, slice_get, Option, Some, None, Bool, true, false}
 use Rattle.wa_types.specs.declared.bounds.LimitKind.{LimitKind}
+use Rattle.wa_types.specs.declared.bounds.LimitKind.TheVariants.{Locals, Output}
 use Rattle.wa_types.specs.declared.syntax.Import.{Import}
 use Rattle.wa_types.specs.declared.syntax.Export.{Export}
-use Rattle.wa_types.specs.ModuleBounds.{source_bounds}
-use Rattle.wa_types.specs.FirstFault.{FirstFault}
-use Rattle.wa_types.specs.Validity.{Valid}
-use Rattle.wa_types.specs.Syntax.{Module}
-use Rattle.wa_types.specs.Pausing.{Settings, MayPause}
 use Rattle.wa_types.specs.Encoding.{Enc}
+use Rattle.wa_types.specs.FirstFault.{FirstFault}
+use Rattle.wa_types.specs.Frames.{Count}
+use Rattle.wa_types.specs.Marks.{first_above}
+use Rattle.wa_types.specs.ModuleBounds.{source_bounds, prepared_bounds}
+use Rattle.wa_types.specs.Modules.{func_imports}
 use Rattle.wa_types.specs.Norm.{Norm}
-use Rattle.wa_types.specs.Reading.{SpellsModule}
-use Rattle.wa_types.specs.Runtime.{with_runtime}
-use Rattle.wa_model.specs.Quiet.{NeverPauses}
+use Rattle.wa_types.specs.Pausing.{Settings, TellsMayPause}
+use Rattle.wa_types.specs.Syntax.{Func, Module}
+use Rattle.wa_types.specs.Validity.{Valid}
 use Rattle.wa_model.specs.Transcript as T
 use Rattle.wa_model.specs.Transcript.{Refusal}
 use Rattle.wasm_reader.specs.declared.read_fault.ReadFault.TheVariants.{Malformed, Float, Deep, Limit}
@@ -20,6 +21,7 @@ use Rattle.wasm_reader.specs.Answers.{IsAccepted, IsRefused}
 use Rattle.asyncify_runtime.specs.declared.reserving.ReservedAt.{ReservedAt}
 use Rattle.asyncify_runtime.specs.declared.reserving.ReservedAt.TheVariants.{Import as at_import, Export as at_export}
 use Rattle.asyncify_runtime.specs.Reserved.{reserved_at}
+use Rattle.rewrite_form.specs.Emitted.{asyncified}
 
 -- The bytes spell this module, without a float and within the limits of a source module, under no reserved name.
 pub record IsFree (bytes : List ℕ) (m : Module) : Type 0 where
@@ -31,10 +33,27 @@ pub record IsValidSource (bytes : List ℕ) (m : Module) : Type 0 where
   pub unreserved : IsFree bytes m
   pub valid : Valid m
 
--- .. and none of its functions may pause
-pub record IsSource (s : Settings) (bytes : List ℕ) (m : Module) : Type 0 where
+-- the parameters and locals, as they are rewritten, of the functions that are told
+abbrev pub told_counts : Module → List Bool → List Func → List ℕ
+told_counts m [] fs = []
+told_counts m (w ∷ ws) [] = []
+told_counts m (true ∷ ws) (f ∷ fs) = Count m f ∷ told_counts m ws fs
+told_counts m (false ∷ ws) (f ∷ fs) = told_counts m ws fs
+
+-- .. of all, where `which` tells imported functions first
+abbrev pub rewritten_counts : Module → (which : List Bool) → List ℕ
+rewritten_counts m which = told_counts m (drop (func_imports m) which) m.funcs
+
+-- .. and none of its functions that may pause, as `which` tells them, has too many locals when it is rewritten
+pub record IsRewritable (s : Settings) (bytes : List ℕ) (m : Module) (which : List Bool) : Type 0 where
   pub accepted : IsValidSource bytes m
-  pub quiet : NeverPauses m s
+  pub tells : TellsMayPause m s which
+  pub few : first_above 50000 (rewritten_counts m which) ≡ None
+
+-- .. and what is written isn't too long
+pub record IsSource (s : Settings) (bytes : List ℕ) (m : Module) (which : List Bool) : Type 0 where
+  pub rewritable : IsRewritable s bytes m which
+  pub short : length (Enc (asyncified m s which)) ≤ 67108864
 
 -- the joined name of an import
 abbrev pub joined_name : Option Import → List ℕ
@@ -50,16 +69,16 @@ abbrev pub reserved_name : Module → ReservedAt → List ℕ
 reserved_name m (at_import i) = joined_name (slice_get m.imports i)
 reserved_name m (at_export i) = exported_name (slice_get m.exports i)
 
--- why a source is refused
+-- why a source is refused; two limits are looked at only once it is rewritten
 pub data Cause : Type 0 where
   malformed float deep : (at : ℕ) → Cause
   limit : (what : LimitKind) → (found : ℕ) → Cause
   reserved : (name : List ℕ) → Cause
   invalid : (func : Option ℕ) → (rule at : ℕ) → Cause
-  not_built : Cause
+  rewritten_locals long_output : (found : ℕ) → Cause
 
 -- The bytes are refused for this, each cause behind those before it: what reading refuses; a reserved name; what isn't
--- valid; a function that may pause.
+-- valid; the first function that may pause whose locals are too many when it is rewritten; what would be written is too long.
 abbrev pub IsRefusedFor : Settings → List ℕ → Cause → Type 0
 IsRefusedFor s bytes (malformed at) = IsRefused source_bounds bytes (Malformed at)
 IsRefusedFor s bytes (float at) = IsRefused source_bounds bytes (Float at)
@@ -67,7 +86,10 @@ IsRefusedFor s bytes (deep at) = IsRefused source_bounds bytes (Deep at)
 IsRefusedFor s bytes (limit what found) = IsRefused source_bounds bytes (Limit what found)
 IsRefusedFor s bytes (reserved name) = (m : Module) × (at : ReservedAt) × IsAccepted source_bounds bytes m × (reserved_at m ≡ Some at) × (name ≡ reserved_name m at)
 IsRefusedFor s bytes (invalid func rule at) = (m : Module) × IsFree bytes m × FirstFault m func rule at
-IsRefusedFor s bytes not_built = (m : Module) × IsValidSource bytes m × (x : ℕ) × MayPause m s x
+IsRefusedFor s bytes (rewritten_locals found) =
+    (m : Module) × (which : List Bool) × IsValidSource bytes m × TellsMayPause m s which × (first_above 50000 (rewritten_counts m which) ≡ Some found)
+IsRefusedFor s bytes (long_output found) =
+    (m : Module) × (which : List Bool) × IsRewritable s bytes m which × (found ≡ length (Enc (asyncified m s which))) × (67108864 < found)
 
 -- the refusal that is told
 abbrev pub refusal_for : Cause → Refusal
@@ -77,9 +99,12 @@ refusal_for (deep at) = T.nesting at
 refusal_for (limit what found) = T.limit what found
 refusal_for (reserved name) = T.reserved name
 refusal_for (invalid func rule at) = T.invalid func rule at
-refusal_for not_built = T.not_built
+refusal_for (rewritten_locals found) = T.limit Locals found
+refusal_for (long_output found) = T.limit Output found
 
--- the bytes are an accepted source of so many functions, and the text is its module with the runtime's parts, and spells it
-abbrev pub IsRewritten : Settings → List ℕ → ℕ → List ℕ → Type 0
-IsRewritten s bytes functions text =
-    (m : Module) × IsSource s bytes m × (functions ≡ length m.funcs) × (text ≡ Enc (with_runtime m)) × SpellsModule text (Norm (with_runtime m))
+-- The bytes are an accepted source of so many functions, so many of which may pause; the text is its module, rewritten, and
+-- spells one that is within the bounds of a prepared module.
+abbrev pub IsRewritten : Settings → List ℕ → (functions instrumented : ℕ) → List ℕ → Type 0
+IsRewritten s bytes functions instrumented text =
+    (m : Module) × (which : List Bool) × IsSource s bytes m which × (functions ≡ length m.funcs) × (instrumented ≡ count_by (λ b. b) which)
+    × (text ≡ Enc (asyncified m s which)) × IsAccepted prepared_bounds (Enc (asyncified m s which)) (Norm (asyncified m s which))

@@ -38,7 +38,14 @@ pub enum Refusal {
         rule: u8,
         at: u64,
     },
-    /// A module that this program doesn't rewrite yet.
-    #[error("not yet built")]
-    NotBuilt,
+    /// The first function that may pause and has too many parameters and locals when it is rewritten; how many.
+    #[error("limit locals passed with {found}")]
+    RewrittenLocals {
+        found: u64,
+    },
+    /// What would be written is too long; its length.
+    #[error("limit output passed with {found}")]
+    Output {
+        found: u64,
+    },
 }

@@ -1,19 +1,21 @@
 // From the bytes of a module to those of the written one.
-ghost use Rattle.std.specs.Prelude.{◌≡◌, ◌<◌, ◌^◌, length, IfOk, Some, slice_get};
+ghost use Rattle.std.specs.Prelude.{◌≡◌, count_by, IfOk, Some};
 ghost use Rattle.std.specs.Result.{IfErr};
-ghost use Rattle.std.specs.List.{list_any};
 ghost use Rattle.call_graph.specs.Settings.{settings_of};
+ghost use Rattle.call_graph.specs.declared.settings.Policy.TheVariants.{All};
+ghost use Rattle.wa_types.specs.Pausing.{Settings as PlainSettings};
 ghost use Rattle.wa_types.specs.View.{module_of};
 ghost use Rattle.wasm_reader.specs.Answers.{IsAccepted};
 ghost use Rattle.asyncify_runtime.specs.Reserved.{reserved_at};
 ghost use Rattle.source_modules.specs.declared.source.SourceFault.TheVariants.{Memory};
 ghost use Rattle.source_modules.specs.Refusals.{IsFaultOf, IsOfRead};
-ghost use Rattle.source_modules.specs.Sources.{IsRewritten, IsSource, reserved_name};
+ghost use Rattle.source_modules.specs.Sources.{IsRewritten, IsValidSource, reserved_name};
 
 use crate::refusals::Refusal;
-use asyncify_runtime::{ReservedAt, RuntimeFault, add_runtime, reserved};
+use asyncify_runtime::{ReservedAt, reserved};
 use bytes::BytesMut;
-use call_graph::{Settings, may_pause};
+use call_graph::Settings;
+use module_rewrite::{RewriteFault, asyncify_module};
 use std::alloc::{AllocError, Global};
 use thiserror::Error;
 use wa_types::{Bounds, Module, Name};
@@ -41,37 +43,48 @@ impl From<AllocError> for SourceFault {
     }
 }
 
-/// What is written: the module's bytes, and how many functions the source defines.
+/// What is written: the module's bytes, how many functions the source defines, and how many of them may pause.
 #[derive(Debug, Drop)]
 pub struct Written {
     pub functions: usize,
+    pub instrumented: usize,
     pub text: BytesMut,
 }
 
-/// The module that these bytes spell, with the runtime's parts, where it is an accepted source of which nothing may
-/// pause by these settings.
+/// The module that these bytes spell, rewritten by these settings, where it is an accepted source.
 pub fn rewrite(alloc: Global, bytes: &[u8], settings: &Settings) -> Result<Written, SourceFault>
-    ensures done { IfOk result (λ r. IsRewritten (settings_of settings.now) bytes.now r.functions r.text.items) }
+    requires { settings.now.policy ≡ All }
+    ensures done { IfOk result (λ r. IsRewritten (settings_of settings.now) bytes.now r.functions r.instrumented r.text.items) }
     ensures refused { IfErr result (λ fault. IsFaultOf (settings_of settings.now) bytes.now fault) }
 {
-    let module = source(alloc, bytes, settings)?;
-    let functions = module.funcs.len();
-    let with = match add_runtime(alloc, module) {
-        Ok(with) => with,
-        Err(RuntimeFault::Memory) => return Err(SourceFault::Memory),
-        Err(RuntimeFault::Reserved(_)) => unreachable!(),
+    let valid = source(alloc, bytes)?;
+    let rewritten = match asyncify_module(alloc, &valid, settings) {
+        Ok(rewritten) => rewritten,
+        Err(RewriteFault::Memory) => return Err(SourceFault::Memory),
+        Err(RewriteFault::Locals { count, .. }) => {
+            return Err(SourceFault::Refused(Refusal::RewrittenLocals {
+                found: u64::from(count),
+            }));
+        }
+        Err(RewriteFault::Reserved(_)) => unreachable!(),
     };
-    match encode(alloc, &with.module) {
-        Ok(text) => Ok(Written { functions, text }),
+    let functions = valid.module().funcs.len();
+    let instrumented = told_count(&rewritten.instrumented);
+    match encode(alloc, rewritten.module.module()) {
+        Ok(text) => Ok(Written {
+            functions,
+            instrumented,
+            text,
+        }),
         Err(EncodeFault::Memory) => Err(SourceFault::Memory),
-        Err(EncodeFault::TooLong { .. }) => unreachable!(),
+        Err(EncodeFault::TooLong { len }) => Err(SourceFault::Refused(Refusal::Output { found: len })),
     }
 }
 
-// The module that these bytes spell, where it is an accepted source of which nothing may pause.
-fn source(alloc: Global, bytes: &[u8], settings: &Settings) -> Result<Module, SourceFault>
-    ensures source { IfOk result (λ r. IsSource (settings_of settings.now) bytes.now (module_of r)) }
-    ensures refused { IfErr result (λ fault. IsFaultOf (settings_of settings.now) bytes.now fault) }
+// The module that these bytes spell, where it is a valid source.
+fn source(alloc: Global, bytes: &[u8]) -> Result<Valid, SourceFault>
+    ensures source { IfOk result (λ r. IsValidSource bytes.now (module_of r)) }
+    ensures refused { (s : PlainSettings) → IfErr result (λ fault. IsFaultOf s bytes.now fault) }
 {
     let module = match read(alloc, bytes, &Bounds::source()) {
         Ok(module) => module,
@@ -81,24 +94,19 @@ fn source(alloc: Global, bytes: &[u8], settings: &Settings) -> Result<Module, So
         let name = name_at(alloc, &module, at)?;
         return Err(SourceFault::Refused(Refusal::Reserved { name }));
     }
-    let valid = match validate(alloc, module) {
-        Ok(valid) => valid,
-        Err(ValidateFault::Memory) => return Err(SourceFault::Memory),
+    match validate(alloc, module) {
+        Ok(valid) => Ok(valid),
+        Err(ValidateFault::Memory) => Err(SourceFault::Memory),
         Err(ValidateFault::Invalid { func, rule, at }) => {
-            return Err(SourceFault::Refused(Refusal::Invalid { func, rule, at }));
+            Err(SourceFault::Refused(Refusal::Invalid { func, rule, at }))
         }
-    };
-    let pausing = may_pause(alloc, &valid, settings)?;
-    if any_told(&pausing) {
-        return Err(SourceFault::Refused(Refusal::NotBuilt));
     }
-    Ok(valid.into_module())
 }
 
-fn any_told(told: &[bool]) -> bool
-    ensures { result ≡ list_any (λ b. b) told.now }
+fn told_count(told: &[bool]) -> usize
+    ensures { result ≡ count_by (λ b. b) told.now }
 {
-    told.iter().any(|told| *told)
+    told.iter().filter(|told| **told).count()
 }
 
 // Why a source that isn't read is refused.

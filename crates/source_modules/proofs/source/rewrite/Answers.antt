@@ -1,68 +1,68 @@
--- A source is short, reserves nothing, and grows little.
-use Rattle.std.proofs.Common.{List, ap, arith, length, rules, subst, sym, ℕ, ◌∙◌, ◌≡◌}
+-- A source keeps the size rule, reserves nothing, and grows to a length that a u64 tells.
+use Rattle.std.proofs.Common.{ℕ, List, ◌≡◌, ◌∙◌, None, ap, arith, drop, length, rules, subst, sym}
 use Rattle.std.proofs.lemmas.List.{length-map}
-use Rattle.wa_types.specs.Syntax.{Module}
-use Rattle.wa_types.specs.View.{module_of, func_type_of}
 use Rattle.wa_types.specs.Encoding.{Enc}
+use Rattle.wa_types.specs.Marks.{first_above}
+use Rattle.wa_types.specs.Modules.{func_imports}
+use Rattle.wa_types.specs.Syntax.{Module}
+use Rattle.wa_types.specs.View.{module_of}
 use Rattle.call_graph.specs.Settings.{settings_of}
-use Rattle.wa_types.specs.Norm.{Norm}
-use Rattle.wa_types.specs.Reading.{SpellsModule}
-use Rattle.wa_types.specs.Runtime.{with_runtime}
 use Rattle.wasm_encode.specs.Modules.{FewLocals}
-use Rattle.source_modules.proofs.Accepted.{strict, grown_short, few_locals, grown_spelled}
-use Rattle.emitted_bytes.proofs.GrownFits.{grown_locals}
-use Rattle.emitted_bytes.proofs.Spaces.{funcs_counted, globals_counted}
+use Rattle.rewrite_form.specs.Emitted.{asyncified}
+use Rattle.source_modules.specs.Sources.{rewritten_counts, IsRewritable}
+use Rattle.source_modules.proofs.Accepted.{strict, first_passes, none_passes, source_few, source_short, source_prepared}
 use Rattle.source_modules.proofs.source.rewrite.Goals as goal
 
-pub add_runtime-requires-clause-types : goal.add_runtime-requires-clause-types
-add_runtime-requires-clause-types c =
-    omega (arith, (strict (settings_of c.args.settings.now) c.args.bytes.now (module_of c.in_ok-module.module) c.in_ok-module.ensures.source).types, length-map c.in_ok-module.module.types.items func_type_of)
-
-pub add_runtime-requires-clause-imports : goal.add_runtime-requires-clause-imports
-add_runtime-requires-clause-imports c = (strict (settings_of c.args.settings.now) c.args.bytes.now (module_of c.in_ok-module.module) c.in_ok-module.ensures.source).imports
-
-pub add_runtime-requires-clause-funcs : goal.add_runtime-requires-clause-funcs
-add_runtime-requires-clause-funcs c =
-    omega (arith, (strict (settings_of c.args.settings.now) c.args.bytes.now (module_of c.in_ok-module.module) c.in_ok-module.ensures.source).funcs, funcs_counted (module_of c.in_ok-module.module))
-
-pub add_runtime-requires-clause-globals : goal.add_runtime-requires-clause-globals
-add_runtime-requires-clause-globals c =
-    omega (arith, (strict (settings_of c.args.settings.now) c.args.bytes.now (module_of c.in_ok-module.module) c.in_ok-module.ensures.source).globals, globals_counted (module_of c.in_ok-module.module))
-
-pub add_runtime-requires-clause-exports : goal.add_runtime-requires-clause-exports
-add_runtime-requires-clause-exports c = (strict (settings_of c.args.settings.now) c.args.bytes.now (module_of c.in_ok-module.module) c.in_ok-module.ensures.source).exports
+pub asyncify_module-requires-clause-sizes : goal.asyncify_module-requires-clause-sizes
+asyncify_module-requires-clause-sizes c = strict c.args.bytes.now (module_of c.in_ok-valid.valid) c.in_ok-valid.ensures.source
 
 pub unreachable-requires : goal.unreachable-requires
-unreachable-requires c =
-    let w = (c.in-Err-Reserved.ensures.reserved c.in-Err-Reserved.field-0-0).0 (cc) in
-    let free = c.in_ok-module.ensures.source.accepted.unreserved.free in
-    absurd (let bad = sym free ∙ w in cc)
+unreachable-requires c = let free = c.in_ok-valid.ensures.source.unreserved.free in let bad = sym free ∙ c.in-Err-Reserved.ensures in cc
+
+pub returns-in-Locals-clause-refused : goal.returns-in-Locals-clause-refused
+returns-in-Locals-clause-refused c =
+    let m : Module = module_of c.in_ok-valid.valid in
+    let e = c.in-Err-Locals.ensures in
+    (m, e.which, c.in_ok-valid.ensures.source, e.tells, first_passes m _ _ _ (drop (func_imports m) e.which) m.funcs e.first)
 
 pub encode-requires-clause-locals : goal.encode-requires-clause-locals
 encode-requires-clause-locals c =
-    subst (λ (m : Module). FewLocals m) (sym c.in-Ok.ensures.added) (grown_locals (module_of c.in_ok-module.module) (few_locals (settings_of c.args.settings.now) c.args.bytes.now (module_of c.in_ok-module.module) c.in_ok-module.ensures.source))
+    let m : Module = module_of c.in_ok-valid.valid in
+    let e = c.in-Ok.ensures in
+    subst FewLocals (sym (ap module_of c.module-2.ensures.same ∙ e.emitted))
+    (source_few c.args.bytes.now m c.in_ok-valid.ensures.source (settings_of c.args.settings.now) c.in-Ok.rewritten.instrumented.items (none_passes m (drop (func_imports m) c.in-Ok.rewritten.instrumented.items) m.funcs e.few))
 
 pub encode-requires-clause-fits : goal.encode-requires-clause-fits
 encode-requires-clause-fits c =
-    let more = grown_short (settings_of c.args.settings.now) c.args.bytes.now (module_of c.in_ok-module.module) c.in_ok-module.ensures.source in
-    let e = ap (λ (m : Module). length (Enc m)) c.in-Ok.ensures.added in omega (arith, e, more)
-
-pub unreachable-requires-in-Err-TooLong : goal.unreachable-requires-in-Err-TooLong
-unreachable-requires-in-Err-TooLong c =
-    let more = grown_short (settings_of c.args.settings.now) c.args.bytes.now (module_of c.in_ok-module.module) c.in_ok-module.ensures.source in
-    let e = ap (λ (m : Module). length (Enc m)) c.in-Ok.ensures.added in
-    let w = ((c.in-Err-TooLong.ensures.too_long c.in-Err-TooLong.field-0-0).0 (cc)).0 in omega (arith, e, more, w)
+    let m : Module = module_of c.in_ok-valid.valid in
+    let e = c.in-Ok.ensures in
+    let l = source_short c.args.bytes.now m c.in_ok-valid.ensures.source (settings_of c.args.settings.now) c.in-Ok.rewritten.instrumented.items
+    (none_passes m (drop (func_imports m) c.in-Ok.rewritten.instrumented.items) m.funcs e.few) in
+    let z = ap (λ (p : Module). length (Enc p)) (ap module_of c.module-2.ensures.same ∙ e.emitted) in omega (arith, z, l)
 
 pub returns-in-Ok-encode-clause-done : goal.returns-in-Ok-encode-clause-done
 returns-in-Ok-encode-clause-done c =
+    let m : Module = module_of c.in_ok-valid.valid in
+    let e = c.in-Ok.ensures in
+    let which = c.in-Ok.rewritten.instrumented.items in
     let s = settings_of c.args.settings.now in
-    let m = module_of c.in_ok-module.module in
-    let text : c.in-Ok-encode.text.items ≡ Enc (with_runtime m) = c.in-Ok-encode.ensures.ok ∙ ap Enc c.in-Ok.ensures.added in
-    let functions : c.len-functions.result ≡ length m.funcs = search (rules, length-map) in (
-      m,
-      c.in_ok-module.ensures.source,
-      functions,
-      text,
-      subst (λ (bs : List ℕ). SpellsModule bs (Norm (with_runtime m))) (sym text)
-          (grown_spelled s c.args.bytes.now m (λ i. omega (arith, c.type_inv.bytes i)) c.in_ok-module.ensures.source),
-    )
+    let few : first_above 50000 (rewritten_counts m which) ≡ None = none_passes m (drop (func_imports m) which) m.funcs e.few in
+    let is = ap module_of c.module-2.ensures.same ∙ e.emitted in
+    let z = ap (λ (p : Module). length (Enc p)) is in
+    let short : length (Enc (asyncified m s which)) ≤ 67108864 = omega (arith, z, c.in-Ok-encode.ensures.short) in
+    let functions : c.len-functions.result ≡ length m.funcs = search (rules, length-map) in
+    let count : c.told_count-instrumented.result ≡ _ = rw c.deref-2.ensures.value at c.told_count-instrumented.ensures in
+    (m, which, record { rewritable = record { accepted = c.in_ok-valid.ensures.source; tells = e.tells; few = few }; short = short }, functions, count,
+    c.in-Ok-encode.ensures.ok ∙ ap Enc is,
+    source_prepared c.args.bytes.now m c.in_ok-valid.ensures.source s which few (λ i. omega (arith, c.type_inv.bytes i)) short)
+
+pub returns-in-Err-TooLong-clause-refused : goal.returns-in-Err-TooLong-clause-refused
+returns-in-Err-TooLong-clause-refused c =
+    let m : Module = module_of c.in_ok-valid.valid in
+    let e = c.in-Ok.ensures in
+    let which = c.in-Ok.rewritten.instrumented.items in
+    let few : first_above 50000 (rewritten_counts m which) ≡ None = none_passes m (drop (func_imports m) which) m.funcs e.few in
+    let is = ap module_of c.module-2.ensures.same ∙ e.emitted in
+    let z = ap (λ (p : Module). length (Enc p)) is in
+    let w = (c.in-Err-TooLong.ensures.too_long c.in-Err-TooLong.len).0 (cc) in
+    (m, which, record { accepted = c.in_ok-valid.ensures.source; tells = e.tells; few = few }, w.1 ∙ z, omega (arith, w.0, w.1))
