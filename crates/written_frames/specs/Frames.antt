@@ -2,7 +2,7 @@
 use Rattle.std.specs.Prelude.{◌≡◌, ◌+◌, ℕ, suc, List, [], ◌∷◌, length}
 use Rattle.wa_types.specs.declared.values.ValType.{ValType}
 use Rattle.wa_types.specs.Frames.{Place as SavedLocal}
-use Rattle.local_spill.specs.Laying.{in_a_row, row_size}
+use Rattle.local_spill.specs.Laying.{in_a_row, row_size, SizedAsSaved}
 use Rattle.local_spill.specs.declared.frames.Layout.{Layout}
 use Rattle.local_spill.specs.declared.frames.Place.{Place}
 
@@ -16,6 +16,7 @@ pub record IsFrame (saved : List Place) (number : ℕ) (l : Layout) : Type 0 whe
   pub index : l.index ≡ number
   pub places : l.places.items ≡ in_a_row 0 saved
   pub size : l.size ≡ row_size saved + 4
+  pub sized : SizedAsSaved saved l.size
 
 -- the frames of calls, from this number on
 abbrev pub FramesFrom : List Place → (number : ℕ) → List Layout → Type 0

@@ -93,7 +93,8 @@ pub fn kept_locals(
     requires fits { StacksFit (length flat.now.locals.items) (flat_func_of flat.now).body }
     requires few { call_total (flat_func_of flat.now).body < 2 ^ 32 }
     requires own { own ≤ length flat.now.locals.items }
-    ensures { IfOk result (λ v. (x : ℕ) → get_or v.items x false ≡ (nat_lt x own || holds_operand (flat_func_of flat.now) numbers.now x)) }
+    ensures size { IfOk result (λ v. length v.items ≡ length flat.now.locals.items) }
+    ensures kept { IfOk result (λ v. (x : ℕ) → get_or v.items x false ≡ (nat_lt x own || holds_operand (flat_func_of flat.now) numbers.now x)) }
 {
     let mut kept = Vec::with_capacity(alloc, flat.locals.len())?;
     for local in 0..flat.locals.len() {
