@@ -77,7 +77,9 @@ pub fn rewrite(alloc: Global, bytes: &[u8], settings: &Settings) -> Result<Writt
             text,
         }),
         Err(EncodeFault::Memory) => Err(SourceFault::Memory),
-        Err(EncodeFault::TooLong { len }) => Err(SourceFault::Refused(Refusal::Output { found: len })),
+        Err(EncodeFault::TooLong { len }) => Err(SourceFault::Refused(Refusal::Output {
+            found: len,
+        })),
     }
 }
 

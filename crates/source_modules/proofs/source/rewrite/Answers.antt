@@ -51,10 +51,15 @@ returns-in-Ok-encode-clause-done c =
     let z = ap (λ (p : Module). length (Enc p)) is in
     let short : length (Enc (asyncified m s which)) ≤ 67108864 = omega (arith, z, c.in-Ok-encode.ensures.short) in
     let functions : c.len-functions.result ≡ length m.funcs = search (rules, length-map) in
-    let count : c.told_count-instrumented.result ≡ _ = rw c.deref-2.ensures.value at c.told_count-instrumented.ensures in
-    (m, which, record { rewritable = record { accepted = c.in_ok-valid.ensures.source; tells = e.tells; few = few }; short = short }, functions, count,
-    c.in-Ok-encode.ensures.ok ∙ ap Enc is,
-    source_prepared c.args.bytes.now m c.in_ok-valid.ensures.source s which few (λ i. omega (arith, c.type_inv.bytes i)) short)
+    let count : c.told_count-instrumented.result ≡ _ = rw c.deref-2.ensures.value at c.told_count-instrumented.ensures in (
+      m,
+      which,
+      record { rewritable = record { accepted = c.in_ok-valid.ensures.source; tells = e.tells; few = few }; short = short },
+      functions,
+      count,
+      c.in-Ok-encode.ensures.ok ∙ ap Enc is,
+      source_prepared c.args.bytes.now m c.in_ok-valid.ensures.source s which few (λ i. omega (arith, c.type_inv.bytes i)) short,
+    )
 
 pub returns-in-Err-TooLong-clause-refused : goal.returns-in-Err-TooLong-clause-refused
 returns-in-Err-TooLong-clause-refused c =
