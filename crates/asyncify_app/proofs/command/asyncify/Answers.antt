@@ -24,7 +24,7 @@ returns-in-Err-Memory-clause-prints_memory g c = memory_unread _ _ _ _ _ c.out_o
 pub returns-in-Err-Usage-clause-one_end : goal.returns-in-Err-Usage-clause-one_end
 returns-in-Err-Usage-clause-one_end g c =
     usage_ends _ c.refuse.result
-    (subst (λ (f : WordsFault). Reads command_of (Err f) (command (map string_bytes c.args.words.now))) c.in-Err-Usage.field-0-is c.in-Err-Usage.ensures) c.refuse.ensures.status
+    (subst (λ (f : WordsFault). Reads command_of (Err f) (command (map string_bytes c.args.words.now))) c.in-Err-Usage.field-0-is c.in-Err-Usage.ensures.command) c.refuse.ensures.status
 
 pub returns-in-Err-Memory-clause-one_end : goal.returns-in-Err-Memory-clause-one_end
 returns-in-Err-Memory-clause-one_end g c = memory_ends _ c.out_of_memory.result c.out_of_memory.ensures.status
@@ -40,5 +40,5 @@ returns-in-Ok-Transform-clause-one_end g c =
     → HasCause s (g.V.Vault.files c.args.vault.now) input c.run_transform.result) = search rules in
     let held : OnTransform words (λ s input output. c.run_transform.result ≡ 11
     → WhereTold (g.V.Vault.files c.args.vault.now) (λ all. HoldsSource s (bytes_of all input))) = search rules in
-    transform_ends_on _ c.run_transform.result (command_of c.in-Ok-Transform.field-0) c.in-Ok-Transform.ensures
+    transform_ends_on _ c.run_transform.result (command_of c.in-Ok-Transform.field-0) c.in-Ok-Transform.ensures.command
     c.run_transform.ensures.status done read refused held c.run_transform.ensures.write_fault c.run_transform.ensures.sink_fault
