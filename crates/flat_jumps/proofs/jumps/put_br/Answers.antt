@@ -2,8 +2,8 @@ use Rattle.std.proofs.Common.{refl, ap, arith, ◌∙◌, slice_get, length, rev
 use Rattle.wa_types.specs.Syntax.{br}
 use Rattle.flat_instrs.specs.Emitting.{all_of, first_or}
 use Rattle.flat_instrs.proofs.LeafLemmas.{taken, labels_long, top_slot_is}
-use Rattle.flat_instrs.proofs.JumpLemmas.{is_br, last_put, jump_there, jumped}
-use Rattle.flat_instrs.proofs.jumps.put_br.Goals as goal
+use Rattle.flat_jumps.proofs.JumpLemmas.{is_br, last_put, jump_there, jumped}
+use Rattle.flat_jumps.proofs.jumps.put_br.Goals as goal
 
 pub put_carry-requires : goal.put_carry-requires
 put_carry-requires c =

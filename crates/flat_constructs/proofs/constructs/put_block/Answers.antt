@@ -1,5 +1,5 @@
-use Rattle.flat_bodies.proofs.ConstructLemmas.{block_put, on_ok}
-use Rattle.flat_bodies.proofs.constructs.put_block.Goals as goal
+use Rattle.flat_constructs.proofs.ConstructLemmas.{block_put, on_ok}
+use Rattle.flat_constructs.proofs.constructs.put_block.Goals as goal
 
 pub returns : goal.returns
 returns c =

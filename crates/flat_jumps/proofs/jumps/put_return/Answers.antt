@@ -4,8 +4,8 @@ use Rattle.wa_model.specs.Flat.{leaps, no_more}
 use Rattle.flat_laws.specs.Flatten.{carry}
 use Rattle.flat_instrs.specs.Emitting.{all_of, first_or, onto_stmts}
 use Rattle.flat_instrs.proofs.LeafLemmas.{labels_long, top_slot_is}
-use Rattle.flat_instrs.proofs.JumpLemmas.{is_return, last_put, jumped}
-use Rattle.flat_instrs.proofs.jumps.put_return.Goals as goal
+use Rattle.flat_jumps.proofs.JumpLemmas.{is_return, last_put, jumped}
+use Rattle.flat_jumps.proofs.jumps.put_return.Goals as goal
 
 pub returns : goal.returns
 returns c =

@@ -1,16 +1,34 @@
-ghost use Rattle.std.specs.Prelude.{◌≡◌, ◌<◌, ◌^◌, length, true, OnOk};
+ghost use Rattle.std.specs.Prelude.{◌≡◌, ◌<◌, ◌^◌, All, length, reverse, true, OnOk};
 ghost use Rattle.wa_types.specs.Pruned.{is_last_instr};
 ghost use Rattle.wa_types.specs.Syntax.{done};
 ghost use Rattle.wa_types.specs.View.{in_front};
 ghost use Rattle.wa_types.specs.declared.instrs.Instr.TheVariants.{Br, BrTable, Return, Unreachable};
 ghost use Rattle.wasm_validate.specs.Walk.{TypedAt};
-ghost use Rattle.flat_instrs.specs.Emitting.{PutLast, Ready};
+ghost use Rattle.flat_instrs.specs.Emitting.{all_carried, onto_stmts, PutLast, Ready};
+ghost use Rattle.wa_model.specs.Flat.{Stmts};
 
-use crate::position::{Position, put_carries, put_carry, top_slot};
+use flat_instrs::{Position, put_carry, top_slot};
 use flat_names::Names;
 use std::alloc::AllocError;
 use wa_model::{Operand, Stmt};
 use wa_types::Instr;
+
+/// Puts those of a branch to one of these labels.
+#[tactic(auto, using(crate::proofs::JumpLemmas::moving))]
+fn put_carries(
+    out: &mut Vec<Stmt>,
+    labels: &[Option<u32>],
+    targets: &[u32],
+    from: u32,
+) -> Result<(), AllocError>
+    requires { All (λ l. l < length labels.now) targets.now }
+    ensures { OnOk result ((rest : Stmts) → onto_stmts out.new.items rest ≡ onto_stmts out.old.items (all_carried (reverse labels.now) targets.now from rest)) }
+{
+    for label in targets {
+        put_carry(out, labels, *label, from)?;
+    }
+    Ok(())
+}
 
 /// Puts what a `br` stands for.
 fn put_br(

@@ -1,7 +1,7 @@
 use Rattle.wa_types.specs.Syntax.{unreachable}
 use Rattle.flat_instrs.proofs.BasicLemmas.{last_one}
-use Rattle.flat_instrs.proofs.JumpLemmas.{is_unreachable, last_put, halted}
-use Rattle.flat_instrs.proofs.jumps.put_last.Goals as goal
+use Rattle.flat_jumps.proofs.JumpLemmas.{is_unreachable, last_put, halted}
+use Rattle.flat_jumps.proofs.jumps.put_last.Goals as goal
 
 pub unreachable-requires : goal.unreachable-requires
 unreachable-requires c = last_one c.args.instr.now c.requires.last c.in_default.not-Unreachable c.in_default.not-Return c.in_default.not-Br c.in_default.not-BrTable

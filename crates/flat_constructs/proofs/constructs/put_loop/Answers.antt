@@ -3,8 +3,8 @@ use Rattle.std.specs.declared.vec.Vec.{Vec}
 use Rattle.std.specs.declared.alloc.Global.{Global}
 use Rattle.wa_types.specs.declared.values.ValType.{ValType}
 use Rattle.flat_instrs.specs.Emitting.{ArrivesAt}
-use Rattle.flat_bodies.proofs.ConstructLemmas.{loop_none, loop_one}
-use Rattle.flat_bodies.proofs.constructs.put_loop.Goals as goal
+use Rattle.flat_constructs.proofs.ConstructLemmas.{loop_none, loop_one}
+use Rattle.flat_constructs.proofs.constructs.put_loop.Goals as goal
 
 pub returns-in-None : goal.returns-in-None
 returns-in-None c =

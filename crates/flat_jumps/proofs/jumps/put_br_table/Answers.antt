@@ -3,8 +3,8 @@ use Rattle.wa_types.specs.Syntax.{br_table}
 use Rattle.flat_instrs.specs.Emitting.{all_of, first_or, all_carried, carried_to, onto_stmts}
 use Rattle.flat_instrs.proofs.PositionLemmas.{less_one, top_is}
 use Rattle.flat_instrs.proofs.LeafLemmas.{taken, labels_long, slots_are_long, top_slot_is, one_less}
-use Rattle.flat_instrs.proofs.JumpLemmas.{is_br_table, last_put, table_there, jumped_by, own_long}
-use Rattle.flat_instrs.proofs.jumps.put_br_table.Goals as goal
+use Rattle.flat_jumps.proofs.JumpLemmas.{is_br_table, last_put, table_there, jumped_by, own_long}
+use Rattle.flat_jumps.proofs.jumps.put_br_table.Goals as goal
 
 pub slice_bounds-top_slot-count : goal.slice_bounds-top_slot-count
 slice_bounds-top_slot-count c =

@@ -4,8 +4,8 @@ use Rattle.std.specs.declared.alloc.Global.{Global}
 use Rattle.wa_types.specs.declared.values.ValType.{ValType}
 use Rattle.flat_laws.specs.Flatten.{result_local}
 use Rattle.flat_instrs.specs.Emitting.{ArrivesAt, Closed}
-use Rattle.flat_bodies.proofs.ConstructLemmas.{one_arrives, len_labels}
-use Rattle.flat_bodies.proofs.constructs.put_arrival.Goals as goal
+use Rattle.flat_constructs.proofs.ConstructLemmas.{one_arrives, len_labels}
+use Rattle.flat_constructs.proofs.constructs.put_arrival.Goals as goal
 
 pub returns-in_ok-push-in-Some : goal.returns-in_ok-push-in-Some
 returns-in_ok-push-in-Some c =

@@ -1,7 +1,7 @@
 use Rattle.std.proofs.Common.{◌≡◌, drop, reverse}
 use Rattle.wa_model.specs.Flat.{Stmts}
 use Rattle.flat_instrs.specs.Emitting.{all_carried, onto_stmts}
-use Rattle.flat_instrs.proofs.position.put_carries.Given as goal
+use Rattle.flat_jumps.proofs.jumps.put_carries.Given as goal
 
 abbrev pub invariant-loop-label : goal.invariant-loop-label
 invariant-loop-label l =

@@ -20,7 +20,7 @@ use Rattle.flat_laws.specs.Flatten.{Names, top, carry, carry_all, flat, flat_pla
 use Rattle.flat_laws.proofs.TableLabels.{AllLabels, table_typed}
 use Rattle.flat_instrs.specs.Emitting.{onto_stmts, all_of, flat_at, carried_to, all_carried, label_locals}
 use Rattle.flat_instrs.proofs.OntoLemmas.{onto_more}
-use Rattle.flat_instrs.proofs.CarryLemmas.{carry_is, carry_all_is}
+use Rattle.flat_instrs.proofs.CarryLemmas.{carry_is, carry_all_is, carries_step, carries_end}
 
 pub is_br : (i : Instr) (l : ℕ) → i ≡ Br l → (rest : Code) → in_front i rest ≡ plain (br l) rest
 unfolding in_front
@@ -94,3 +94,5 @@ jumped_by n ls locals old one two new index from last targets copy ops el ec h1 
 
 pub own_long : (v : Walk) → 0 < length v.own → 0 < length (all_of v)
 own_long v lt = omega (arith, lt, length-append v.own v.under)
+
+pub ruleset moving = (carries_step, carries_end)
