@@ -146,3 +146,16 @@ module _ (m : Module) (which : List Bool) (v : Valid m) where
     imports = refl;
     most = refl;
   }
+
+  -- with the memory alone
+  pub base_is_flattened : Flattened (Base m) (Base p) which
+  unfolding Base
+  base_is_flattened = record {
+    valid = base_valid m v;
+    placed = λ x f e. base_placed m v x f e (is_told (slice_get which x)) (defined_at p x) (with_flat_there.placed x f e);
+    none = with_flat_there.none;
+    func_type = with_flat_there.func_type;
+    sort = λ t lt. refl;
+    imports = refl;
+    most = refl;
+  }

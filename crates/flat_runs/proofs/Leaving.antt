@@ -1,5 +1,5 @@
 -- Branches, returns and ends of sequences.
-use Rattle.std.proofs.Common.{◌≡◌, ◌∙◌, ℕ, zero, suc, ◌+◌, ◌-◌, ◌*◌, ◌≤◌, List, [], ◌∷◌, ◌++◌, length, take, Option, Some, None, refl, sym, ap, subst, arith, Bool, true}
+use Rattle.std.proofs.Common.{◌≡◌, ◌∙◌, ℕ, zero, suc, ◌+◌, ◌-◌, ◌*◌, ◌≤◌, List, [], ◌∷◌, ◌++◌, length, take, Option, Some, None, refl, sym, ap, subst, arith, Bool, true, ◌<◌}
 use Rattle.std.specs.Prelude.{slice_get}
 use Rattle.std.proofs.lemmas.List.{append-nil, append_assoc, map-append}
 use Rattle.std.proofs.Math.Seq.{take-length}
@@ -35,7 +35,7 @@ first_type t u ts us e = cc
 -- What the flat code does from here on, where it has paid b, and a in lean cost.
 pub data Paid (m p : Module) (which : List Bool) (c' : Configuration) (a b : ℕ) : Next → Type 0 where
   p_steps : {k : ℕ} {d : Configuration} → (cost lean : ℕ) → (to : Configuration) → Still p (first_of m) c' cost lean to → suc k ≤ a + lean → b + cost ≤ 16 * suc k → Beside m which d to → Paid m p which c' a b (steps k d)
-  p_returns : {k : ℕ} {vs : List Value} {s : Store} → (cost lean j : ℕ) → (at : Configuration) → Still p (first_of m) c' cost lean at → IsQuiet at.here.code → step p at ≡ returns j vs s → suc k ≤ a + lean + suc j → b + cost + suc j ≤ 16 * suc k → Paid m p which c' a b (returns k vs s)
+  p_returns : {k : ℕ} {vs : List Value} {s : Store} → (cost lean j : ℕ) → (at : Configuration) → Still p (first_of m) c' cost lean at → IsQuiet at.here.code → step p at ≡ returns j vs s → suc k ≤ a + lean + suc j → b + cost + suc j < 16 * suc k → Paid m p which c' a b (returns k vs s)
 
 pub paid : (m p : Module) (which : List Bool) (c' d : Configuration) (a b : ℕ) (o : Next) → Still p (first_of m) c' b a d → Paid m p which d a b o → Quietly m p which c' o
 paid m p which c' d a b _ st (p_steps cost lean to go l c be) = it_steps (b + cost) (a + lean) to (on p (first_of m) b a cost lean _ _ _ st go) l c be
