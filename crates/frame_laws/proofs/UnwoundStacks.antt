@@ -13,7 +13,7 @@ use Rattle.wa_model.proofs.Alone.{one, on}
 use Rattle.frame_laws.specs.FrameMemory.{AreaAt, FieldsFit, HoldsFrameOf, SameBut, Pushed}
 use Rattle.frame_laws.specs.Function.{KeptWithin, unwinding}
 use Rattle.frame_laws.specs.Layout.{fields_size, Layout, frame_size}
-use Rattle.frame_laws.specs.Stack.{Level, activation_of, LevelFits, AllFit, level_size, total_size, behind_call, unwinding_all, outer_of, UnwindsAll, UnwindAll, fit_of, StopsAll, StopAll}
+use Rattle.frame_laws.specs.Stack.{Level, activation_of, LevelFits, AllFit, level_size, total_size, behind_call, unwinding_all, outer_of, UnwindsAll, UnwindAll, fit_of, fitting, HoldsStack, StopsAll, StopAll}
 use Rattle.wa_model.specs.Keeping.{keeps}
 use Rattle.frame_laws.proofs.FieldBytes.{still_holds}
 use Rattle.frame_laws.proofs.OneFunction.{within_on, within_of, unwinds_one_law, stops_one_law}
@@ -24,6 +24,15 @@ still_frame l mem mem2 at sp ls k fit same h = record {
   fields = still_holds mem mem2 ls at sp l.fields fit (λ a w lo hi. same a w lo (omega arith)) h.fields;
   index = same (at + fields_size l.fields) 4 (omega arith) (omega arith) ∙ h.index;
 }
+
+-- at least what was in use
+pub fit_above : (len used : ℕ) (vs : List Level) → used ≤ fit_of len used vs
+fit_above len used [] = omega arith
+fit_above len used (v ∷ vs) = by (nat_lt len (used + level_size v)) (fit_above len (used + level_size v) vs)
+  where
+    by : (b : Bool) → used + level_size v ≤ fit_of len (used + level_size v) vs → used ≤ (if b then used else fit_of len (used + level_size v) vs)
+    by true ih = omega arith
+    by false ih = omega arith
 
 -- the area behind one frame more
 pub area_next : (adr : ℕ) (area : Area) (s : Store) (l : Layout) (loc k : ℕ) (ls : List Value) (after : List ℕ) → AreaAt adr area s loc → loc + frame_size l ≤ area.at + area.len
@@ -123,7 +132,8 @@ module _ (g : ℕ) (area : Area) (p : Module) (st n adr : ℕ) where
       record {
         after = s.memory;
         location = subst (λ u. HoldsBytes s.memory area.at (word (area.at + u))) fit ar.location;
-        others = same_self area.at (area.at + used) (area.len - used) s.memory;
+        frames = subst (λ b. HoldsStack s.memory (area.at + used) (if b then [] else v ∷ fitting area.len (used + level_size v) vs)) (sym q) tt;
+        others = same_self area.at (area.at + used) (fit_of area.len used (v ∷ vs) - used) s.memory;
         traps_at = record { cost = t.cost; within = omega arith; at = t.at; goes = t.goes; traps_there = t.traps_there };
       }
 
@@ -159,12 +169,17 @@ module _ (g : ℕ) (area : Area) (p : Module) (st n adr : ℕ) where
           let low = ar.low in
           let fit_is : fit_of area.len (used + level_size v) (w ∷ vs)
           ≡ fit_of area.len used (v ∷ w ∷ vs) = sym (ap (λ b. if b then used else fit_of area.len (used + level_size v) (w ∷ vs)) q) in
-          let others1 = subst (λ m. SameBut area.at 4 m (area.len - (used + level_size v)) u.after r.after) (sym z) r.others in
-          let sum : level_size v + (area.len - (used + level_size v)) ≡ area.len - used = omega arith in
+          let above = fit_above area.len (used + level_size v) (w ∷ vs) in
+          let more : ℕ = fit_of area.len (used + level_size v) (w ∷ vs) - (used + level_size v) in
+          let others1 = subst (λ m. SameBut area.at 4 m more u.after r.after) (sym z) r.others in
+          let sum : level_size v + more ≡ fit_of area.len used (v ∷ w ∷ vs) - used = omega arith in
+          let frame = still_frame v.fn.layout u.after r.after (area.at + used) v.fn.layout.scratch v.locals v.site.number f.living.fields (λ x k lo hi. r.others.same x k (inr (omega arith)) (inl (omega arith))) pu.frame in
+          let behind = subst (λ m. HoldsStack r.after m (fitting area.len (used + level_size v) (w ∷ vs))) (sym z) r.frames in
           record {
             after = r.after;
+            frames = subst (λ b. HoldsStack r.after (area.at + used) (if b then [] else v ∷ fitting area.len (used + level_size v) (w ∷ vs))) (sym q) (frame, behind);
             location = subst (λ m. HoldsBytes r.after area.at (word (area.at + m))) fit_is r.location;
-            others = subst (λ m. SameBut area.at 4 (area.at + used) m s.memory r.after) sum (same_joined area.at (area.at + used) (level_size v) (area.len - (used + level_size v)) s.memory u.after r.after pu.others others1);
+            others = subst (λ m. SameBut area.at 4 (area.at + used) m s.memory r.after) sum (same_joined area.at (area.at + used) (level_size v) more s.memory u.after r.after pu.others others1);
             traps_at = record {
               cost = x.cost + t.cost;
               within = omega arith;

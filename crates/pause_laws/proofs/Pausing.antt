@@ -24,7 +24,7 @@ use Rattle.frame_laws.specs.FrameMemory.{AreaAt}
 use Rattle.frame_laws.specs.Function.{function_code, site_code}
 use Rattle.frame_laws.specs.Stack.{Level, AllFit, total_size, fit_of, level_size, behind_call, outer_of, CallsTo, Chain}
 use Rattle.pause_laws.specs.Pause.{RuntimeAt, AreaReady, SameAround, SuspendedIn, at_import, PausesAt, Pauses, Overruns, TrapsThere, EntersEntry, AnswersAt, Answers}
-use Rattle.frame_laws.proofs.UnwoundStacks.{unwind_all_law, stop_all_law}
+use Rattle.frame_laws.proofs.UnwoundStacks.{fit_above, unwind_all_law, stop_all_law}
 use Rattle.frame_laws.proofs.RewoundStacks.{rewind_all_law, ask_again_law, area_lowered}
 use Rattle.pause_laws.proofs.RuntimeCalls.{stopped, started, starts, stops, tells, to_return, past_return}
 use Rattle.pause_laws.proofs.UnseenMoves.{Through, th_one, th_on, in_unwinding, in_rewinding}
@@ -129,6 +129,27 @@ module _ (g st adr : ℕ) (p : Module) (x : Exports) (plan : Plan) where
       let w = runs.within in
       (suc 1 + runs.cost + 1, past_return g area p x plan (unwinds e i a) (give_zero (at_import s v vs)) l (with_words s area) (begun g st adr area s) x.start_unwind 11 (V.I32 area.at ∷ []) (take (result_count p x.start_unwind) []) (runtime_func run.sort (start_code 1 st adr)) (busy (unwinds e i a) (behind_call (begun g st adr area s) v (zeros_of p i ++ v.ops) vs) l) run.start_unwind runs refl, omega arith)
 
+  words_size : (s : Store) → 8 ≤ plan.area.len → plan.area.at + plan.area.len ≤ length s.memory → length (with_words s plan.area).memory ≡ length s.memory
+  words_size s least inside =
+      let at = plan.area.at in
+      let w1 = word (at + 8) in
+      let n1 : length (overwritten s.memory at w1) ≡ length s.memory = length-overwritten s.memory at w1 (omega arith) in
+      length-overwritten (overwritten s.memory at w1) (at + 4) (word (at + plan.area.len)) (omega arith) ∙ n1
+
+  -- behind its two words the memory is as before
+  words_outside : (s : Store) (b w : ℕ) → 8 ≤ plan.area.len → plan.area.at + plan.area.len ≤ length s.memory → (b + w ≤ plan.area.at) ⊎ (plan.area.at + 8 ≤ b)
+      → bytes_at (with_words s plan.area).memory b w ≡ bytes_at s.memory b w
+  words_outside s b w least inside h =
+      let at = plan.area.at in
+      let w1 = word (at + 8) in
+      let w2 = word (at + plan.area.len) in
+      let m1 = overwritten s.memory at w1 in
+      let n1 : length m1 ≡ length s.memory = length-overwritten s.memory at w1 (omega arith) in
+      ⊎_elim
+      (λ lo. bytes_at-overwritten_below m1 (at + 4) w2 b w (omega arith) (omega arith) ∙ bytes_at-overwritten_below s.memory at w1 b w lo (omega arith))
+      (λ hi. bytes_at-overwritten_behind m1 (at + 4) w2 b w (omega arith) (omega arith) ∙ bytes_at-overwritten_behind s.memory at w1 b w (omega arith) (omega arith))
+      h
+
   pub pauses : (e : Entry) (i : ℕ) (a : Answer) (l : Left) (s : Store) (v : Level) (vs : List Level) → RuntimeAt p x st adr → AreaReady g st adr plan.area s
       → AllFit g plan.area p st adr (v ∷ vs) → 8 + total_size (v ∷ vs) ≤ plan.area.len → PausesAt g st adr p x plan e i a l s v vs
   pauses e i a l s v vs run r fit fits =
@@ -177,22 +198,9 @@ module _ (g st adr : ℕ) (p : Module) (x : Exports) (plan : Plan) where
         around = around g st adr area s s1 1 (with_words s area).memory r refl u.after (n2 ∙ n1) (λ b w h.
             let h1 : (b + w ≤ area.at) ⊎ (area.at + 4 ≤ b) = ⊎_elim (λ lo. inl lo) (λ hi. inr (omega arith)) h in
             let h2 : (b + w ≤ area.at + 8) ⊎ (area.at + 8 + total_size (v ∷ vs) ≤ b) = ⊎_elim (λ lo. inl (omega arith)) (λ hi. inr (omega arith)) h in
-            u.others.same b w h1 h2 ∙ words_outside s b w least inside h);
+            u.others.same b w h1 h2 ∙ words_outside s b w least inside (⊎_elim (λ lo. inl lo) (λ hi. inr (omega arith)) h));
         suspended = record { frames = u.frames; location = u.location; limit = ar2.limit };
       }
-    where
-      words_outside : (s : Store) (b w : ℕ) → 8 ≤ plan.area.len → plan.area.at + plan.area.len ≤ length s.memory → (b + w ≤ plan.area.at) ⊎ (plan.area.at + plan.area.len ≤ b)
-          → bytes_at (with_words s plan.area).memory b w ≡ bytes_at s.memory b w
-      words_outside s b w least inside h =
-          let at = plan.area.at in
-          let w1 = word (at + 8) in
-          let w2 = word (at + plan.area.len) in
-          let m1 = overwritten s.memory at w1 in
-          let n1 : length m1 ≡ length s.memory = length-overwritten s.memory at w1 (omega arith) in
-          ⊎_elim
-          (λ lo. bytes_at-overwritten_below m1 (at + 4) w2 b w (omega arith) (omega arith) ∙ bytes_at-overwritten_below s.memory at w1 b w lo (omega arith))
-          (λ hi. bytes_at-overwritten_behind m1 (at + 4) w2 b w (omega arith) (omega arith) ∙ bytes_at-overwritten_behind s.memory at w1 b w (omega arith) (omega arith))
-          h
 
   pub overruns : (e : Entry) (i : ℕ) (a : Answer) (l : Left) (s : Store) (v : Level) (vs : List Level) → RuntimeAt p x st adr → AreaReady g st adr plan.area s
       → AllFit g plan.area p st adr (v ∷ vs) → plan.area.len < 8 + total_size (v ∷ vs) → Overruns g p x plan e i a l s v vs
@@ -209,6 +217,7 @@ module _ (g st adr : ℕ) (p : Module) (x : Exports) (plan : Plan) where
       let t2 = in_unwinding g area p x plan e i a l here q.at q.cost q.goes in
       let s3 = with_memory s1 k.after in
       let bound = fit_below area.len 8 (v ∷ vs) least in
+      let above = fit_above area.len 8 (v ∷ vs) in
       let used : used_of s3 area ≡ fit_of area.len 8 (v ∷ vs) = used_is s3 area (fit_of area.len 8 (v ∷ vs)) k.location (omega arith) in
       let whole = th_on g area p x plan t1.0 q.cost _ _ _ t1.1 t2 in
       let few = t1.2 in
@@ -221,6 +230,13 @@ module _ (g st adr : ℕ) (p : Module) (x : Exports) (plan : Plan) where
         config = q.at;
         is = refl;
         traps_there = q.traps_there;
+        frames = k.frames;
+        location = k.location;
+        size = k.others.size ∙ (words_size s least inside);
+        others = λ b w h.
+            let h1 : (b + w ≤ area.at) ⊎ (area.at + 4 ≤ b) = ⊎_elim (λ lo. inl lo) (λ hi. inr (omega arith)) h in
+            let h2 : (b + w ≤ area.at + 8) ⊎ (area.at + 8 + (fit_of area.len 8 (v ∷ vs) - 8) ≤ b) = ⊎_elim (λ lo. inl (omega arith)) (λ hi. inr (omega arith)) h in
+            k.others.same b w h1 h2 ∙ words_outside s b w least inside (⊎_elim (λ lo. inl lo) (λ hi. inr (omega arith)) h);
         tells = ap (busy_step p x plan ph l) q.traps_there ∙ ap (λ n. goes 0 (note (ended (UnwindTrap Unreachable n area.len)) s3 ∷ []) (over s3)) used;
       }
 
