@@ -92,7 +92,11 @@ module _ (g : ℕ) (area : Area) (p : Module) (st n adr : ℕ) where
       let z : loc1 + total_size (w ∷ vs) ≡ loc + total_size (v ∷ w ∷ vs) = omega arith in
       record {
         after = ih.after;
-        frames = (still_frame v.fn.layout u.after ih.after loc v.fn.layout.scratch v.locals v.site.number f.living.fields (λ x k lo hi. ih.others.same x k (inr (omega arith)) (inl hi)) pu.frame, ih.frames);
+        frames = (
+          still_frame v.fn.layout u.after ih.after loc v.fn.layout.scratch v.locals v.site.number f.living.fields
+              (λ x k lo hi. ih.others.same x k (inr (omega arith)) (inl hi)) pu.frame,
+          ih.frames,
+        );
         location = subst (λ t. HoldsBytes ih.after area.at (word t)) z ih.location;
         others = same_joined area.at loc (level_size v) (total_size (w ∷ vs)) s.memory u.after ih.after pu.others ih.others;
         end = ih.end;
@@ -126,7 +130,8 @@ module _ (g : ℕ) (area : Area) (p : Module) (st n adr : ℕ) where
       → StopsAll g area p (behind_call s v ops vs) (unwinding_all v vs) s used (v ∷ vs)
   full v vs s ops used f e ar q =
       let over = lt_of area.len (used + level_size v) q in
-      let t = stops_one_law g area p st n v.fn v.site v.out v.seek s v.func (map activation_of vs) v.locals ops (area.at + used) f.law e (subst (λ a. AreaAt a area s (area.at + used)) (sym f.address_is) ar) (omega arith) f.living in
+      let t = stops_one_law g area p st n v.fn v.site v.out v.seek s v.func (map activation_of vs) v.locals ops (area.at + used) f.law e
+      (subst (λ a. AreaAt a area s (area.at + used)) (sym f.address_is) ar) (omega arith) f.living in
       let w = t.within in let c = first_cost v vs in
       let fit : used ≡ fit_of area.len used (v ∷ vs) = sym (ap (λ b. if b then used else fit_of area.len (used + level_size v) vs) q) in
       record {
@@ -147,7 +152,8 @@ module _ (g : ℕ) (area : Area) (p : Module) (st n adr : ℕ) where
       by_room false q = let le = le_of area.len (used + level_size v) q in absurd (omega arith)
   stop_all v (w ∷ vs) s ops used fit e ar over = by_room (λ s1 ops1 ar1 over1. stop_all w vs s1.0 ops1 (used + level_size v) fit.1 s1.1 ar1 over1) (nat_lt area.len (used + level_size v)) refl
     where
-      by_room : ((s1 : (t : Store) × (value_at t.globals st ≡ V.I32 (suc n))) → (ops1 : List Value) → AreaAt adr area s1.0 (area.at + (used + level_size v)) → area.len < used + level_size v + total_size (w ∷ vs)
+      by_room : ((s1 : (t : Store) × (value_at t.globals st ≡ V.I32 (suc n))) → (ops1 : List Value) → AreaAt adr area s1.0 (area.at + (used + level_size v))
+          → area.len < used + level_size v + total_size (w ∷ vs)
           → StopsAll g area p (behind_call s1.0 w ops1 vs) (unwinding_all w vs) s1.0 (used + level_size v) (w ∷ vs))
           → (b : Bool) → nat_lt area.len (used + level_size v) ≡ b → StopsAll g area p (behind_call s v ops (w ∷ vs)) (unwinding_all v (w ∷ vs)) s used (v ∷ w ∷ vs)
       by_room ih true q = full v (w ∷ vs) s ops used fit.0 e ar q
@@ -159,7 +165,8 @@ module _ (g : ℕ) (area : Area) (p : Module) (st n adr : ℕ) where
           let pu = u.pushed in
           let s1 = with_memory s u.after in
           let ops1 = take (result_count p v.func) u.results ++ w.ops in
-          let a : KeptWithin g area p u.end 1 (behind_call s1 w ops1 vs) = within_of g area p u.end (behind_call s1 w ops1 vs) 1 (one (keeps g area) p 0 u.end (behind_call s1 w ops1 vs) u.may u.ends) in
+          let a : KeptWithin g area p u.end 1 (behind_call s1 w ops1 vs) = within_of g area p u.end (behind_call s1 w ops1 vs) 1
+          (one (keeps g area) p 0 u.end (behind_call s1 w ops1 vs) u.may u.ends) in
           let z : area.at + used + level_size v ≡ area.at + (used + level_size v) = omega arith in
           let ar2 = subst (λ m. AreaAt adr area s1 m) z (area_next adr area s v.fn.layout (area.at + used) v.site.number v.locals u.after ar (omega arith) pu) in
           let r = ih (s1, e) ops1 ar2 (omega arith) in
@@ -173,7 +180,8 @@ module _ (g : ℕ) (area : Area) (p : Module) (st n adr : ℕ) where
           let more : ℕ = fit_of area.len (used + level_size v) (w ∷ vs) - (used + level_size v) in
           let others1 = subst (λ m. SameBut area.at 4 m more u.after r.after) (sym z) r.others in
           let sum : level_size v + more ≡ fit_of area.len used (v ∷ w ∷ vs) - used = omega arith in
-          let frame = still_frame v.fn.layout u.after r.after (area.at + used) v.fn.layout.scratch v.locals v.site.number f.living.fields (λ x k lo hi. r.others.same x k (inr (omega arith)) (inl (omega arith))) pu.frame in
+          let frame = still_frame v.fn.layout u.after r.after (area.at + used) v.fn.layout.scratch v.locals v.site.number f.living.fields
+          (λ x k lo hi. r.others.same x k (inr (omega arith)) (inl (omega arith))) pu.frame in
           let behind = subst (λ m. HoldsStack r.after m (fitting area.len (used + level_size v) (w ∷ vs))) (sym z) r.frames in
           record {
             after = r.after;

@@ -83,7 +83,8 @@ silent_trace p which c d _ _ (moves {t = t} {k = k} {n = n} {es = es} {fs = fs} 
 -- ---- normal running
 
 -- where the same is counted
-same_cost : (which : ℕ → ℕ → Bool) (c c' : Configuration) (k : ℕ) → is_counted which c'.here.func c'.here.code ≡ is_counted which c.here.func c.here.code → counted_cost which c' k ≡ counted_cost which c k
+same_cost : (which : ℕ → ℕ → Bool) (c c' : Configuration) (k : ℕ) → is_counted which c'.here.func c'.here.code ≡ is_counted which c.here.func c.here.code
+    → counted_cost which c' k ≡ counted_cost which c k
 same_cost which c c' k e = ap (λ b. if b then k else 0) e
 
 record Followed (w : Sides) (which : ℕ → ℕ → Bool) (c' : Configuration) (n l : ℕ) (ts : List Touch) (d : Configuration) : Type 0 where
@@ -96,7 +97,8 @@ record Followed (w : Sides) (which : ℕ → ℕ → Bool) (c' : Configuration) 
   least_counted : l ≤ counted
   near : Near w 9 d to
 
-each_trace : (w : Sides) (which : ℕ → ℕ → Bool) (c c' d : Configuration) (n l : ℕ) (ts : List Touch) → Together w → Near w 9 c c' → Traced (Proper w) w.flat which c n l ts d → Followed w which c' n l ts d
+each_trace : (w : Sides) (which : ℕ → ℕ → Bool) (c c' d : Configuration) (n l : ℕ) (ts : List Touch) → Together w → Near w 9 c c' → Traced (Proper w) w.flat which c n l ts d
+    → Followed w which c' n l ts d
 each_trace w which c c' _ _ _ _ ok nr rests = record { cost = 0; counted = 0; to = c'; goes_there = rests; least = omega arith; most = omega arith; least_counted = omega arith; near = nr }
 each_trace w which c c' d m lm us ok nr (goes_on {d = e} {k = k} {n = n} {l = l} {ts = ts} pr is rest ec el et) =
     by_next (step w.flat c) (step w.written nr.mid) is refl (exact_step w ok c nr.mid nr.is_aligned pr) (λ to ne. each_trace w which e to d n l ts ok ne rest)
@@ -119,12 +121,14 @@ each_trace w which c c' d m lm us ok nr (goes_on {d = e} {k = k} {n = n} {l = l}
         let sc = same_cost which c nr.mid (suc k2) (same.counted which) in
         let sk = ap (λ i. counted_cost which c (suc i)) qk in
         let here = goes_on tt q' r.goes_there refl refl refl in
-        let all = joined AnyConfiguration w.written which c' nr.mid r.to nr.lag late.counted (suc k2 + r.cost) (counted_cost which nr.mid (suc k2) + r.counted) [] (next_touch nr.mid ++ ts) late.by here in
+        let all = joined AnyConfiguration w.written which c' nr.mid r.to nr.lag late.counted (suc k2 + r.cost) (counted_cost which nr.mid (suc k2) + r.counted) []
+        (next_touch nr.mid ++ ts) late.by here in
         record {
           cost = nr.lag + (suc k2 + r.cost);
           counted = late.counted + (counted_cost which nr.mid (suc k2) + r.counted);
           to = r.to;
-          goes_there = subst (λ xs. Traced AnyConfiguration w.written which c' (nr.lag + (suc k2 + r.cost)) (late.counted + (counted_cost which nr.mid (suc k2) + r.counted)) xs r.to) (ap (λ xs. xs ++ ts) same.touch ∙ sym et) all;
+          goes_there = subst (λ xs. Traced AnyConfiguration w.written which c' (nr.lag + (suc k2 + r.cost)) (late.counted + (counted_cost which nr.mid (suc k2) + r.counted)) xs r.to)
+              (ap (λ xs. xs ++ ts) same.touch ∙ sym et) all;
           least = omega arith;
           most = omega arith;
           least_counted = omega arith;

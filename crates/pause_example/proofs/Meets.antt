@@ -35,7 +35,8 @@ same_function = record { flat = refl; written = refl; locals = refl; size = refl
 
 at_func : (j : ℕ) (g g' : Func) → 1 + j < 2 → slice_get setting.flat.funcs j ≡ Some g → slice_get setting.written.funcs j ≡ Some g' → SameFunction setting (1 + j) g g'
 unfolding with_runtime
-at_func zero g g' lt e e' = let z : flat_function ≡ g = cc in let z' : written_function ≡ g' = cc in subst (λ y. SameFunction setting 1 y g') z (subst (λ y. SameFunction setting 1 flat_function y) z' same_function)
+at_func zero g g' lt e e' = let z : flat_function ≡ g = cc in let z' : written_function ≡ g' = cc in subst (λ y. SameFunction setting 1 y g') z
+    (subst (λ y. SameFunction setting 1 flat_function y) z' same_function)
 at_func (suc j) g g' lt e e' = absurd (omega (arith, lt))
 
 calls_of_role : (x : ℕ) → RoleCalls (λ c. is_sleep c ≡ false) (role x)
@@ -169,8 +170,18 @@ ready_again p =
     let b = r.small in
     let c = r.state_there in
     let d = r.address_there in
-    record { state_above = r.state_above; address_above = r.address_above; apart = r.apart; state_there = omega arith; address_there = omega arith; least = r.least; inside = omega arith; small = omega arith }
+    record {
+      state_above = r.state_above;
+      address_above = r.address_above;
+      apart = r.apart;
+      state_there = omega arith;
+      address_there = omega arith;
+      least = r.least;
+      inside = omega arith;
+      small = omega arith;
+    }
 
 pub answers : ComesBack
 answers p =
-    answers_law 0 0 1 setting.written (exports_of setting.written) plan entry 0 0 answer left p.store level [] runtime (ready_again p) fits tt (lit< tt) p.suspended (omega arith) enters (calls_sleep p.store.table) no_function one_import
+    answers_law 0 0 1 setting.written (exports_of setting.written) plan entry 0 0 answer left p.store level [] runtime (ready_again p) fits tt (lit< tt) p.suspended (omega arith) enters
+    (calls_sleep p.store.table) no_function one_import
