@@ -1,3 +1,5 @@
 pub mod FlatSide
+pub mod NumberedCalls
+pub mod NumberedStacks
 pub mod NumberedStmts
 pub mod PairedFlat
