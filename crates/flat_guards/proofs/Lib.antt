@@ -1,3 +1,4 @@
+pub mod Behaving
 pub mod FlatSide
 pub mod NumberedCalls
 pub mod NumberedStacks

@@ -101,7 +101,7 @@ module _ (m : Module) (s : Settings) (which : List Bool) (valid : Valid m) where
         at_numbers table root a.func us spots.1 stands.3 (All-tail (StandsNumbered m s which) (suspended b a) (map (suspended b) us) nums),
       )
 
-space_of : (m : Module) → length (func_sorts (Base m)) ≡ func_space m
+pub space_of : (m : Module) → length (func_sorts (Base m)) ≡ func_space m
 unfolding Base
 space_of m = refl
 
