@@ -4,3 +4,4 @@ pub mod NumberedCalls
 pub mod NumberedStacks
 pub mod NumberedStmts
 pub mod PairedFlat
+pub mod Staying
