@@ -1,5 +1,5 @@
 -- The written module behaves like its original, where suspended stacks stand as frames.
-use Rattle.std.proofs.Common.{◌≡◌, ℕ, zero, suc, ◌+◌, ◌*◌, ◌<◌, ◌≤◌, List, [], ◌∷◌, length, map, Option, Some, None, Bool, refl, sym, ap, ◌∙◌, subst, arith}
+use Rattle.std.proofs.Common.{◌≡◌, ℕ, ◌*◌, ◌<◌, List, [], length, Some, Bool, refl, sym, ap, ◌∙◌, subst, arith}
 use Rattle.std.specs.Prelude.{codes}
 use Rattle.std.proofs.lemmas.List.{length-map}
 use Rattle.std.proofs.lemmas.List.Elements.{All-nil}
@@ -9,15 +9,14 @@ use Rattle.wa_types.specs.Modules.{all_globals, all_memories, func_sorts, func_t
 use Rattle.wa_types.specs.Pausing.{Settings, TellsMayPause}
 use Rattle.wa_types.specs.Runtime.{func_space, with_runtime}
 use Rattle.wa_types.specs.Sizes.{value_fits}
-use Rattle.wa_types.specs.Syntax.{FuncType, Module}
+use Rattle.wa_types.specs.Syntax.{Module}
 use Rattle.wa_types.specs.Typing.{GlobalType, type_of}
 use Rattle.wa_types.specs.Validity.{Valid}
-use Rattle.wa_types.specs.declared.values.ValType.{ValType}
 use Rattle.wa_model.specs.Behaves.{BehavesOn, Compared, PausesNumbered, expected_notes}
 use Rattle.wa_model.specs.Blocking.{Blocking}
 use Rattle.wa_model.specs.Configuration.{Configuration}
-use Rattle.wa_model.specs.Fitting.{StoreFits, global_types, types_of}
-use Rattle.wa_model.specs.Growth.{Each, EntryNamed, spaces_of}
+use Rattle.wa_model.specs.Fitting.{global_types, types_of}
+use Rattle.wa_model.specs.Growth.{Each, EntryNamed}
 use Rattle.wa_model.specs.Instantiation.{Opening, fails_as, opens, opening, least_of}
 use Rattle.wa_model.specs.Plan.{AreLawful, AreaFits, Outcome, Plan}
 use Rattle.wa_model.specs.Plan as L
@@ -37,14 +36,14 @@ use Rattle.run_laws.proofs.PlanParts.{plans_fit_parts}
 use Rattle.run_laws.proofs.RuntimeTyped.{runtime_typed}
 use Rattle.run_laws.proofs.Stopping.{start_there}
 use Rattle.stack_laws.proofs.SpotRuns.{base_globals, listed_typed, start_takes_none}
-use Rattle.pause_laws.specs.RuntimeParts.{HasRuntime, NoExport}
+use Rattle.pause_laws.specs.RuntimeParts.{HasRuntime}
 use Rattle.flat_runs.specs.Beside.{Asked, Beside}
 use Rattle.headline_laws.specs.Emitted.{FirstStore, Whole}
 use Rattle.headline_laws.proofs.Headline.{headline_all}
 use Rattle.flat_links.specs.Core.{Core, CoreFits, table_in, world_of}
 use Rattle.flat_links.specs.Links.{GoodStore, L as Links, StandsLaw, W as WaitLinks}
 use Rattle.flat_links.proofs.Owed.{flat_law}
-use Rattle.flat_links.proofs.Spaces.{funcs_are, globals_same, sorts_same}
+use Rattle.flat_links.proofs.Spaces.{globals_same, sorts_same}
 use Rattle.flat_links.proofs.WrittenKnown.{Known, written_law}
 use Rattle.flat_guards.specs.CoreOf.{core_of}
 use Rattle.flat_guards.specs.Emitted.{Emitted}
@@ -168,4 +167,4 @@ module _ (m : Module) (s : Settings) (which : List Bool) (keep : (func local : �
   says stands os n cmp pauses =
       headline_all (world_of k) whole (Known p written_valid plan written_fits area typed written_codes) (written_law (world_of k) written_valid written_fits area typed written_codes) (GoodStore k) first
       (Links k B A) (WaitLinks k B A) (flat_law k fit B A (beside_law (Base m) which k.flat (flattened_so m s which keep plan p valid tells em plan_fits base_in))
-        (paired m s which keep plan p valid tells em plan_fits base_in) stands) os n cmp pauses
+      (paired m s which keep plan p valid tells em plan_fits base_in) stands) os n cmp pauses

@@ -1,16 +1,14 @@
 -- A suspended activation at a numbered call: which call it is, and how many operands that took.
-use Rattle.std.proofs.Common.{◌≡◌, ℕ, zero, suc, ◌+◌, ◌-◌, ◌<◌, ◌≤◌, List, [], ◌∷◌, ◌++◌, map, reverse, length, Option, Some, None, Bool, true, false, refl, sym, ap, ◌∙◌, subst, arith, length-append}
+use Rattle.std.proofs.Common.{◌≡◌, ℕ, zero, suc, ◌+◌, ◌<◌, List, [], ◌∷◌, ◌++◌, reverse, length, Option, Some, None, Bool, true, false, refl, sym, ap, ◌∙◌, subst, arith, length-append}
 use Rattle.std.specs.Prelude.{slice_get, slice_index_or, Contains, if◌then◌else◌}
 use Rattle.std.proofs.lemmas.List.{length-map, length-reverse}
-use Rattle.wa_types.specs.Modules.{around, defined_at, func_type_at, func_types, or_empty, type_at}
-use Rattle.wa_types.specs.Pausing.{Callee, callee, calls_in, direct, indirect, places_from}
-use Rattle.wa_types.specs.Syntax.{FuncType, Func, Module, Plain, basic, br, br_if, br_table, call, call_indirect, local_get, local_set, local_tee, return, unreachable}
+use Rattle.wa_types.specs.Modules.{around, func_type_at, func_types, or_empty, type_at}
+use Rattle.wa_types.specs.Pausing.{Callee, callee, direct, indirect, places_from}
+use Rattle.wa_types.specs.Syntax.{FuncType, Module, Plain, basic, br, br_if, br_table, call, call_indirect, local_get, local_set, local_tee, return, unreachable}
 use Rattle.wa_types.specs.Typing.{Takes, calls, calls_at, sig, type_of}
 use Rattle.wa_types.specs.Validity.{Valid}
-use Rattle.wa_types.specs.declared.values.ValType.{ValType}
 use Rattle.wa_types.specs.declared.values.ValType.TheVariants.{I32}
-use Rattle.wa_types.specs.declared.values.Value.{Value}
-use Rattle.wa_model.specs.Configuration.{Activation, place_of}
+use Rattle.wa_model.specs.Configuration.{Activation}
 use Rattle.wa_model.specs.Fitting.{types_of, results_of}
 use Rattle.wa_model.specs.LawfulStacks.{LeadsTo}
 use Rattle.wa_model.specs.Step.{param_count, same_func_type}

@@ -1,9 +1,9 @@
 -- A suspended stack of numbered calls: each activation's call has a number, and so has whatever its flat activation may have called.
-use Rattle.std.proofs.Common.{◌≡◌, ℕ, zero, suc, ◌+◌, ◌-◌, ◌<◌, ◌≤◌, List, [], ◌∷◌, ◌++◌, map, length, Option, Some, None, Bool, true, false, All, refl, sym, ap, ◌∙◌, subst, arith}
+use Rattle.std.proofs.Common.{◌≡◌, ℕ, suc, ◌<◌, List, [], ◌∷◌, ◌++◌, map, length, Option, Some, Bool, true, false, All, refl, sym, ap, ◌∙◌, subst, arith}
 use Rattle.std.specs.Prelude.{slice_get, Contains}
 use Rattle.std.proofs.lemmas.List.Elements.{All-head, All-tail}
 use Rattle.wa_types.specs.Base.{Base}
-use Rattle.wa_types.specs.Modules.{defined_at, func_imports, func_sorts, func_type_at, locals_of}
+use Rattle.wa_types.specs.Modules.{defined_at, func_sorts, func_type_at, locals_of}
 use Rattle.wa_types.specs.Pausing.{Callee, Numbered, Settings, TellsMayPause, calls_in, direct, has_number, indirect, is_told}
 use Rattle.wa_types.specs.Points.{func_call_points}
 use Rattle.wa_types.specs.Runtime.{func_space}
@@ -30,7 +30,7 @@ use Rattle.guard_runs.specs.Alike.{Setting, sides_of}
 use Rattle.guard_runs.specs.Beside.{GoesTo, by_table, directly}
 use Rattle.guard_runs.specs.Stopped.{AllNumbered}
 use Rattle.headline_laws.specs.World.{setting}
-use Rattle.flat_links.specs.Core.{Core, CoreFits, world_of}
+use Rattle.flat_links.specs.Core.{CoreFits, world_of}
 use Rattle.flat_links.specs.Links.{LinkedWaits}
 use Rattle.flat_links.proofs.Spaces.{func_type_same, funcs_are, grown_func_type}
 use Rattle.flat_guards.specs.CoreOf.{core_of}

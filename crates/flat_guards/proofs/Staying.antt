@@ -1,5 +1,5 @@
 -- Where every function stays, no suspended stack stands at numbered calls.
-use Rattle.std.proofs.Common.{◌≡◌, ℕ, List, ◌∷◌, Some, Bool, true, false, All, sym, ap, ◌∙◌, map}
+use Rattle.std.proofs.Common.{◌≡◌, ℕ, List, Bool, true, false, All, sym, ap, ◌∙◌, map}
 use Rattle.std.specs.Prelude.{slice_get}
 use Rattle.std.proofs.lemmas.List.Elements.{All-head}
 use Rattle.wa_types.specs.Base.{Base}

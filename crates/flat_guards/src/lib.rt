@@ -7,4 +7,4 @@
 
 mod laws;
 
-pub use laws::{staying_behave};
+pub use laws::staying_behave;
