@@ -1,4 +1,5 @@
 pub mod Behaving
+pub mod CallSlots
 pub mod FlatSide
 pub mod NumberedCalls
 pub mod NumberedStacks
