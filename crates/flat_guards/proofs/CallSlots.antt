@@ -82,20 +82,32 @@ no_numbers ps n (halts rest) h = no_numbers ps n rest h
 
 -- ---- from calls to units: the number of a place is how many numbered ones lie below
 
-module _ (ps : List ℕ) (rank : ℕ → ℕ) (next : (n : ℕ) → rank (suc n) ≡ (if is_place ps n then suc (rank n) else rank n)) where
-  -- each call of the statements is one
-  abbrev IsOne : Stmts → Type 0
-  IsOne no_more = Unit {0}
-  IsOne (computes op args to rest) = IsOne rest
-  IsOne (copies to from rest) = IsOne rest
-  IsOne (calls op stack args to rest) = ((x : Callee) × (op ≡ plain (call_to x) done)) × IsOne rest
-  IsOne (leaps l rest) = IsOne rest
-  IsOne (leaps_if c l rest) = IsOne rest
-  IsOne (leaps_by index labels last rest) = IsOne rest
-  IsOne (nests s body rest) = IsOne body × IsOne rest
-  IsOne (decides c a b rest) = IsOne a × IsOne b × IsOne rest
-  IsOne (halts rest) = IsOne rest
+-- each call of the statements is one
+abbrev pub IsOne : Stmts → Type 0
+IsOne no_more = Unit {0}
+IsOne (computes op args to rest) = IsOne rest
+IsOne (copies to from rest) = IsOne rest
+IsOne (calls op stack args to rest) = ((x : Callee) × (op ≡ plain (call_to x) done)) × IsOne rest
+IsOne (leaps l rest) = IsOne rest
+IsOne (leaps_if c l rest) = IsOne rest
+IsOne (leaps_by index labels last rest) = IsOne rest
+IsOne (nests s body rest) = IsOne body × IsOne rest
+IsOne (decides c a b rest) = IsOne a × IsOne b × IsOne rest
+IsOne (halts rest) = IsOne rest
 
+pub kinds_one : (s : Stmts) → Kinds s → IsOne s
+kinds_one no_more k = tt
+kinds_one (computes op args to rest) k = kinds_one rest k.1
+kinds_one (copies to from rest) k = kinds_one rest k
+kinds_one (calls op stack args to rest) k = (k.0, kinds_one rest k.1)
+kinds_one (leaps l rest) k = kinds_one rest k
+kinds_one (leaps_if c l rest) k = kinds_one rest k
+kinds_one (leaps_by index labels last rest) k = kinds_one rest k
+kinds_one (nests s body rest) k = (kinds_one body k.0, kinds_one rest k.1)
+kinds_one (decides c a b rest) k = (kinds_one a k.0, kinds_one b k.1, kinds_one rest k.2)
+kinds_one (halts rest) k = kinds_one rest k
+
+module _ (ps : List ℕ) (rank : ℕ → ℕ) (next : (n : ℕ) → rank (suc n) ≡ (if is_place ps n then suc (rank n) else rank n)) where
   sole : (c : Callee) → sole_callee (plain (call_to c) done) ≡ Some c
   sole (direct y) = refl
   sole (indirect y) = refl
@@ -266,7 +278,7 @@ module _ (test : Callee → Bool) where
 
 -- ---- the slots of all calls, in order
 
-abbrev call_slots : Stmts → List (List ℕ)
+abbrev pub call_slots : Stmts → List (List ℕ)
 call_slots no_more = []
 call_slots (computes op args to rest) = call_slots rest
 call_slots (copies to from rest) = call_slots rest
@@ -278,7 +290,7 @@ call_slots (nests s body rest) = call_slots body ++ call_slots rest
 call_slots (decides c a b rest) = call_slots a ++ (call_slots b ++ call_slots rest)
 call_slots (halts rest) = call_slots rest
 
-abbrev args_in : Stmts → List ℕ
+abbrev pub args_in : Stmts → List ℕ
 args_in no_more = []
 args_in (computes op args to rest) = args_in rest
 args_in (copies to from rest) = args_in rest
@@ -290,7 +302,7 @@ args_in (nests s body rest) = args_in body ++ args_in rest
 args_in (decides c a b rest) = args_in a ++ (args_in b ++ args_in rest)
 args_in (halts rest) = args_in rest
 
-abbrev zip_last : List ℕ → List (List ℕ) → List (List ℕ)
+abbrev pub zip_last : List ℕ → List (List ℕ) → List (List ℕ)
 zip_last [] xs = []
 zip_last (a ∷ as1) [] = []
 zip_last (a ∷ as1) (x ∷ xs) = last_of a x ∷ zip_last as1 xs
@@ -318,7 +330,7 @@ same_count (decides c a b rest) =
     omega arith
 same_count (halts rest) = same_count rest
 
-zipped : (s : Stmts) → call_slots s ≡ zip_last (args_in s) (stacks_in s)
+pub zipped : (s : Stmts) → call_slots s ≡ zip_last (args_in s) (stacks_in s)
 unfolding stacks_in
 zipped no_more = refl
 zipped (computes op args to rest) = zipped rest
@@ -334,7 +346,7 @@ zipped (decides c a b rest) =
     ∙ sym (zip_on (args_in a) (args_in b ++ args_in rest) (stacks_in a) (stacks_in b ++ stacks_in rest) (same_count a))
 zipped (halts rest) = zipped rest
 
-zip_got : (as1 : List ℕ) (xs : List (List ℕ)) (i a : ℕ) (x : List ℕ) → slice_get as1 i ≡ Some a → slice_get xs i ≡ Some x → slice_get (zip_last as1 xs) i ≡ Some (last_of a x)
+pub zip_got : (as1 : List ℕ) (xs : List (List ℕ)) (i a : ℕ) (x : List ℕ) → slice_get as1 i ≡ Some a → slice_get xs i ≡ Some x → slice_get (zip_last as1 xs) i ≡ Some (last_of a x)
 zip_got [] xs i a x e f = cc
 zip_got (a1 ∷ as1) [] i a x e f = cc
 zip_got (a1 ∷ as1) (y ∷ xs) zero a x e f = let p : a1 ≡ a = cc in let q : y ≡ x = cc in ap (λ j. Some (last_of j y)) p ∙ ap (λ z. Some (last_of a z)) q

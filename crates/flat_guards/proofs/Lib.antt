@@ -5,4 +5,5 @@ pub mod NumberedCalls
 pub mod NumberedStacks
 pub mod NumberedStmts
 pub mod PairedFlat
+pub mod PlaceSlots
 pub mod Staying
