@@ -5,5 +5,6 @@ pub mod NumberedCalls
 pub mod NumberedStacks
 pub mod NumberedStmts
 pub mod PairedFlat
+pub mod PairedStacks
 pub mod PlaceSlots
 pub mod Staying
