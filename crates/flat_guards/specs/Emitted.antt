@@ -2,13 +2,12 @@
 -- function with guards and frames, every other one stays, and the runtime's parts stand behind.
 use Rattle.std.specs.Prelude.{◌≡◌, ℕ, suc, ◌+◌, ◌<◌, ◌++◌, List, [], ◌∷◌, length, map, drop, Option, Some, None, Bool, true, false, All, Contains, slice_get, if◌then◌else◌}
 use Rattle.wa_types.specs.Base.{Base}
-use Rattle.wa_types.specs.Frames.{Place, SlotPairs, Saved}
+use Rattle.wa_types.specs.Frames.{Place, Saved}
 use Rattle.wa_types.specs.Modules.{declared_locals, func_imports, locals_of}
-use Rattle.wa_types.specs.Pausing.{Settings, Callee, Numbered, has_number, is_told, save_all}
+use Rattle.wa_types.specs.Pausing.{Settings, Numbered, is_told, save_all}
 use Rattle.wa_types.specs.Points.{func_call_points}
 use Rattle.wa_types.specs.Runtime.{global_space, with_runtime}
-use Rattle.wa_types.specs.Syntax.{Code, done, Func, Module}
-use Rattle.wa_types.specs.Validity.{Valid}
+use Rattle.wa_types.specs.Syntax.{done, Func, Module}
 use Rattle.wa_types.specs.declared.values.ValType.{ValType}
 use Rattle.wa_types.specs.declared.values.ValType.TheVariants.{I32, I64}
 use Rattle.wa_model.specs.Flat.{FlatFunc}
