@@ -50,7 +50,8 @@ pub named_end : (keep : ℕ → Bool) (x : ℕ) (ts : List ValType) (old all : L
 named_end keep x ts old all le e = sym (append-nil old) ∙ ap (λ us. old ++ named_places keep x us) (sym (drop_all x ts le)) ∙ e
 
 pub slot_put : (keep : Pair → Bool) (first i : ℕ) (ps : List PairValue) (p : PairValue) (kept : Bool) (old new all : List Place) → i < length ps → p ≡ get_or ps i p → kept ≡ keep (pair_of p)
-    → old ++ slot_places keep (first + i) (pairs_of (drop i ps)) ≡ all → new ≡ old ++ place_onto kept (first + i) p.ty [] → new ++ slot_places keep (first + (i + 1)) (pairs_of (drop (i + 1) ps)) ≡ all
+    → old ++ slot_places keep (first + i) (pairs_of (drop i ps)) ≡ all → new ≡ old ++ place_onto kept (first + i) p.ty []
+    → new ++ slot_places keep (first + (i + 1)) (pairs_of (drop (i + 1) ps)) ≡ all
 slot_put keep first i ps p kept old new all lt at k before e =
     let m : i + 1 ≡ suc i = omega arith in
     let n : first + (i + 1) ≡ suc (first + i) = omega arith in

@@ -27,7 +27,8 @@ module _ (x : ℕ) (tos : List Bool) (out : Bool) where
   lives_front : (i : Instr) (rest : Code) → lives x tos out (in_front i rest) ≡ lives_first x tos (live x tos out rest) (in_front i done) ++ lives x tos out rest
   unfolding lives
   lives_front i rest = elim (front i) [
-    | is_plain p e f ↦ ap (lives x tos out) (e rest) ∙ called (callee p) (live x tos out rest) (lives x tos out rest) ∙ ap (λ k. lives_first x tos (live x tos out rest) k ++ lives x tos out rest) (sym (e done))
+    | is_plain p e f ↦ ap (lives x tos out) (e rest) ∙ called (callee p) (live x tos out rest) (lives x tos out rest)
+        ∙ ap (λ k. lives_first x tos (live x tos out rest) k ++ lives x tos out rest) (sym (e done))
     | is_nest s r k e n ↦ ap (lives x tos out) (e rest) ∙ ap (λ k. lives_first x tos (live x tos out rest) k ++ lives x tos out rest) (sym (e done))
     | is_branch r a b e n ↦
         ap (lives x tos out) (e rest)
@@ -98,14 +99,16 @@ module _ (x : ℕ) (tos : List Bool) (k : Bool) (i : Instr) where
     pub branch_live : (c d o : Bool) → c ≡ live x (k ∷ tos) k a → d ≡ live x (k ∷ tos) k b → o ≡ (c || d) → o ≡ live_first x tos k (in_front i done)
     branch_live c d o e f g = g ∙ ap (λ z. z || d) e ∙ ap (λ z. live x (k ∷ tos) k a || z) f ∙ ap (live_first x tos k) (sym (is done))
 
-    pub branch_lives : (old mid new : List Bool) → mid ≡ old ++ reverse (lives x (k ∷ tos) k b) → new ≡ mid ++ reverse (lives x (k ∷ tos) k a) → new ≡ old ++ reverse (lives_first x tos k (in_front i done))
+    pub branch_lives : (old mid new : List Bool) → mid ≡ old ++ reverse (lives x (k ∷ tos) k b) → new ≡ mid ++ reverse (lives x (k ∷ tos) k a)
+        → new ≡ old ++ reverse (lives_first x tos k (in_front i done))
     branch_lives old mid new e f =
         let first : List Bool = lives x (k ∷ tos) k a in
         let second : List Bool = lives x (k ∷ tos) k b in
         f ∙ ap (λ xs. xs ++ reverse first) e ∙ append_assoc old (reverse second) (reverse first) ∙ ap (λ xs. old ++ xs) (sym (reverse-append first second))
         ∙ ap (λ c. old ++ reverse (lives_first x tos k c)) (sym (is done))
 
-  pub call_lives : (p : Plain) → in_front i done ≡ plain p done → (y : Callee) → callee p ≡ Some y → (old new : List Bool) → new ≡ old ++ k ∷ [] → new ≡ old ++ reverse (lives_first x tos k (in_front i done))
+  pub call_lives : (p : Plain) → in_front i done ≡ plain p done → (y : Callee) → callee p ≡ Some y → (old new : List Bool) → new ≡ old ++ k ∷ []
+      → new ≡ old ++ reverse (lives_first x tos k (in_front i done))
   call_lives p is y c old new e = e ∙ ap (λ o. old ++ reverse (if_called o k [])) (sym c) ∙ ap (λ z. old ++ reverse (lives_first x tos k z)) (sym is)
 
   pub none_lives : ((y : ℕ) → i ≡ Call y → ⊥) → ((y : ℕ) → i ≡ CallIndirect y → ⊥) → ((r : Option ValType) (v : Vec Instr Global) → i ≡ Block r v → ⊥)
@@ -121,7 +124,8 @@ module _ (x : ℕ) (tos : List Bool) (k : Bool) (i : Instr) where
 -- any other instruction leaves what is told behind it
 pub other_live : (x : ℕ) (tos : List Bool) (k : Bool) (i : Instr) → ((y : ℕ) → i ≡ LocalGet y → ⊥) → ((y : ℕ) → i ≡ LocalSet y → ⊥) → ((y : ℕ) → i ≡ LocalTee y → ⊥)
     → ((l : ℕ) → i ≡ Br l → ⊥) → ((l : ℕ) → i ≡ BrIf l → ⊥) → ((ls : Vec ℕ Global) (l : ℕ) → i ≡ BrTable ls l → ⊥) → (i ≡ Return → ⊥) → (i ≡ Unreachable → ⊥)
-    → ((r : Option ValType) (v : Vec Instr Global) → i ≡ Block r v → ⊥) → ((r : Option ValType) (v : Vec Instr Global) → i ≡ Loop r v → ⊥) → ((r : Option ValType) (v u : Vec Instr Global) → i ≡ If r v u → ⊥)
+    → ((r : Option ValType) (v : Vec Instr Global) → i ≡ Block r v → ⊥) → ((r : Option ValType) (v : Vec Instr Global) → i ≡ Loop r v → ⊥)
+    → ((r : Option ValType) (v u : Vec Instr Global) → i ≡ If r v u → ⊥)
     → k ≡ live_first x tos k (in_front i done)
 unfolding in_front
 other_live x tos k i g s t b bi bt re un nb nl nf = elim (kind i) [
@@ -164,7 +168,8 @@ other_live x tos k i g s t b bi bt re un nb nl nf = elim (kind i) [
 
 -- ---- by a call's place
 
-pub told_behind : (x place : ℕ) (body : Code) (found : List Bool) (d : Bool) → found ≡ reverse (lives x [] false body) → place < length found → get_or found (length found - 1 - place) d ≡ is_told (slice_get (lives x [] false body) place)
+pub told_behind : (x place : ℕ) (body : Code) (found : List Bool) (d : Bool) → found ≡ reverse (lives x [] false body) → place < length found
+    → get_or found (length found - 1 - place) d ≡ is_told (slice_get (lives x [] false body) place)
 told_behind x place body found d e lt =
     let all : List Bool = lives x [] false body in
     let n : length found ≡ length all = ap length e ∙ length-reverse all in
@@ -185,7 +190,8 @@ told_as (Err x) a b e h = tt
 pub same_live : (x : ℕ) (tos inner : List Bool) (k : Bool) (body : Code) → inner ≡ tos → live x inner k body ≡ live x tos k body
 same_live x tos inner k body e = ap (λ ts. live x ts k body) e
 
-pub same_lives : (x : ℕ) (tos inner : List Bool) (k : Bool) (body other : Code) (old new : List Bool) → inner ≡ tos → other ≡ body → new ≡ old ++ reverse (lives x inner k other) → new ≡ old ++ reverse (lives x tos k body)
+pub same_lives : (x : ℕ) (tos inner : List Bool) (k : Bool) (body other : Code) (old new : List Bool) → inner ≡ tos → other ≡ body → new ≡ old ++ reverse (lives x inner k other)
+    → new ≡ old ++ reverse (lives x tos k body)
 same_lives x tos inner k body other old new e f h = h ∙ ap (λ ts. old ++ reverse (lives x ts k other)) e ∙ ap (λ b. old ++ reverse (lives x tos k b)) f
 
 -- ---- at each call it is told of the place behind it
@@ -201,10 +207,12 @@ told_calls x ls (plain p rest) = by_callee (callee p) (told_calls x ls rest)
     by_callee (Some y) e = ap (λ z. live x (told x ls).tos (told x ls).out rest ∷ z) e
 told_calls x ls (nest a_block r body rest) =
     ap (λ z. z ++ lives x (told x ls).tos (told x ls).out rest) (told_calls x (goes_behind rest ∷ ls) body)
-    ∙ ap (λ z. map (live_at x) (behind_calls (goes_behind rest ∷ ls) body) ++ z) (told_calls x ls rest) ∙ sym (map-append (live_at x) (behind_calls (goes_behind rest ∷ ls) body) (behind_calls ls rest))
+    ∙ ap (λ z. map (live_at x) (behind_calls (goes_behind rest ∷ ls) body) ++ z) (told_calls x ls rest)
+    ∙ sym (map-append (live_at x) (behind_calls (goes_behind rest ∷ ls) body) (behind_calls ls rest))
 told_calls x ls (nest a_loop r body rest) =
     ap (λ z. z ++ lives x (told x ls).tos (told x ls).out rest) (told_calls x (goes_again body rest ∷ ls) body)
-    ∙ ap (λ z. map (live_at x) (behind_calls (goes_again body rest ∷ ls) body) ++ z) (told_calls x ls rest) ∙ sym (map-append (live_at x) (behind_calls (goes_again body rest ∷ ls) body) (behind_calls ls rest))
+    ∙ ap (λ z. map (live_at x) (behind_calls (goes_again body rest ∷ ls) body) ++ z) (told_calls x ls rest)
+    ∙ sym (map-append (live_at x) (behind_calls (goes_again body rest ∷ ls) body) (behind_calls ls rest))
 told_calls x ls (branch r a b rest) =
     ap (λ z. z ++ (lives x (told x (goes_behind rest ∷ ls)).tos (told x (goes_behind rest ∷ ls)).out b ++ lives x (told x ls).tos (told x ls).out rest)) (told_calls x (goes_behind rest ∷ ls) a)
     ∙ ap (λ z. map (live_at x) (behind_calls (goes_behind rest ∷ ls) a) ++ (z ++ lives x (told x ls).tos (told x ls).out rest)) (told_calls x (goes_behind rest ∷ ls) b)

@@ -36,7 +36,8 @@ pruned_typed m i f w body v is e b =
     subst (λ (z : Walk). TypedAt z body) (sym e) (subst (TypedAt (outset c)) (sym b) typed)
 
 -- All parts are those of the definition.
-pub saved_whole : (m : Module) (p : Policy) (f : Func) (place n : ℕ) (w : Walk) (body body' : Code) (points calls points' calls' : List (List ValType)) (locals locals' : List ValType) (slots slots' : List Pair) (named all : List Place)
+pub saved_whole : (m : Module) (p : Policy) (f : Func) (place n : ℕ) (w : Walk) (body body' : Code) (points calls points' calls' : List (List ValType)) (locals locals' : List ValType)
+    (slots slots' : List Pair) (named all : List Place)
     → w ≡ outset (around m f) → body ≡ pruned f.body → body' ≡ body → points ≡ points_at w body → calls ≡ calls_at w body → points' ≡ points → calls' ≡ calls
     → slots ≡ pairs_from (λ h t. list_any (stands_at h t) points') 0 (greatest points') → slots' ≡ slots → locals ≡ locals_of m f → locals' ≡ locals → n ≡ length locals'
     → named ≡ named_places (keep_local p body' place) 0 locals' → all ≡ named ++ slot_places (keep_slot p (slice_get calls' place)) n slots' → all ≡ Saved m p f place
@@ -44,7 +45,8 @@ saved_whole m p f place n w body body' points calls points' calls' locals locals
     let ps : points' ≡ func_points m f = ep' ∙ ep ∙ ap (λ (z : Walk). points_at z body) ew ∙ ap (points_at (outset (around m f))) eb in
     let cs : calls' ≡ func_call_points m f = ec' ∙ ec ∙ ap (λ (z : Walk). calls_at z body) ew ∙ ap (calls_at (outset (around m f))) eb in
     let ss : slots' ≡ SlotPairs m f = es' ∙ es ∙ ap (λ (qs : List (List ValType)). pairs_from (λ h t. list_any (stands_at h t) qs) 0 (greatest qs)) ps in
-    g ∙ ap (λ z. z ++ slot_places (keep_slot p (slice_get calls' place)) n slots') h ∙ ap (λ k. named_places (keep_local p body' place) 0 locals' ++ slot_places (keep_slot p (slice_get calls' place)) k slots') en
+    g ∙ ap (λ z. z ++ slot_places (keep_slot p (slice_get calls' place)) n slots') h
+    ∙ ap (λ k. named_places (keep_local p body' place) 0 locals' ++ slot_places (keep_slot p (slice_get calls' place)) k slots') en
     ∙ saved_is m p f place body' locals' slots' calls' (eb' ∙ eb) (el' ∙ el) ss cs
 
 pub same_some : (f g : Func) → Some f ≡ Some g → f ≡ g

@@ -104,7 +104,8 @@ pub record Went (v w : Walk) (all left : Code) (a b : Visits) : Type 0 where
 pub went_first : (v : Walk) (all : Code) (a : Visits) → TypedAt v all → Went v v all all a a
 went_first v all a t = record { typed = t; points = refl; calls = refl }
 
-module _ (v w : Walk) (body : List Instr) (j : ℕ) (a b p : Visits) (g : Went v w (code body) (code (drop j body)) a b) (put : lists_of p.points.items ≡ lists_of b.points.items ++ all_of w ∷ []) (kept : p.calls.items ≡ b.calls.items) where
+module _ (v w : Walk) (body : List Instr) (j : ℕ) (a b p : Visits) (g : Went v w (code body) (code (drop j body)) a b)
+    (put : lists_of p.points.items ≡ lists_of b.points.items ++ all_of w ∷ []) (kept : p.calls.items ≡ b.calls.items) where
   -- nothing stands behind
   ended : points_at w (code (drop j body)) ≡ all_of w ∷ [] → calls_at w (code (drop j body)) ≡ [] → Visited v (code body) a p
   ended e f = record {
@@ -185,10 +186,12 @@ branch_inside w x a m b r one two e f is i j v u =
     let there = subst (λ k. Inside w k f) (is done) j in
     subst (λ k. VisitedInside w k a b) (sym (is done)) (record {
       points =
-          u.points ∙ ap (λ (z : Walk). lists_of m.points.items ++ points_at z two) there ∙ ap (λ ps. ps ++ points w.around (r ∷ w.labels) two (drop 1 w.own ++ w.under) []) (v.points ∙ ap (λ (z : Walk). lists_of a.points.items ++ points_at z one) at)
+          u.points ∙ ap (λ (z : Walk). lists_of m.points.items ++ points_at z two) there
+          ∙ ap (λ ps. ps ++ points w.around (r ∷ w.labels) two (drop 1 w.own ++ w.under) []) (v.points ∙ ap (λ (z : Walk). lists_of a.points.items ++ points_at z one) at)
           ∙ append_assoc (lists_of a.points.items) (points w.around (r ∷ w.labels) one (drop 1 w.own ++ w.under) []) (points w.around (r ∷ w.labels) two (drop 1 w.own ++ w.under) []);
       calls =
-          u.calls ∙ ap (λ (z : Walk). lists_of m.calls.items ++ calls_at z two) there ∙ ap (λ ps. ps ++ call_points w.around (r ∷ w.labels) two (drop 1 w.own ++ w.under) []) (v.calls ∙ ap (λ (z : Walk). lists_of a.calls.items ++ calls_at z one) at)
+          u.calls ∙ ap (λ (z : Walk). lists_of m.calls.items ++ calls_at z two) there
+          ∙ ap (λ ps. ps ++ call_points w.around (r ∷ w.labels) two (drop 1 w.own ++ w.under) []) (v.calls ∙ ap (λ (z : Walk). lists_of a.calls.items ++ calls_at z one) at)
           ∙ append_assoc (lists_of a.calls.items) (call_points w.around (r ∷ w.labels) one (drop 1 w.own ++ w.under) []) (call_points w.around (r ∷ w.labels) two (drop 1 w.own ++ w.under) []);
     })
 
@@ -251,7 +254,8 @@ block_is x r v xs e f rest = ap (λ y. in_front y rest) e ∙ in_block r v rest 
 pub loop_is : (x : Instr) (r : Option ValType) (v : Vec Instr Global) (xs : List Instr) → x ≡ Loop r v → xs ≡ v.items → (rest : Code) → in_front x rest ≡ nest a_loop r (code xs) rest
 loop_is x r v xs e f rest = ap (λ y. in_front y rest) e ∙ in_loop r v rest ∙ ap (λ z. nest a_loop r (code z) rest) (sym f)
 
-pub if_is : (x : Instr) (r : Option ValType) (v u : Vec Instr Global) (xs ys : List Instr) → x ≡ If r v u → xs ≡ v.items → ys ≡ u.items → (rest : Code) → in_front x rest ≡ branch r (code xs) (code ys) rest
+pub if_is : (x : Instr) (r : Option ValType) (v u : Vec Instr Global) (xs ys : List Instr) → x ≡ If r v u → xs ≡ v.items → ys ≡ u.items → (rest : Code)
+    → in_front x rest ≡ branch r (code xs) (code ys) rest
 if_is x r v u xs ys e f g rest =
     ap (λ y. in_front y rest) e ∙ in_if r v u rest ∙ ap (λ z. branch r (code z) (code u.items) rest) (sym f) ∙ ap (λ z. branch r (code xs) (code z) rest) (sym g)
 

@@ -38,7 +38,8 @@ returns c = λ g is.
     let visited = c.in_ok-visit_body.ensures in
     saved_whole (module_of v) p (func_of f) c.args.place c.len.result w body (code c.deref-4.result.now)
     (lists_of c.visit_body.new.visits.points.items) (lists_of c.visit_body.new.visits.calls.items) (lists_of c.deref-3.result.now) (lists_of c.deref-6.result.now)
-    c.in_ok-locals.locals.items c.deref-5.result.now (pairs_of c.in_ok-slots.slots.items) (pairs_of c.deref-7.result.now) (places_of c.put_named.new.places.items) (places_of c.put_slots.new.places.items)
+    c.in_ok-locals.locals.items c.deref-5.result.now (pairs_of c.in_ok-slots.slots.items) (pairs_of c.deref-7.result.now) (places_of c.put_named.new.places.items)
+    (places_of c.put_slots.new.places.items)
     (c.in_ok-typing.ensures (func_of f) (c.requires.same ∙ there))
     (ap code c.deref-2.ensures.value ∙ c.in_ok-body.ensures ∙ ap (λ xs. pruned (code xs)) c.deref.ensures.value)
     (ap code (c.deref-4.ensures.value ∙ sym c.deref-2.ensures.value))

@@ -29,27 +29,33 @@ is_live_at-returns-in_default t c =
 
 pub is_live_at-returns-then-local-other : goal.is_live_at-returns-then-local-other
 unfolding in_front
-is_live_at-returns-then-local-other t c = or_then (nat_eq c.args.local c.in-LocalGet.other) c.args.behind (eq-eqb _ _ c.if-local-other.true) ∙ same_first c.args.local c.args.tos.now c.args.behind c.args.instr.now _ c.in-LocalGet.is
+is_live_at-returns-then-local-other t c = or_then (nat_eq c.args.local c.in-LocalGet.other) c.args.behind (eq-eqb _ _ c.if-local-other.true)
+    ∙ same_first c.args.local c.args.tos.now c.args.behind c.args.instr.now _ c.in-LocalGet.is
 
 pub is_live_at-returns-else-local-other : goal.is_live_at-returns-else-local-other
 unfolding in_front
-is_live_at-returns-else-local-other t c = or_else (nat_eq c.args.local c.in-LocalGet.other) c.args.behind (ne_eqb _ _ c.if-local-other.false) ∙ same_first c.args.local c.args.tos.now c.args.behind c.args.instr.now _ c.in-LocalGet.is
+is_live_at-returns-else-local-other t c = or_else (nat_eq c.args.local c.in-LocalGet.other) c.args.behind (ne_eqb _ _ c.if-local-other.false)
+    ∙ same_first c.args.local c.args.tos.now c.args.behind c.args.instr.now _ c.in-LocalGet.is
 
 pub is_live_at-returns-then-not-local-other : goal.is_live_at-returns-then-not-local-other
 unfolding in_front
-is_live_at-returns-then-not-local-other t c = and_then (not (nat_eq c.args.local c.in-LocalSet.other)) c.args.behind (ap not (ne_eqb _ _ c.if-not-local-other.true)) ∙ same_first c.args.local c.args.tos.now c.args.behind c.args.instr.now _ c.in-LocalSet.is
+is_live_at-returns-then-not-local-other t c = and_then (not (nat_eq c.args.local c.in-LocalSet.other)) c.args.behind (ap not (ne_eqb _ _ c.if-not-local-other.true))
+    ∙ same_first c.args.local c.args.tos.now c.args.behind c.args.instr.now _ c.in-LocalSet.is
 
 pub is_live_at-returns-else-not-local-other : goal.is_live_at-returns-else-not-local-other
 unfolding in_front
-is_live_at-returns-else-not-local-other t c = and_else (not (nat_eq c.args.local c.in-LocalSet.other)) c.args.behind (ap not (eq-eqb _ _ c.if-not-local-other.false)) ∙ same_first c.args.local c.args.tos.now c.args.behind c.args.instr.now _ c.in-LocalSet.is
+is_live_at-returns-else-not-local-other t c = and_else (not (nat_eq c.args.local c.in-LocalSet.other)) c.args.behind (ap not (eq-eqb _ _ c.if-not-local-other.false))
+    ∙ same_first c.args.local c.args.tos.now c.args.behind c.args.instr.now _ c.in-LocalSet.is
 
 pub is_live_at-returns-then-not-local-other-2 : goal.is_live_at-returns-then-not-local-other-2
 unfolding in_front
-is_live_at-returns-then-not-local-other-2 t c = and_then (not (nat_eq c.args.local c.in-LocalTee.other)) c.args.behind (ap not (ne_eqb _ _ c.if-not-local-other-2.true)) ∙ same_first c.args.local c.args.tos.now c.args.behind c.args.instr.now _ c.in-LocalTee.is
+is_live_at-returns-then-not-local-other-2 t c = and_then (not (nat_eq c.args.local c.in-LocalTee.other)) c.args.behind (ap not (ne_eqb _ _ c.if-not-local-other-2.true))
+    ∙ same_first c.args.local c.args.tos.now c.args.behind c.args.instr.now _ c.in-LocalTee.is
 
 pub is_live_at-returns-else-not-local-other-2 : goal.is_live_at-returns-else-not-local-other-2
 unfolding in_front
-is_live_at-returns-else-not-local-other-2 t c = and_else (not (nat_eq c.args.local c.in-LocalTee.other)) c.args.behind (ap not (eq-eqb _ _ c.if-not-local-other-2.false)) ∙ same_first c.args.local c.args.tos.now c.args.behind c.args.instr.now _ c.in-LocalTee.is
+is_live_at-returns-else-not-local-other-2 t c = and_else (not (nat_eq c.args.local c.in-LocalTee.other)) c.args.behind (ap not (eq-eqb _ _ c.if-not-local-other-2.false))
+    ∙ same_first c.args.local c.args.tos.now c.args.behind c.args.instr.now _ c.in-LocalTee.is
 
 pub is_live_at-returns-in-Br : goal.is_live_at-returns-in-Br
 unfolding in_front
@@ -57,16 +63,20 @@ is_live_at-returns-in-Br t c = c.is_told_at.ensures ∙ same_first c.args.local 
 
 pub is_live_at-returns-then-is_told_at : goal.is_live_at-returns-then-is_told_at
 unfolding in_front
-is_live_at-returns-then-is_told_at t c = c.is_told_at-in-BrIf.ensures ∙ or_then (told_at c.args.tos.now c.in-BrIf.label) c.args.behind (sym c.is_told_at-in-BrIf.ensures ∙ c.if-is_told_at.true) ∙ same_first c.args.local c.args.tos.now c.args.behind c.args.instr.now _ c.in-BrIf.is
+is_live_at-returns-then-is_told_at t c = c.is_told_at-in-BrIf.ensures
+    ∙ or_then (told_at c.args.tos.now c.in-BrIf.label) c.args.behind (sym c.is_told_at-in-BrIf.ensures ∙ c.if-is_told_at.true)
+    ∙ same_first c.args.local c.args.tos.now c.args.behind c.args.instr.now _ c.in-BrIf.is
 
 pub is_live_at-returns-else-is_told_at : goal.is_live_at-returns-else-is_told_at
 unfolding in_front
-is_live_at-returns-else-is_told_at t c = or_else (told_at c.args.tos.now c.in-BrIf.label) c.args.behind (sym c.is_told_at-in-BrIf.ensures ∙ c.if-is_told_at.false) ∙ same_first c.args.local c.args.tos.now c.args.behind c.args.instr.now _ c.in-BrIf.is
+is_live_at-returns-else-is_told_at t c = or_else (told_at c.args.tos.now c.in-BrIf.label) c.args.behind (sym c.is_told_at-in-BrIf.ensures ∙ c.if-is_told_at.false)
+    ∙ same_first c.args.local c.args.tos.now c.args.behind c.args.instr.now _ c.in-BrIf.is
 
 pub is_live_at-returns-then-is_told_at-2 : goal.is_live_at-returns-then-is_told_at-2
 unfolding in_front
 is_live_at-returns-then-is_told_at-2 t c =
-    c.is_told_at-in-BrTable.ensures ∙ or_then (told_at c.args.tos.now c.in-BrTable.last) (list_any (told_at c.args.tos.now) c.in-BrTable.labels.items) (sym c.is_told_at-in-BrTable.ensures ∙ c.if-is_told_at-2.true)
+    c.is_told_at-in-BrTable.ensures ∙ or_then (told_at c.args.tos.now c.in-BrTable.last) (list_any (told_at c.args.tos.now) c.in-BrTable.labels.items)
+    (sym c.is_told_at-in-BrTable.ensures ∙ c.if-is_told_at-2.true)
     ∙ same_first c.args.local c.args.tos.now c.args.behind c.args.instr.now _ c.in-BrTable.is
 
 pub is_live_at-returns-else-is_told_at-2 : goal.is_live_at-returns-else-is_told_at-2
@@ -89,7 +99,8 @@ is_live_at-returns-in_ok-inner-in-Block t c =
     told_as c.is_live.result (live c.args.local c.deref-in-Block.result.now c.args.behind (code c.deref-in-Block-2.result.now)) _
     (nest_live c.args.local c.args.tos.now c.args.behind c.args.instr.now a_block c.in-Block.result (code c.deref-in-Block-2.result.now)
     (block_is c.args.instr.now c.in-Block.result c.in-Block.body c.deref-in-Block-2.result.now c.in-Block.is c.deref-in-Block-2.ensures.value) _
-    (same_live c.args.local (c.args.behind ∷ c.args.tos.now) c.deref-in-Block.result.now c.args.behind (code c.deref-in-Block-2.result.now) (c.deref-in-Block.ensures.value ∙ c.in_ok-inner-in-Block.ensures)))
+    (same_live c.args.local (c.args.behind ∷ c.args.tos.now) c.deref-in-Block.result.now c.args.behind (code c.deref-in-Block-2.result.now)
+    (c.deref-in-Block.ensures.value ∙ c.in_ok-inner-in-Block.ensures)))
     c.is_live.ensures
 
 pub is_live_at-returns-in_ok-inner-in-Loop : goal.is_live_at-returns-in_ok-inner-in-Loop
@@ -103,8 +114,11 @@ is_live_at-returns-in_ok-inner-in-Loop t c =
 pub is_live_at-returns-in_ok-in_else-in-If : goal.is_live_at-returns-in_ok-in_else-in-If
 is_live_at-returns-in_ok-in_else-in-If t c =
     branch_live c.args.local c.args.tos.now c.args.behind c.args.instr.now c.in-If.result (code c.deref-in-If-2.result.now) (code c.deref-in-If-4.result.now)
-    (if_is c.args.instr.now c.in-If.result c.in-If.then_arm c.in-If.else_arm c.deref-in-If-2.result.now c.deref-in-If-4.result.now c.in-If.is c.deref-in-If-2.ensures.value c.deref-in-If-4.ensures.value)
+    (if_is c.args.instr.now c.in-If.result c.in-If.then_arm c.in-If.else_arm c.deref-in-If-2.result.now c.deref-in-If-4.result.now c.in-If.is c.deref-in-If-2.ensures.value
+    c.deref-in-If-4.ensures.value)
     c.in_ok-in_then-in-If.in_then c.in_ok-in_else-in-If.in_else c.either.result
-    (c.in_ok-in_then-in-If.ensures ∙ same_live c.args.local (c.args.behind ∷ c.args.tos.now) c.deref-in-If.result.now c.args.behind (code c.deref-in-If-2.result.now) (c.deref-in-If.ensures.value ∙ c.in_ok-inner-in-If.ensures))
-    (c.in_ok-in_else-in-If.ensures ∙ same_live c.args.local (c.args.behind ∷ c.args.tos.now) c.deref-in-If-3.result.now c.args.behind (code c.deref-in-If-4.result.now) (c.deref-in-If-3.ensures.value ∙ c.in_ok-inner-in-If.ensures))
+    (c.in_ok-in_then-in-If.ensures ∙ same_live c.args.local (c.args.behind ∷ c.args.tos.now) c.deref-in-If.result.now c.args.behind (code c.deref-in-If-2.result.now)
+    (c.deref-in-If.ensures.value ∙ c.in_ok-inner-in-If.ensures))
+    (c.in_ok-in_else-in-If.ensures ∙ same_live c.args.local (c.args.behind ∷ c.args.tos.now) c.deref-in-If-3.result.now c.args.behind (code c.deref-in-If-4.result.now)
+    (c.deref-in-If-3.ensures.value ∙ c.in_ok-inner-in-If.ensures))
     c.either.ensures

@@ -54,19 +54,22 @@ put_lives_at-returns-in_ok-push-in-CallIndirect-clause-told t c = same_first c.a
 pub put_lives_at-returns-in_ok-push-in-CallIndirect-clause-found : goal.put_lives_at-returns-in_ok-push-in-CallIndirect-clause-found
 unfolding in_front
 put_lives_at-returns-in_ok-push-in-CallIndirect-clause-found t c =
-    call_lives c.args.local c.args.tos.now c.args.behind c.args.instr.now (call_indirect c.in-CallIndirect.field-0) (ap (λ x. in_front x done) c.in-CallIndirect.is) (indirect c.in-CallIndirect.field-0) refl
+    call_lives c.args.local c.args.tos.now c.args.behind c.args.instr.now (call_indirect c.in-CallIndirect.field-0) (ap (λ x. in_front x done) c.in-CallIndirect.is)
+    (indirect c.in-CallIndirect.field-0) refl
     c.args.found.now.items c.push-in-CallIndirect.new.self.items c.in_ok-push-in-CallIndirect.ensures.items
 
 pub put_lives_at-returns-in_ok-inner-in-Block-clause-told : goal.put_lives_at-returns-in_ok-inner-in-Block-clause-told
 put_lives_at-returns-in_ok-inner-in-Block-clause-told t c =
     told_as c.put_lives.result (live c.args.local c.deref.result.now c.args.behind (code c.deref-in-Block.result.now)) _
-    (nest_live c.args.local c.args.tos.now c.args.behind c.args.instr.now a_block c.in-Block.result (code c.deref-in-Block.result.now) (block_is c.args.instr.now c.in-Block.result c.in-Block.body c.deref-in-Block.result.now c.in-Block.is c.deref-in-Block.ensures.value) _
+    (nest_live c.args.local c.args.tos.now c.args.behind c.args.instr.now a_block c.in-Block.result (code c.deref-in-Block.result.now)
+    (block_is c.args.instr.now c.in-Block.result c.in-Block.body c.deref-in-Block.result.now c.in-Block.is c.deref-in-Block.ensures.value) _
     (same_live c.args.local (c.args.behind ∷ c.args.tos.now) c.deref.result.now c.args.behind (code c.deref-in-Block.result.now) (c.deref.ensures.value ∙ c.in_ok-inner-in-Block.ensures)))
     c.put_lives.ensures.told
 
 pub put_lives_at-returns-in_ok-inner-in-Block-clause-found : goal.put_lives_at-returns-in_ok-inner-in-Block-clause-found
 put_lives_at-returns-in_ok-inner-in-Block-clause-found t c =
-    ok_as c.put_lives.result _ _ (λ e. nest_lives c.args.local c.args.tos.now c.args.behind c.args.instr.now a_block c.in-Block.result (code c.deref-in-Block.result.now) (block_is c.args.instr.now c.in-Block.result c.in-Block.body c.deref-in-Block.result.now c.in-Block.is c.deref-in-Block.ensures.value)
+    ok_as c.put_lives.result _ _ (λ e. nest_lives c.args.local c.args.tos.now c.args.behind c.args.instr.now a_block c.in-Block.result (code c.deref-in-Block.result.now)
+    (block_is c.args.instr.now c.in-Block.result c.in-Block.body c.deref-in-Block.result.now c.in-Block.is c.deref-in-Block.ensures.value)
     c.args.found.now.items c.put_lives.new.found.items
     (same_lives c.args.local (c.args.behind ∷ c.args.tos.now) c.deref.result.now c.args.behind (code c.deref-in-Block.result.now) (code c.deref-in-Block.result.now)
     c.args.found.now.items c.put_lives.new.found.items (c.deref.ensures.value ∙ c.in_ok-inner-in-Block.ensures) refl e))
@@ -74,7 +77,8 @@ put_lives_at-returns-in_ok-inner-in-Block-clause-found t c =
 
 pub put_lives_at-returns-in_ok-put_lives-in-Loop-clause-told : goal.put_lives_at-returns-in_ok-put_lives-in-Loop-clause-told
 put_lives_at-returns-in_ok-put_lives-in-Loop-clause-told t c =
-    nest_live c.args.local c.args.tos.now c.args.behind c.args.instr.now a_loop c.in-Loop.result (code c.deref-in-Loop-2.result.now) (loop_is c.args.instr.now c.in-Loop.result c.in-Loop.body c.deref-in-Loop-2.result.now c.in-Loop.is c.deref-in-Loop-2.ensures.value) c.in_ok-first-in-Loop.first
+    nest_live c.args.local c.args.tos.now c.args.behind c.args.instr.now a_loop c.in-Loop.result (code c.deref-in-Loop-2.result.now)
+    (loop_is c.args.instr.now c.in-Loop.result c.in-Loop.body c.deref-in-Loop-2.result.now c.in-Loop.is c.deref-in-Loop-2.ensures.value) c.in_ok-first-in-Loop.first
     (c.in_ok-first-in-Loop.ensures
     ∙ same_live c.args.local (false ∷ c.args.tos.now) c.deref-in-Loop.result.now c.args.behind (code c.deref-in-Loop-2.result.now) (c.deref-in-Loop.ensures.value ∙ c.in_ok-inner-in-Loop.ensures))
 
@@ -83,23 +87,31 @@ put_lives_at-returns-in_ok-put_lives-in-Loop-clause-found t c =
     let body = code c.deref-in-Loop-2.result.now in
     let first = c.in_ok-first-in-Loop.ensures
     ∙ same_live c.args.local (false ∷ c.args.tos.now) c.deref-in-Loop.result.now c.args.behind (code c.deref-in-Loop-2.result.now) (c.deref-in-Loop.ensures.value ∙ c.in_ok-inner-in-Loop.ensures) in
-    nest_lives c.args.local c.args.tos.now c.args.behind c.args.instr.now a_loop c.in-Loop.result body (loop_is c.args.instr.now c.in-Loop.result c.in-Loop.body c.deref-in-Loop-2.result.now c.in-Loop.is c.deref-in-Loop-2.ensures.value)
+    nest_lives c.args.local c.args.tos.now c.args.behind c.args.instr.now a_loop c.in-Loop.result body
+    (loop_is c.args.instr.now c.in-Loop.result c.in-Loop.body c.deref-in-Loop-2.result.now c.in-Loop.is c.deref-in-Loop-2.ensures.value)
     c.args.found.now.items c.put_lives-in-Loop.new.found.items
     (same_lives c.args.local (label_live c.args.local a_loop c.args.tos.now c.args.behind body ∷ c.args.tos.now) c.deref-in-Loop-3.result.now c.args.behind body (code c.deref-in-Loop-4.result.now)
     c.args.found.now.items c.put_lives-in-Loop.new.found.items
-    (c.deref-in-Loop-3.ensures.value ∙ c.in_ok-inner-in-Loop-2.ensures ∙ ap (λ b. b ∷ c.args.tos.now) first) (ap code (c.deref-in-Loop-4.ensures.value ∙ sym c.deref-in-Loop-2.ensures.value)) c.in_ok-put_lives-in-Loop.ensures.found)
+    (c.deref-in-Loop-3.ensures.value ∙ c.in_ok-inner-in-Loop-2.ensures ∙ ap (λ b. b ∷ c.args.tos.now) first)
+    (ap code (c.deref-in-Loop-4.ensures.value ∙ sym c.deref-in-Loop-2.ensures.value)) c.in_ok-put_lives-in-Loop.ensures.found)
 
 pub put_lives_at-returns-in_ok-in_then-in-If-clause-told : goal.put_lives_at-returns-in_ok-in_then-in-If-clause-told
 put_lives_at-returns-in_ok-in_then-in-If-clause-told t c =
-    branch_live c.args.local c.args.tos.now c.args.behind c.args.instr.now c.in-If.result (code c.deref-in-If-4.result.now) (code c.deref-in-If-2.result.now) (if_is c.args.instr.now c.in-If.result c.in-If.then_arm c.in-If.else_arm c.deref-in-If-4.result.now c.deref-in-If-2.result.now c.in-If.is c.deref-in-If-4.ensures.value c.deref-in-If-2.ensures.value)
+    branch_live c.args.local c.args.tos.now c.args.behind c.args.instr.now c.in-If.result (code c.deref-in-If-4.result.now) (code c.deref-in-If-2.result.now)
+    (if_is c.args.instr.now c.in-If.result c.in-If.then_arm c.in-If.else_arm c.deref-in-If-4.result.now c.deref-in-If-2.result.now c.in-If.is c.deref-in-If-4.ensures.value
+    c.deref-in-If-2.ensures.value)
     c.in_ok-in_then-in-If.in_then c.in_ok-in_else-in-If.in_else c.either.result
-    (c.in_ok-in_then-in-If.ensures.told ∙ same_live c.args.local (c.args.behind ∷ c.args.tos.now) c.deref-in-If-3.result.now c.args.behind (code c.deref-in-If-4.result.now) (c.deref-in-If-3.ensures.value ∙ c.in_ok-inner-in-If.ensures))
-    (c.in_ok-in_else-in-If.ensures.told ∙ same_live c.args.local (c.args.behind ∷ c.args.tos.now) c.deref-in-If.result.now c.args.behind (code c.deref-in-If-2.result.now) (c.deref-in-If.ensures.value ∙ c.in_ok-inner-in-If.ensures))
+    (c.in_ok-in_then-in-If.ensures.told ∙ same_live c.args.local (c.args.behind ∷ c.args.tos.now) c.deref-in-If-3.result.now c.args.behind (code c.deref-in-If-4.result.now)
+    (c.deref-in-If-3.ensures.value ∙ c.in_ok-inner-in-If.ensures))
+    (c.in_ok-in_else-in-If.ensures.told ∙ same_live c.args.local (c.args.behind ∷ c.args.tos.now) c.deref-in-If.result.now c.args.behind (code c.deref-in-If-2.result.now)
+    (c.deref-in-If.ensures.value ∙ c.in_ok-inner-in-If.ensures))
     c.either.ensures
 
 pub put_lives_at-returns-in_ok-in_then-in-If-clause-found : goal.put_lives_at-returns-in_ok-in_then-in-If-clause-found
 put_lives_at-returns-in_ok-in_then-in-If-clause-found t c =
-    branch_lives c.args.local c.args.tos.now c.args.behind c.args.instr.now c.in-If.result (code c.deref-in-If-4.result.now) (code c.deref-in-If-2.result.now) (if_is c.args.instr.now c.in-If.result c.in-If.then_arm c.in-If.else_arm c.deref-in-If-4.result.now c.deref-in-If-2.result.now c.in-If.is c.deref-in-If-4.ensures.value c.deref-in-If-2.ensures.value)
+    branch_lives c.args.local c.args.tos.now c.args.behind c.args.instr.now c.in-If.result (code c.deref-in-If-4.result.now) (code c.deref-in-If-2.result.now)
+    (if_is c.args.instr.now c.in-If.result c.in-If.then_arm c.in-If.else_arm c.deref-in-If-4.result.now c.deref-in-If-2.result.now c.in-If.is c.deref-in-If-4.ensures.value
+    c.deref-in-If-2.ensures.value)
     c.args.found.now.items c.put_lives-in-If.new.found.items c.put_lives-in-If-2.new.found.items
     (same_lives c.args.local (c.args.behind ∷ c.args.tos.now) c.deref-in-If.result.now c.args.behind (code c.deref-in-If-2.result.now) (code c.deref-in-If-2.result.now)
     c.args.found.now.items c.put_lives-in-If.new.found.items (c.deref-in-If.ensures.value ∙ c.in_ok-inner-in-If.ensures) refl c.in_ok-in_else-in-If.ensures.found)
@@ -111,5 +123,6 @@ put_lives_at-returns-in_default-clause-told t c = c.is_live_at.ensures
 
 pub put_lives_at-returns-in_default-clause-found : goal.put_lives_at-returns-in_default-clause-found
 put_lives_at-returns-in_default-clause-found t c =
-    ok_as c.is_live_at.result (Unit {0}) _ (λ u. none_lives c.args.local c.args.tos.now c.args.behind c.args.instr.now c.in_default.not-Call c.in_default.not-CallIndirect c.in_default.not-Block c.in_default.not-Loop c.in_default.not-If c.args.found.now.items)
+    ok_as c.is_live_at.result (Unit {0}) _ (λ u. none_lives c.args.local c.args.tos.now c.args.behind c.args.instr.now c.in_default.not-Call c.in_default.not-CallIndirect
+    c.in_default.not-Block c.in_default.not-Loop c.in_default.not-If c.args.found.now.items)
     (always c.is_live_at.result)

@@ -12,25 +12,29 @@ visit_body-loop-instr-init t c = went_first c.args.typing.now (code c.args.body.
 
 pub visit_body-returns-then-is_last : goal.visit_body-returns-then-is_last
 visit_body-returns-then-is_last t c =
-    went_last c.args.typing.now c.loop-instr.typing c.args.body.now c.loop-instr.instr-index c.args.visits.now c.loop-instr.visits (record { points = c.put_point.new.out; calls = c.loop-instr.visits.calls })
+    went_last c.args.typing.now c.loop-instr.typing c.args.body.now c.loop-instr.instr-index c.args.visits.now c.loop-instr.visits
+    (record { points = c.put_point.new.out; calls = c.loop-instr.visits.calls })
     c.loop-instr.invariant c.in_ok-put_point.ensures refl c.instr-item.result (omega (arith, c.loop-instr-test.true)) c.instr-item.is (sym c.is_last.ensures ∙ c.if-is_last.true)
 
 pub visit_body-visit_instr-requires : goal.visit_body-visit_instr-requires
 visit_body-visit_instr-requires t c =
     let fewer = one_fewer c.args.body.now c.loop-instr.instr-index c.instr-item.result (omega (arith, c.loop-instr-test.true)) c.instr-item.is in (
       omega (arith, c.decreases, fewer),
-      next_typed c.args.typing.now c.loop-instr.typing c.args.body.now c.loop-instr.instr-index c.args.visits.now c.loop-instr.visits (record { points = c.put_point.new.out; calls = c.loop-instr.visits.calls })
+      next_typed c.args.typing.now c.loop-instr.typing c.args.body.now c.loop-instr.instr-index c.args.visits.now c.loop-instr.visits
+          (record { points = c.put_point.new.out; calls = c.loop-instr.visits.calls })
           c.loop-instr.invariant c.in_ok-put_point.ensures refl c.instr-item.result (omega (arith, c.loop-instr-test.true)) c.instr-item.is,
     )
 
 pub visit_body-advance-requires : goal.visit_body-advance-requires
 visit_body-advance-requires t c =
-    next_typed c.args.typing.now c.loop-instr.typing c.args.body.now c.loop-instr.instr-index c.args.visits.now c.loop-instr.visits (record { points = c.put_point.new.out; calls = c.loop-instr.visits.calls })
+    next_typed c.args.typing.now c.loop-instr.typing c.args.body.now c.loop-instr.instr-index c.args.visits.now c.loop-instr.visits
+    (record { points = c.put_point.new.out; calls = c.loop-instr.visits.calls })
     c.loop-instr.invariant c.in_ok-put_point.ensures refl c.instr-item.result (omega (arith, c.loop-instr-test.true)) c.instr-item.is
 
 pub visit_body-loop-instr-preserved : goal.visit_body-loop-instr-preserved
 visit_body-loop-instr-preserved t c =
-    went_next c.args.typing.now c.loop-instr.typing c.args.body.now c.loop-instr.instr-index c.args.visits.now c.loop-instr.visits (record { points = c.put_point.new.out; calls = c.loop-instr.visits.calls })
+    went_next c.args.typing.now c.loop-instr.typing c.args.body.now c.loop-instr.instr-index c.args.visits.now c.loop-instr.visits
+    (record { points = c.put_point.new.out; calls = c.loop-instr.visits.calls })
     c.loop-instr.invariant c.in_ok-put_point.ensures refl c.instr-item.result (omega (arith, c.loop-instr-test.true)) c.instr-item.is
     c.advance.new.self c.visit_instr.new.visits (sym c.is_last.ensures ∙ c.if-is_last.false) c.in_ok-visit_instr.ensures c.in_ok-advance.ensures.stays c.in_ok-advance.ensures.typed
 
@@ -42,13 +46,15 @@ visit_body-returns t c =
 pub visit_instr-returns-in-Call : goal.visit_instr-returns-in-Call
 unfolding in_front
 visit_instr-returns-in-Call t c =
-    ok_as c.put_point.result _ _ (λ e. call_inside c.args.typing.now c.args.instr.now c.args.visits.now (record { points = c.args.visits.now.points; calls = c.put_point.new.out }) (call c.in-Call.field-0)
+    ok_as c.put_point.result _ _ (λ e. call_inside c.args.typing.now c.args.instr.now c.args.visits.now (record { points = c.args.visits.now.points; calls = c.put_point.new.out })
+    (call c.in-Call.field-0)
     (ap (λ x. in_front x done) c.in-Call.is) (direct c.in-Call.field-0) refl refl e) c.put_point.ensures
 
 pub visit_instr-returns-in-CallIndirect : goal.visit_instr-returns-in-CallIndirect
 unfolding in_front
 visit_instr-returns-in-CallIndirect t c =
-    ok_as c.put_point-in-CallIndirect.result _ _ (λ e. call_inside c.args.typing.now c.args.instr.now c.args.visits.now (record { points = c.args.visits.now.points; calls = c.put_point-in-CallIndirect.new.out })
+    ok_as c.put_point-in-CallIndirect.result _ _ (λ e. call_inside c.args.typing.now c.args.instr.now c.args.visits.now
+    (record { points = c.args.visits.now.points; calls = c.put_point-in-CallIndirect.new.out })
     (call_indirect c.in-CallIndirect.field-0) (ap (λ x. in_front x done) c.in-CallIndirect.is) (indirect c.in-CallIndirect.field-0) refl refl e) c.put_point-in-CallIndirect.ensures
 
 pub visit_instr-returns-in_default : goal.visit_instr-returns-in_default
@@ -61,14 +67,17 @@ visit_instr-inside-requires-clause-opens t c = ap is_leaf c.in-Block.is ∙ leaf
 
 pub visit_instr-visit_body-requires : goal.visit_instr-visit_body-requires
 visit_instr-visit_body-requires t c =
-    let fewer = nest_items c.args.instr.now a_block c.in-Block.result (code c.deref.result.now) (block_is c.args.instr.now c.in-Block.result c.in-Block.body c.deref.result.now c.in-Block.is c.deref.ensures.value) in (
+    let fewer = nest_items c.args.instr.now a_block c.in-Block.result (code c.deref.result.now)
+    (block_is c.args.instr.now c.in-Block.result c.in-Block.body c.deref.result.now c.in-Block.is c.deref.ensures.value) in (
       omega (arith, c.decreases, fewer),
-      block_typed c.args.typing.now c.in_ok-inner-in-Block.inner c.args.instr.now done c.requires c.in_ok-inner-in-Block.ensures c.in-Block.result c.in-Block.body c.deref.result.now c.in-Block.is c.deref.ensures.value,
+      block_typed c.args.typing.now c.in_ok-inner-in-Block.inner c.args.instr.now done c.requires c.in_ok-inner-in-Block.ensures c.in-Block.result c.in-Block.body c.deref.result.now
+          c.in-Block.is c.deref.ensures.value,
     )
 
 pub visit_instr-returns-in_ok-inner-in-Block : goal.visit_instr-returns-in_ok-inner-in-Block
 visit_instr-returns-in_ok-inner-in-Block t c =
-    ok_as c.visit_body.result _ _ (λ v. nest_inside c.args.typing.now c.args.instr.now c.args.visits.now c.visit_body.new.visits a_block c.in-Block.result (code c.deref.result.now) c.in_ok-inner-in-Block.inner
+    ok_as c.visit_body.result _ _ (λ v. nest_inside c.args.typing.now c.args.instr.now c.args.visits.now c.visit_body.new.visits a_block c.in-Block.result
+    (code c.deref.result.now) c.in_ok-inner-in-Block.inner
     (block_is c.args.instr.now c.in-Block.result c.in-Block.body c.deref.result.now c.in-Block.is c.deref.ensures.value) c.in_ok-inner-in-Block.ensures v) c.visit_body.ensures
 
 pub visit_instr-inside-requires-in-Loop-clause-opens : goal.visit_instr-inside-requires-in-Loop-clause-opens
@@ -76,14 +85,17 @@ visit_instr-inside-requires-in-Loop-clause-opens t c = ap is_leaf c.in-Loop.is �
 
 pub visit_instr-visit_body-requires-in-Loop : goal.visit_instr-visit_body-requires-in-Loop
 visit_instr-visit_body-requires-in-Loop t c =
-    let fewer = nest_items c.args.instr.now a_loop c.in-Loop.result (code c.deref-in-Loop.result.now) (loop_is c.args.instr.now c.in-Loop.result c.in-Loop.body c.deref-in-Loop.result.now c.in-Loop.is c.deref-in-Loop.ensures.value) in (
+    let fewer = nest_items c.args.instr.now a_loop c.in-Loop.result (code c.deref-in-Loop.result.now)
+    (loop_is c.args.instr.now c.in-Loop.result c.in-Loop.body c.deref-in-Loop.result.now c.in-Loop.is c.deref-in-Loop.ensures.value) in (
       omega (arith, c.decreases, fewer),
-      loop_typed c.args.typing.now c.in_ok-inner-in-Loop.inner c.args.instr.now done c.requires c.in_ok-inner-in-Loop.ensures c.in-Loop.result c.in-Loop.body c.deref-in-Loop.result.now c.in-Loop.is c.deref-in-Loop.ensures.value,
+      loop_typed c.args.typing.now c.in_ok-inner-in-Loop.inner c.args.instr.now done c.requires c.in_ok-inner-in-Loop.ensures c.in-Loop.result c.in-Loop.body c.deref-in-Loop.result.now
+          c.in-Loop.is c.deref-in-Loop.ensures.value,
     )
 
 pub visit_instr-returns-in_ok-inner-in-Loop : goal.visit_instr-returns-in_ok-inner-in-Loop
 visit_instr-returns-in_ok-inner-in-Loop t c =
-    ok_as c.visit_body-in-Loop.result _ _ (λ v. nest_inside c.args.typing.now c.args.instr.now c.args.visits.now c.visit_body-in-Loop.new.visits a_loop c.in-Loop.result (code c.deref-in-Loop.result.now) c.in_ok-inner-in-Loop.inner
+    ok_as c.visit_body-in-Loop.result _ _ (λ v. nest_inside c.args.typing.now c.args.instr.now c.args.visits.now c.visit_body-in-Loop.new.visits a_loop c.in-Loop.result
+    (code c.deref-in-Loop.result.now) c.in_ok-inner-in-Loop.inner
     (loop_is c.args.instr.now c.in-Loop.result c.in-Loop.body c.deref-in-Loop.result.now c.in-Loop.is c.deref-in-Loop.ensures.value) c.in_ok-inner-in-Loop.ensures v) c.visit_body-in-Loop.ensures
 
 pub visit_instr-inside-requires-in-If-clause-opens : goal.visit_instr-inside-requires-in-If-clause-opens
