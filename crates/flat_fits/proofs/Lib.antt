@@ -2,4 +2,4 @@ pub mod Calls
 mod Heights
 mod Items
 mod Statements
-mod Whole
+pub mod Whole

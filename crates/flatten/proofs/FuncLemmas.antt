@@ -97,7 +97,7 @@ module _ (v : ModuleValue) (i : ℕ) (f : FuncValue) (lt : i < length v.funcs.it
 abbrev pub mk_flat : ℕ → ℕ → List ValType → Option ℕ → Stmts → FlatFunc
 mk_flat x s ls r b = record { func = x; sort = s; locals = ls; result = r; body = b }
 
-same_one : (f g : Func) (o : Option Func) → o ≡ Some f → o ≡ Some g → f ≡ g
+pub same_one : (f g : Func) (o : Option Func) → o ≡ Some f → o ≡ Some g → f ≡ g
 same_one f g o e h = cc
 
 pub same_names : (m : Module) (f : Func) (n : Names) (w : Walk) (given : Option ValType) (first : ℕ) (k : Code) → n ≡ names_at first w given k → w ≡ outset (around m f) → given ≡ (around m f).result → first ≡ length (locals_of m f) → k ≡ f.body → n ≡ names m f

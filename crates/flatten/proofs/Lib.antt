@@ -1,2 +1,2 @@
-mod FuncLemmas
-mod ToldLemmas
+pub mod FuncLemmas
+pub mod ToldLemmas

@@ -1,19 +1,21 @@
 -- What flattening answers.
-use Rattle.std.specs.Prelude.{◌≡◌, ◌⊎◌, ℕ, suc, ◌<◌, ◌≤◌, List, [], ◌∷◌, drop, Bool, true, false, Result, Ok, Err}
+use Rattle.std.specs.Prelude.{◌≡◌, ◌⊎◌, ℕ, suc, ◌+◌, length, ◌<◌, ◌≤◌, List, [], ◌∷◌, drop, Bool, true, false, Result, Ok, Err}
 use Rattle.wa_types.specs.Syntax.{Func, Module}
-use Rattle.wa_types.specs.Frames.{Count}
-use Rattle.wa_types.specs.Modules.{func_imports}
+use Rattle.wa_types.specs.Frames.{Count, SlotPairs}
+use Rattle.wa_types.specs.Modules.{func_imports, locals_of}
 use Rattle.wa_model.specs.FlatView.{flat_func_of, flat_module_of}
-use Rattle.wa_model.specs.declared.flat.FlatFunc.{FlatFunc as FlatFuncValue}
 use Rattle.wa_model.specs.declared.flat.FlatModule.{FlatModule as FlatModuleValue}
 use Rattle.flat_laws.specs.Flatten.{flattened}
 use Rattle.flat_laws.specs.FlatModule.{flats_of}
+use Rattle.flatten.specs.declared.whole.Flattened.{Flattened}
 use Rattle.flatten.specs.declared.fault.FlatFault.{FlatFault}
 use Rattle.flatten.specs.declared.fault.FlatFault.TheVariants.{Memory, Locals}
 
 -- What flattening answers of one function, of this index.
-abbrev pub FlatAnswer : Module → ℕ → Func → Result FlatFuncValue FlatFault → Type 0
-FlatAnswer m x f (Ok v) = (flat_func_of v ≡ flattened m x f) × (Count m f ≤ 50000)
+abbrev pub FlatAnswer : Module → ℕ → Func → Result Flattened FlatFault → Type 0
+FlatAnswer m x f (Ok v) =
+    (flat_func_of v.func ≡ flattened m x f) × (Count m f ≤ 50000)
+    × (v.first_slot ≡ length (locals_of m f)) × (v.first_result ≡ length (locals_of m f) + length (SlotPairs m f))
 FlatAnswer m x f (Err Memory) = Unit {0}
 FlatAnswer m x f (Err (Locals func count)) = (func ≡ x) × (count ≡ Count m f) × (50000 < Count m f)
 

@@ -6,4 +6,4 @@ mod fault;
 mod whole;
 
 pub use fault::FlatFault;
-pub use whole::flatten;
+pub use whole::{Flattened, flatten, flatten_func};

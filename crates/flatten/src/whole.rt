@@ -26,13 +26,22 @@ fn first_result(ty: &FuncType) -> Option<ValType>
     ty.results.get(0).copied()
 }
 
-/// The flat function of a defined function, by its index among the defined ones.
-fn flat_func(
+/// A flat function, with the first local behind its parameters and declared locals, and the first behind its slots.
+#[derive(Debug, Drop)]
+pub struct Flattened {
+    pub func: FlatFunc,
+    pub first_slot: u32,
+    pub first_result: u32,
+}
+
+/// The flat function of a defined function, by its index among the defined ones. Takes time linear in its body and in what
+/// is written.
+pub fn flatten_func(
     alloc: Global,
     valid: &Valid,
     imports: usize,
     index: usize,
-) -> Result<FlatFunc, FlatFault>
+) -> Result<Flattened, FlatFault>
     requires sizes { StrictSizeRule (module_of valid.now) }
     requires imports { imports ≡ func_imports (module_of valid.now) }
     requires within { index < length valid.now.funcs.items }
@@ -53,12 +62,18 @@ fn flat_func(
     let locals = all_locals(alloc, &ty.params, &source.locals, &names)?;
     let typing = Typing::start(alloc, valid, func)?;
     let body = flat_body(alloc, typing, &names, given, &source.body)?;
-    Ok(FlatFunc {
+    let first_result = names.slots.end();
+    let flat = FlatFunc {
         func,
         sort: source.sort,
         locals,
         result: label_local(&names, 0, given),
         body,
+    };
+    Ok(Flattened {
+        func: flat,
+        first_slot: first,
+        first_result,
     })
 }
 
@@ -85,8 +100,8 @@ pub fn flatten(alloc: Global, valid: &Valid, which: &[bool]) -> Result<FlatModul
         if !which[imports + index] {
             continue;
         }
-        let flat = flat_func(alloc, valid, imports, index)?;
-        put_func(&mut funcs, flat)?;
+        let flat = flatten_func(alloc, valid, imports, index)?;
+        put_func(&mut funcs, flat.func)?;
     }
     Ok(FlatModule { funcs })
 }

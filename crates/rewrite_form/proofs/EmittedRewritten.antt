@@ -37,7 +37,7 @@ module _ (m : Module) (s : Settings) (which : List Bool) (v : Valid m) where
       (valid_named m v).sorts (func_imports m + i) f.sort
       (behind (imported imported_func m) (map sort_of m.funcs) (func_imports m + i) i refl ∙ slice_get-map sort_of m.funcs i ∙ ap (option_map sort_of) e)
 
-  same_exports : (emitted m s which).exports ≡ (with_runtime m).exports
+  pub same_exports : (emitted m s which).exports ≡ (with_runtime m).exports
   unfolding with_runtime
   same_exports = ap (λ ks. m.exports ++ runtime_exports (length ks)) (own_sorts m s which)
 

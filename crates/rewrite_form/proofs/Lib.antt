@@ -3,3 +3,5 @@ pub mod WiderTypes
 pub mod WrittenTypes
 pub mod WrittenSizes
 pub mod EmittedRewritten
+pub mod Marks
+pub mod EmittedSizes

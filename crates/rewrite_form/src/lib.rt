@@ -4,4 +4,4 @@
 
 mod laws;
 
-pub use laws::emitted_module_is_rewritten;
+pub use laws::{emitted_module_is_rewritten, emitted_module_keeps_sizes};

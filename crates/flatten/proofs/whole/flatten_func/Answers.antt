@@ -5,12 +5,13 @@ use Rattle.wa_types.specs.Sizes.{SizeRule, code_items}
 use Rattle.wasm_validate.specs.Walk.{Walk, TypedAt}
 use Rattle.flat_instrs.specs.Emitting.{SmallTypes}
 use Rattle.std.proofs.Common.{length-append, ◌≤◌}
-use Rattle.wa_types.specs.Syntax.{FuncType}
+use Rattle.wa_types.specs.Syntax.{Func, FuncType}
 use Rattle.wa_types.specs.Modules.{declared_locals, defined_at, locals_of, type_at}
+use Rattle.wa_types.specs.Frames.{SlotPairs}
 use Rattle.wa_types.specs.View.{module_of, func_of, code}
-use Rattle.flatten.proofs.FuncLemmas.{sort_below, all_few, number_few, defined, begins_typed, small_types, result_is, func_there, type_is, same_names, same_flat, same_result, same_locals, answered, counted, refused}
+use Rattle.flatten.proofs.FuncLemmas.{sort_below, all_few, number_few, defined, begins_typed, small_types, result_is, func_there, type_is, same_names, same_flat, same_result, same_locals, answered, counted, refused, same_one}
 use Rattle.flat_laws.specs.Flatten.{Names}
-use Rattle.flatten.proofs.whole.flat_func.Goals as goal
+use Rattle.flatten.proofs.whole.flatten_func.Goals as goal
 
 pub index-ty-requires : goal.index-ty-requires
 index-ty-requires c =
@@ -434,4 +435,10 @@ returns c =
     let body = same_flat m g c.in_ok-names.names c.in_ok-typing-2.typing _ _ (c.in_ok-body.ensures) named w2 (ap code c.deref-5.ensures.value) in
     let res = same_result m g c.in_ok-names.names _ _ c.label_local.ensures named given in
     let ls = same_locals m g c.in_ok-names.names _ _ _ (c.in_ok-locals.ensures) (c.deref-3.ensures.value ∙ sym (ap (λ (z : FuncType). z.params) kind)) c.deref-4.ensures.value named in
-    λ h e. answered m _ f.sort g h _ _ _ _ there e refl ls res body (subst (λ z. z ≤ 50000) count c.if-count-gt-MOST_LOCALS.false)
+    let end = c.end-first_result.ensures in
+    let at : c.end-first_result.result ≡ length (locals_of m g) + length (SlotPairs m g) =
+    omega (arith, end, ap (λ (z : Names). z.first) (c.names.view_is ∙ named), ap (λ (z : Names). length z.slots) (c.names.view_is ∙ named)) in
+    λ h e.
+    let r = answered m _ f.sort g h _ _ _ _ there e refl ls res body (subst (λ z. z ≤ 50000) count c.if-count-gt-MOST_LOCALS.false) in
+    let k = same_one g h _ there e in
+    (r.0, r.1, first ∙ ap (λ (z : Func). length (locals_of m z)) k, at ∙ ap (λ (z : Func). length (locals_of m z) + length (SlotPairs m z)) k)
