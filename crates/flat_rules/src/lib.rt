@@ -3,4 +3,4 @@
 
 mod laws;
 
-pub use laws::own_locals_stay;
+pub use laws::{own_locals_stay, stack_alone_is_read};
