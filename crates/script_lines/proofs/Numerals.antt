@@ -1,5 +1,6 @@
 -- Numbers as words spell them.
-use Rattle.std.proofs.Common.{arith, rules, ◌≡◌, ◌≢◌, ℕ, ◌-◌, ◌^◌, ◌<◌, ◌==◌, Bool, true, false, not, ◌&&◌, nat_le, nat_lt, Option, Some, None, Result, Ok, Err, List, [], ◌∷◌, length, get_or, sym, ap, ◌∙◌, eqb-true, refl, if◌then◌else◌, inl, inr, ◌⊎◌}
+use Rattle.std.proofs.Common.{arith, rules, ◌≡◌, ◌≢◌, ℕ, ◌-◌, ◌^◌, ◌<◌, ◌==◌, Bool, true, false, not, ◌&&◌, nat_le, nat_lt, Option, Some, None, Result, Ok, Err, List, [], ◌∷◌, length}
+use Rattle.std.proofs.Common.{get_or, sym, ap, ◌∙◌, eqb-true, refl, if◌then◌else◌, inl, inr, ◌⊎◌}
 use Rattle.std.specs.List.{list_all}
 use Rattle.std.specs.Result.{OkIff, result_ok}
 use Rattle.std.specs.Str.{bytes_eq}
@@ -43,7 +44,8 @@ module _ (w : List ℕ) (some : 0 < length w) (plus : get_or w 0 0 ≢ 43) (zero
       ∙ sym (ap (λ t. told_by t (digits_value 0 w)) (and_from (list_all is_digit w) (spelled w) d ((bytes_eq-Decides (decimal (digits_value 0 w)) w).1 (decimal-digits_value own w d some zero l)))
       ∙ small_enough (digits_value 0 w) l)
 
-  bad : ((list_all is_digit w ≡ true) × (0 < length w) × (digits_value 0 w < 2 ^ 64) → ⊥) → (t u : Bool) → list_all is_digit w ≡ t → nat_lt (digits_value 0 w) (2 ^ 64) ≡ u → None ≡ number_within 0 most w
+  bad : ((list_all is_digit w ≡ true) × (0 < length w) × (digits_value 0 w < 2 ^ 64) → ⊥) → (t u : Bool) → list_all is_digit w ≡ t → nat_lt (digits_value 0 w) (2 ^ 64) ≡ u
+      → None ≡ number_within 0 most w
   bad h false u a b = sym (ap (λ t. told_by t (digits_value 0 w)) (and_left (list_all is_digit w) (spelled w) a))
   bad h true true a b = absurd (h (a, some, ltb-true _ _ b))
   bad h true false a b =

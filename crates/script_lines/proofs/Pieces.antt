@@ -1,5 +1,6 @@
 -- The words among the pieces of a line, read one after another.
-use Rattle.std.proofs.Common.{arith, ◌≡◌, ℕ, ◌+◌, ◌<◌, Bool, true, false, Option, Some, None, Result, Ok, Err, List, [], ◌∷◌, ◌++◌, length, drop, get_or, sym, ap, ◌∙◌, subst, append_assoc, append-nil, cond, filter, map, suc, refl, IsErrAnd}
+use Rattle.std.proofs.Common.{arith, ◌≡◌, ℕ, ◌+◌, ◌<◌, Bool, true, false, Option, Some, None, Result, Ok, Err, List, [], ◌∷◌, ◌++◌, length, drop, get_or, sym, ap, ◌∙◌, subst, append_assoc}
+use Rattle.std.proofs.Common.{append-nil, cond, filter, map, suc, refl, IsErrAnd}
 use Rattle.std.specs.List.{slice_split}
 use Rattle.std.specs.Bool.{if◌then◌else◌}
 use Rattle.std.specs.Str.{IsUtf8}
@@ -53,14 +54,16 @@ ok_value : List (List ℕ) → Result (List (List ℕ)) ℕ → List (List ℕ)
 ok_value other (Ok x) = x
 ok_value other (Err e) = other
 
-word_put : (old new : List (List ℕ)) (word rest whole : Option (List (List ℕ))) → or_breaks 1 (behind_words old word) ≡ Ok new → behind_words old (joined word rest) ≡ whole → behind_words new rest ≡ whole
+word_put : (old new : List (List ℕ)) (word rest whole : Option (List (List ℕ))) → or_breaks 1 (behind_words old word) ≡ Ok new → behind_words old (joined word rest) ≡ whole
+    → behind_words new rest ≡ whole
 unfolding ok_value
 word_put old new None rest whole e h = let d : ◌≡◌ {A = Result (List (List ℕ)) ℕ} (Err 1) (Ok new) = e in cc
 word_put old new (Some w) rest whole e h =
     let n : old ++ w ≡ new = ap (ok_value []) e in
     ap (λ (l : List (List ℕ)). behind_words l rest) (sym n) ∙ behind_both old w rest ∙ h
 
-word_fails : (old : List (List ℕ)) (fault : LineFault) (word rest whole : Option (List (List ℕ))) → Blames fault (or_breaks 1 (behind_words old word)) → behind_words old (joined word rest) ≡ whole → Blames fault (or_breaks 1 whole)
+word_fails : (old : List (List ℕ)) (fault : LineFault) (word rest whole : Option (List (List ℕ))) → Blames fault (or_breaks 1 (behind_words old word))
+    → behind_words old (joined word rest) ≡ whole → Blames fault (or_breaks 1 whole)
 word_fails old Memory word rest whole b h = tt
 word_fails old (Rule rule) None rest whole b h = ap (or_breaks 1) (sym h) ∙ b
 word_fails old (Rule rule) (Some w) rest whole b h = let d : ◌≡◌ {A = Result (List (List ℕ)) ℕ} (Ok (old ++ w)) (Err rule) = b in cc
@@ -82,15 +85,18 @@ module _ (parts : List (List ℕ)) (k : ℕ) (piece : List ℕ) (lt : k < length
   pub piece_fails : (fault : LineFault) → Blames fault (or_breaks 1 (behind_words old (told_words (piece ∷ [])))) → Blames fault (or_breaks 1 whole)
   piece_fails fault b = word_fails old fault (told_words (piece ∷ [])) (told_words (drop (k + 1) parts)) whole b turn
 
-pub pieces_read : (parts : List (List ℕ)) (k : ℕ) (words : List (List ℕ)) (whole : Option (List (List ℕ))) → k ≡ length parts → behind_words words (told_words (drop k parts)) ≡ whole → or_breaks 1 whole ≡ Ok words
-pieces_read parts k words whole e h = ap (or_breaks 1) (sym h ∙ ap (λ (l : List (List ℕ)). behind_words words (told_words l)) (drop_all k parts (omega (arith, e))) ∙ ap (λ (l : List (List ℕ)). Some l) (append-nil words))
+pub pieces_read : (parts : List (List ℕ)) (k : ℕ) (words : List (List ℕ)) (whole : Option (List (List ℕ))) → k ≡ length parts → behind_words words (told_words (drop k parts)) ≡ whole
+    → or_breaks 1 whole ≡ Ok words
+pieces_read parts k words whole e h = ap (or_breaks 1)
+    (sym h ∙ ap (λ (l : List (List ℕ)). behind_words words (told_words l)) (drop_all k parts (omega (arith, e))) ∙ ap (λ (l : List (List ℕ)). Some l) (append-nil words))
 
 -- ---- lines
 
 abbrev text_line : Bool → List ℕ → Option (List (List ℕ))
 text_line t line = if t then (if is_comment line then Some [] else told_words (slice_split is_blank line)) else None
 
-pub line_read : (r : Result (Vec Name Global) LineFault) (line : List ℕ) → IsUtf8 line → Reads (λ (words : Vec Name Global). words.items) r (or_breaks 1 (text_line true line)) → Reads (λ (words : Vec Name Global). words.items) r (or_breaks 1 (line_words line))
+pub line_read : (r : Result (Vec Name Global) LineFault) (line : List ℕ) → IsUtf8 line → Reads (λ (words : Vec Name Global). words.items) r (or_breaks 1 (text_line true line))
+    → Reads (λ (words : Vec Name Global). words.items) r (or_breaks 1 (line_words line))
 line_read r line h b = subst (λ t. Reads (λ (words : Vec Name Global). words.items) r (or_breaks 1 (text_line t line))) (sym (is_utf8-from_IsUtf8 line h)) b
 
 pub line_refused : (line : List ℕ) → (IsUtf8 line → ⊥) → or_breaks 1 (line_words line) ≡ Err 1

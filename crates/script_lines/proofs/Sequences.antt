@@ -1,5 +1,6 @@
 -- Lists of things that words spell, read one behind another.
-use Rattle.std.proofs.Common.{arith, ◌≡◌, ℕ, ◌+◌, ◌-◌, ◌<◌, ◌≤◌, suc, Option, Some, None, Result, Ok, Err, List, [], ◌∷◌, ◌++◌, length, drop, take, get_or, map, sym, ap, ◌∙◌, append_assoc, append-nil, refl}
+use Rattle.std.proofs.Common.{arith, ◌≡◌, ℕ, ◌+◌, ◌-◌, ◌<◌, ◌≤◌, suc, Option, Some, None, Result, Ok, Err, List, [], ◌∷◌, ◌++◌, length, drop, take, get_or, map, sym, ap, ◌∙◌, append_assoc}
+use Rattle.std.proofs.Common.{append-nil, refl}
 use Rattle.std.proofs.Math.Seq.{drop-cons}
 use Rattle.std.proofs.lemmas.List.{take_all, map-append}
 use Rattle.wa_model.specs.ScriptLines.{onto, value_in, all_values, hex_value, joined_digits, hex_bytes, hex_in, u32_in, poke_of, all_pokes}
@@ -39,7 +40,8 @@ four_is : {A : Type 0} (rule : ℕ) → ◌≡◌ {A = Result A ℕ} (Err 4) (Er
 unfolding rule_of
 four_is rule e = ap rule_of e
 
-pub fails : {A : Type 0} (fault : LineFault) (xs : List A) (read : Option A) (o whole : Option (List A)) → Blames fault (or_breaks 4 read) → appended xs (onto read o) ≡ whole → Blames fault (or_breaks 4 whole)
+pub fails : {A : Type 0} (fault : LineFault) (xs : List A) (read : Option A) (o whole : Option (List A)) → Blames fault (or_breaks 4 read) → appended xs (onto read o) ≡ whole
+    → Blames fault (or_breaks 4 whole)
 unfolding rule_of
 fails Memory xs read o whole b h = tt
 fails {A} (Rule rule) xs None o whole b h =

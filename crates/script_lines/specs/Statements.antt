@@ -2,7 +2,8 @@
 use Rattle.std.specs.Prelude.{Option}
 use Rattle.std.specs.Option.{option_map}
 use Rattle.wa_model.specs.ScriptLines.{Statement, begins_program, lists_imports, ignores_imports, saves, has_area, has_steps, sets_global, binds, enters, answers, shows, detaches}
-use Rattle.wa_model.specs.ScriptLines.{Keyword, program_word, imports_word, ignore_imports_word, save_word, area_word, steps_word, global_word, device_word, enter_word, answer_word, show_word, detach_word}
+use Rattle.wa_model.specs.ScriptLines.{Keyword, program_word, imports_word, ignore_imports_word, save_word, area_word, steps_word, global_word, device_word, enter_word, answer_word}
+use Rattle.wa_model.specs.ScriptLines.{show_word, detach_word}
 use Rattle.wa_model.specs.View.{answer_line_of}
 use Rattle.script_lines.specs.declared.statements.Statement.{Statement as StatementValue}
 use Rattle.script_lines.specs.declared.statements.Statement.TheVariants as S

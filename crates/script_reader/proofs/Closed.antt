@@ -1,9 +1,10 @@
 -- Programs that are told statement by statement are the programs that groups of statements tell.
 use Rattle.std.proofs.Common.{◌≡◌, ℕ, ◌||◌, Bool, true, false, Option, Some, None, Result, Ok, Err, List, [], ◌∷◌, ◌++◌, map, sym, ap, ◌∙◌, refl, append_assoc, append-nil, slice_get}
 use Rattle.std.specs.List.{list_any}
-use Rattle.wa_model.specs.Script.{GlobalText, BindText, EntryText, ShowText, ProgramText, ScriptFault, breaks}
+use Rattle.wa_model.specs.Script.{ProgramText, ScriptFault, breaks}
 use Rattle.wa_model.specs.ScriptLines.{Statement, begins_program, lists_imports, ignores_imports, saves, has_area, has_steps, sets_global, binds, enters, answers, shows, detaches, or_else}
-use Rattle.wa_model.specs.ScriptText.{Numbered, Group, Grouped, AreaText, told_by, lines_by, list_of_statement, is_ignore, live_of_statement, area_of, steps_of, global_of, bind_of, entry_of, answer_of, show_of, with_program, programs_of}
+use Rattle.wa_model.specs.ScriptText.{Numbered, Group, AreaText, told_by, lines_by, list_of_statement, is_ignore, live_of_statement, area_of, steps_of, global_of, bind_of, entry_of}
+use Rattle.wa_model.specs.ScriptText.{answer_of, show_of, with_program, programs_of}
 use Rattle.script_reader.specs.Drafts.{Draft, begun, more_told, told_with, one_more, closed}
 
 abbrev pub folded : Draft → List Numbered → Draft
@@ -101,11 +102,13 @@ all_are (g ∷ gs) programs =
     ap (λ (d : Draft). all_closed (one_more programs d d.area) (map of_group gs)) (folded_is g.told (begun g.line g.path))
     ∙ by_area (λ x. all_are gs (programs ++ x ∷ [])) (slice_get (lines_by area_of g.told) 0)
   where
-    by_rest : (a : AreaText) (r : Result (List ProgramText) ScriptFault) → behind (programs ++ told_with (told_more (begun g.line g.path) g.told) a ∷ []) r ≡ behind programs (with_program g (Some a) r)
+    by_rest : (a : AreaText) (r : Result (List ProgramText) ScriptFault)
+        → behind (programs ++ told_with (told_more (begun g.line g.path) g.told) a ∷ []) r ≡ behind programs (with_program g (Some a) r)
     by_rest a (Ok more) = ap (λ (ps : List ProgramText). Ok ps) (append_assoc programs (told_with (told_more (begun g.line g.path) g.told) a ∷ []) more)
     by_rest a (Err f) = refl
 
-    by_area : ((x : ProgramText) → all_closed (Ok (programs ++ x ∷ [])) (map of_group gs) ≡ behind (programs ++ x ∷ []) (programs_of gs)) → (a : Option AreaText) → all_closed (one_more programs (told_more (begun g.line g.path) g.told) a) (map of_group gs) ≡ behind programs (with_program g a (programs_of gs))
+    by_area : ((x : ProgramText) → all_closed (Ok (programs ++ x ∷ [])) (map of_group gs) ≡ behind (programs ++ x ∷ []) (programs_of gs)) → (a : Option AreaText)
+        → all_closed (one_more programs (told_more (begun g.line g.path) g.told) a) (map of_group gs) ≡ behind programs (with_program g a (programs_of gs))
     by_area rest None = closed_err (breaks g.line 7) (map of_group gs)
     by_area rest (Some a) = rest (told_with (told_more (begun g.line g.path) g.told) a) ∙ by_rest a (programs_of gs)
 

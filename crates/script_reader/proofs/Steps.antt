@@ -13,7 +13,8 @@ pub handed_on : {X Y : Type 0} (view : X → Y) (r : Result X ScriptFault) (faul
 handed_on view (Ok x) fault told h b = absurd h
 handed_on view (Err f) fault told h b = subst (λ g. Blames g told) (sym h) b
 
-module _ (line : ℕ) (text first rest : List ℕ) (cut : lines text ≡ first ∷ lines rest) (old : Reading) (whole : Result PlainScript PlainFault) (before : read_on (suc line) (lines text) old ≡ whole) where
+module _ (line : ℕ) (text first rest : List ℕ) (cut : lines text ≡ first ∷ lines rest) (old : Reading) (whole : Result PlainScript PlainFault)
+    (before : read_on (suc line) (lines text) old ≡ whole) where
   line_on : and_then (with_line (line + 1) (line_says first) old) (read_on (suc (suc line)) (lines rest)) ≡ whole
   line_on =
       ap (λ (j : ℕ). and_then (with_line j (line_says first) old) (read_on (suc (suc line)) (lines rest))) (add-one line)

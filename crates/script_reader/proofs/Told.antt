@@ -1,14 +1,18 @@
 -- Reading line by line comes to the script that the statements of all lines tell.
-use Rattle.std.proofs.Common.{arith, ◌≡◌, ℕ, zero, suc, ◌+◌, ◌<◌, ◌≤◌, not, ◌&&◌, ◌||◌, nat_eq, nat_le, Bool, true, false, cond, Option, Some, None, Result, Ok, Err, List, [], ◌∷◌, ◌++◌, map, length, sym, ap, ◌∙◌, subst, refl, append_assoc, append-nil, if◌then◌else◌, lit≤}
+use Rattle.std.proofs.Common.{arith, ◌≡◌, ℕ, suc, ◌+◌, ◌<◌, ◌≤◌, not, ◌&&◌, ◌||◌, nat_eq, nat_le, Bool, true, false, cond, Option, Some, None, Result, Ok, Err, List, [], ◌∷◌, ◌++◌}
+use Rattle.std.proofs.Common.{map, length, sym, ap, ◌∙◌, subst, refl, append_assoc, append-nil, if◌then◌else◌, lit≤}
 use Rattle.std.specs.Option.{is_some}
-use Rattle.std.specs.List.{filter, filter_map, list_any, cons_option}
+use Rattle.std.specs.List.{filter, list_any, cons_option}
 use Rattle.std.specs.Str.Lines.{lines}
 use Rattle.std.proofs.lemmas.Bool.{leb-true, leb-false, eq-eqb, ne_eqb}
-use Rattle.wa_model.specs.Script.{DetachText, ProgramText, Script, ScriptFault, breaks, too_many}
-use Rattle.wa_model.specs.ScriptLines.{Statement, begins_program, lists_imports, ignores_imports, saves, has_area, has_steps, sets_global, binds, enters, answers, shows, detaches, or_else, line_says}
-use Rattle.wa_model.specs.ScriptText.{is_program, is_detach, tells_imports, tells_policy, tells_area, tells_steps, in_program, is_repeated, has_bad_list, is_early, is_one_too_many, fault_of, Numbered, onto, unless_fault, with_line as with_told, statements}
-use Rattle.wa_model.specs.ScriptText.{Group, Grouped, grouped_with, grouped, told_by, detach_of, with_programs, programs_of, script_of, script_text, most_programs}
-use Rattle.script_reader.specs.Drafts.{Draft, begun, more_told, repeats, fault_in, closed, closed_last, Reading, nothing_read, or_fault, with_program, on_program, with_current, with_statement, with_line, ended, and_then, read_on}
+use Rattle.wa_model.specs.Script.{DetachText, Script, ScriptFault, breaks, too_many}
+use Rattle.wa_model.specs.ScriptLines.{Statement, begins_program, lists_imports, ignores_imports, saves, has_area, has_steps, sets_global, binds, enters, answers, shows, detaches, or_else}
+use Rattle.wa_model.specs.ScriptLines.{line_says}
+use Rattle.wa_model.specs.ScriptText.{is_program, is_detach, tells_imports, tells_policy, tells_area, tells_steps, in_program, is_repeated, has_bad_list, is_early, is_one_too_many, fault_of}
+use Rattle.wa_model.specs.ScriptText.{Numbered, onto, unless_fault, with_line as with_told, statements}
+use Rattle.wa_model.specs.ScriptText.{Grouped, grouped_with, grouped, told_by, detach_of, with_programs, script_of, script_text, most_programs}
+use Rattle.script_reader.specs.Drafts.{Draft, begun, more_told, repeats, fault_in, closed_last, Reading, nothing_read, or_fault, with_program, on_program, with_current}
+use Rattle.script_reader.specs.Drafts.{with_statement, with_line, and_then, read_on}
 use Rattle.script_reader.proofs.Closed.{folded, of_group, all_closed, programs_are}
 
 -- ---- what is left to be read
@@ -194,7 +198,8 @@ module _ (s : Statement) (o : IsOther s) (line : ℕ) where
       → ending (record r { current = Some (more_told line s d) }) rest ≡ ending r (onto (numbered line s) rest)
   ending_other r d (Err f) e = refl
   ending_other r d (Ok ss) e =
-      ap (λ (x : Option DetachText). with_programs (r.detached ++ cons_option x (told_by detach_of ss)) (all_closed r.programs (folded d (numbered line s ∷ (grouped ss).first) ∷ map of_group (grouped ss).groups))) (sym o.none)
+      ap (λ (x : Option DetachText). with_programs (r.detached ++ cons_option x (told_by detach_of ss))
+      (all_closed r.programs (folded d (numbered line s ∷ (grouped ss).first) ∷ map of_group (grouped ss).groups))) (sym o.none)
       ∙ ap (λ (g : Grouped). with_programs (r.detached ++ told_by detach_of (numbered line s ∷ ss)) (all_closed r.programs (spread (Some d) g))) (sym (o.into_first line (grouped ss)))
       ∙ ap (λ (c : Option Draft). with_programs (r.detached ++ told_by detach_of (numbered line s ∷ ss)) (all_closed r.programs (spread c (grouped (numbered line s ∷ ss))))) (sym e)
 
@@ -220,7 +225,8 @@ module _ (s : Statement) (o : IsOther s) (line : ℕ) where
   in_same : (earlier : List Statement) → s ∷ in_program earlier ≡ in_program (s ∷ earlier)
   in_same earlier = ap (λ (t : Bool). if t then [] else s ∷ in_program earlier) (sym o.program)
 
-  reflects_other : (earlier : List Statement) (r : Reading) (d : Draft) → r.current ≡ Some d → Reflects earlier r → Tells (in_program earlier) d → Reflects (s ∷ earlier) (record r { current = Some (more_told line s d) })
+  reflects_other : (earlier : List Statement) (r : Reading) (d : Draft) → r.current ≡ Some d → Reflects earlier r → Tells (in_program earlier) d
+      → Reflects (s ∷ earlier) (record r { current = Some (more_told line s d) })
   reflects_other earlier r d e h t = record {
     started = ap (λ (p : Bool). p || list_any is_program earlier) o.program ∙ h.started ∙ ap (λ (c : Option Draft). is_some c) e;
     count = ap (λ (p : Bool). length (cond p (s ∷ filter is_program earlier) (filter is_program earlier))) o.program ∙ h.count;
@@ -228,7 +234,8 @@ module _ (s : Statement) (o : IsOther s) (line : ℕ) where
     told = subst (λ (l : List Statement). Tells l (more_told line s d)) (in_same earlier) (o.tells line (in_program earlier) d t);
   }
 
-  by_fault : (earlier : List Statement) (r : Reading) (d : Draft) → r.current ≡ Some d → Reflects earlier r → Tells (in_program earlier) d → (rest : Result (List Numbered) ScriptFault) (more : Reading → Result Script ScriptFault)
+  by_fault : (earlier : List Statement) (r : Reading) (d : Draft) → r.current ≡ Some d → Reflects earlier r → Tells (in_program earlier) d
+      → (rest : Result (List Numbered) ScriptFault) (more : Reading → Result Script ScriptFault)
       → ((next : Reading) → Reflects (s ∷ earlier) next → more next ≡ ending next rest) → (f : Option ScriptFault)
       → and_then (with_current r (or_fault f (more_told line s d))) more ≡ ending r (unless_fault f (numbered line s) rest)
   by_fault earlier r d e h t rest more next (Some f) = refl
@@ -248,7 +255,8 @@ module _ (s : Statement) (o : IsOther s) (line : ℕ) where
   other_goes earlier r h rest more next = ap (λ x. and_then x more) (o.stated line r) ∙ by_current earlier r h rest more next r.current refl h.told
 
 -- a device is taken out
-detach_goes : (line : ℕ) (device : List ℕ) (before : ℕ) (earlier : List Statement) (r : Reading) (h : Reflects earlier r) (rest : Result (List Numbered) ScriptFault) → Goes line earlier r h rest (detaches device before)
+detach_goes : (line : ℕ) (device : List ℕ) (before : ℕ) (earlier : List Statement) (r : Reading) (h : Reflects earlier r) (rest : Result (List Numbered) ScriptFault)
+    → Goes line earlier r h rest (detaches device before)
 detach_goes line device before earlier r h rest more next =
     next (record r { detached = r.detached ++ record { device = device; before = before } ∷ [] }) reflected ∙ by_rest rest r.current refl
   where
@@ -270,7 +278,8 @@ detach_goes line device before earlier r h rest more next =
         by_kind (Some d) = refl
 
 -- a program begins
-program_goes : (line : ℕ) (path : List ℕ) (earlier : List Statement) (r : Reading) (h : Reflects earlier r) (rest : Result (List Numbered) ScriptFault) → Goes line earlier r h rest (begins_program path)
+program_goes : (line : ℕ) (path : List ℕ) (earlier : List Statement) (r : Reading) (h : Reflects earlier r) (rest : Result (List Numbered) ScriptFault)
+    → Goes line earlier r h rest (begins_program path)
 program_goes line path earlier r h rest more next = by_count (nat_le most_programs r.count) refl where
   begun_next : Reading
   begun_next = record { programs = closed_last r.programs r.current; count = r.count + 1; current = Some (begun line path); detached = r.detached }
@@ -292,16 +301,19 @@ program_goes line path earlier r h rest more next = by_count (nat_le most_progra
   by_rest (Err f) = refl
   by_rest (Ok ss) = ap (λ ps. with_programs (r.detached ++ told_by detach_of ss) ps) (by_kind (grouped ss) r.current)
 
-  by_count : (t : Bool) → nat_le most_programs r.count ≡ t → and_then (with_program line path r) more ≡ ending r (unless_fault (fault_of line earlier (begins_program path)) (numbered line (begins_program path)) rest)
+  by_count : (t : Bool) → nat_le most_programs r.count ≡ t
+      → and_then (with_program line path r) more ≡ ending r (unless_fault (fault_of line earlier (begins_program path)) (numbered line (begins_program path)) rest)
   by_count true e =
       let all : length (filter is_program earlier) ≡ 16 = omega (arith, h.count, h.few, leb-true most_programs r.count e) in
       ap (λ (t : Bool). and_then (if t then Err (too_many 17) else Ok begun_next) more) e
-      ∙ ap (λ (t : Bool). ending r (unless_fault (if t then Some (too_many 17) else None) (numbered line (begins_program path)) rest)) (sym (eq-eqb (length (filter is_program earlier)) most_programs all))
+      ∙ ap (λ (t : Bool). ending r (unless_fault (if t then Some (too_many 17) else None) (numbered line (begins_program path)) rest))
+      (sym (eq-eqb (length (filter is_program earlier)) most_programs all))
   by_count false e =
       let fewer : r.count < 16 = leb-false most_programs r.count e in
       ap (λ (t : Bool). and_then (if t then Err (too_many 17) else Ok begun_next) more) e
       ∙ next begun_next (reflected fewer) ∙ by_rest rest
-      ∙ ap (λ (t : Bool). ending r (unless_fault (if t then Some (too_many 17) else None) (numbered line (begins_program path)) rest)) (sym (ne_eqb (length (filter is_program earlier)) most_programs (λ x. omega (arith, x, h.count, fewer))))
+      ∙ ap (λ (t : Bool). ending r (unless_fault (if t then Some (too_many 17) else None) (numbered line (begins_program path)) rest))
+      (sym (ne_eqb (length (filter is_program earlier)) most_programs (λ x. omega (arith, x, h.count, fewer))))
 
 goes : (s : Statement) (line : ℕ) (earlier : List Statement) (r : Reading) (h : Reflects earlier r) (rest : Result (List Numbered) ScriptFault) → Goes line earlier r h rest s
 goes (begins_program path) line earlier r h rest = program_goes line path earlier r h rest

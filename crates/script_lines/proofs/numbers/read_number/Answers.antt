@@ -8,4 +8,5 @@ returns-then-not-begins_plainly c = not_parsed c.args.word.now (ap begins_plainl
 
 pub returns : goal.returns
 returns c =
-    c.ok.ensures.value ∙ parsed c.args.word.now c.parse.result (ap begins_plainly (sym c.as_bytes.ensures.value) ∙ sym c.begins_plainly.ensures ∙ c.if-not-begins_plainly.false) c.parse.ensures.value.0
+    c.ok.ensures.value ∙ parsed c.args.word.now c.parse.result
+    (ap begins_plainly (sym c.as_bytes.ensures.value) ∙ sym c.begins_plainly.ensures ∙ c.if-not-begins_plainly.false) c.parse.ensures.value.0

@@ -1,5 +1,5 @@
 -- A line more is read, or the first fault is told.
-use Rattle.std.proofs.Common.{arith, ◌+◌, length, ap, sym, ◌∙◌}
+use Rattle.std.proofs.Common.{arith, ap, ◌∙◌}
 use Rattle.std.specs.Str.Lines.{lines}
 use Rattle.wa_model.specs.ScriptText.{script_text}
 use Rattle.script_reader.specs.Drafts.{read_on}
