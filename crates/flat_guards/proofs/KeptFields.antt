@@ -194,7 +194,7 @@ module _ (n : Names) (extra : List Value) (keep : ℕ → Bool) where
   last_got [] w zero v e = let z : v ≡ w = cc in inr (refl, z)
   last_got [] w (suc h) v e = cc
   last_got (x ∷ xs) w zero v e = inl e
-  last_got (x ∷ xs) w (suc h) v e = elim (last_got xs w h v e) [ | inl f ↦ inl f | inr f ↦ inr (let z : suc h ≡ length (x ∷ xs) = let y = f.0 in omega arith in (z, f.1)) ]
+  last_got (x ∷ xs) w (suc h) v e = elim (last_got xs w h v e) [ inl f ↦ inl f | inr f ↦ inr (let z : suc h ≡ length (x ∷ xs) = let y = f.0 in omega arith in (z, f.1)) ]
 
   types_long : (ops : List Value) → length (types_of ops) ≡ length ops
   types_long ops = length-map ops type_of
