@@ -1,4 +1,4 @@
-mod Calls
+pub mod Calls
 mod Heights
 mod Items
 mod Statements
