@@ -60,7 +60,8 @@ carry_calls n ls d (Some (Some t)) ops rest = copy_calls ls (result_local n d t)
 carries_calls : (n : Names) (ls : List Label) (lt : List (Option ValType)) (ops : List ValType) (js : List ℕ) (rest : Stmts) → SameCalls ls (carry_all n lt ops js rest) rest
 carries_calls n ls lt ops [] rest = record { calls_too = refl; stacks_too = refl }
 carries_calls n ls lt ops (j ∷ js) rest =
-    calls_on ls (carry_all n lt ops (j ∷ js) rest) (carry_all n lt ops js rest) rest (carry_calls n ls (length lt - suc j) (slice_get lt j) ops (carry_all n lt ops js rest)) (carries_calls n ls lt ops js rest)
+    calls_on ls (carry_all n lt ops (j ∷ js) rest) (carry_all n lt ops js rest) rest (carry_calls n ls (length lt - suc j) (slice_get lt j) ops (carry_all n lt ops js rest))
+    (carries_calls n ls lt ops js rest)
 
 arrive_calls : (n : Names) (ls : List Label) (d : ℕ) (r : Option ValType) (ops : List ValType) (rest : Stmts) → SameCalls ls (arrive n d r ops rest) rest
 arrive_calls n ls d None ops rest = record { calls_too = refl; stacks_too = refl }
@@ -85,7 +86,8 @@ module _ (y : ℕ) where
   paired_on (p ∷ ps) qs [] ts h g = absurd h
   paired_on (p ∷ ps) qs (s ∷ ss) ts h g = (h.0, paired_on ps qs ss ts h.1 g)
 
-  pub paired_at : (ps : List Position) (ss : List (List ℕ)) (i : ℕ) (at : Position) → Paired ps ss → slice_get ps i ≡ Some at → live_at y at ≡ true → (s : List ℕ) × (slice_get ss i ≡ Some s) × Among y s
+  pub paired_at : (ps : List Position) (ss : List (List ℕ)) (i : ℕ) (at : Position) → Paired ps ss → slice_get ps i ≡ Some at → live_at y at ≡ true
+      → (s : List ℕ) × (slice_get ss i ≡ Some s) × Among y s
   paired_at [] ss i at h e l = cc
   paired_at (p ∷ ps) [] i at h e l = absurd h
   paired_at (p ∷ ps) (s ∷ ss) zero at h e l = let z : p ≡ at = cc in (s, refl, h.0 (subst (λ q. live_at y q ≡ true) (sym z) l))
@@ -117,7 +119,8 @@ module _ (y : ℕ) where
   unfolding behind_calls code_of stacks_in
   table_left ls x ts j = tt
 
-  one_call : (ls : List Label) (i : Plain) (to_call : Callee) (stack : List ℕ) (k : ℕ) (to : Option ℕ) (rest : Stmts) → callee i ≡ Some to_call → (live_at y (position (set_to to (code_of rest)) ls) ≡ true → Among y stack) → P ls rest
+  one_call : (ls : List Label) (i : Plain) (to_call : Callee) (stack : List ℕ) (k : ℕ) (to : Option ℕ) (rest : Stmts) → callee i ≡ Some to_call
+      → (live_at y (position (set_to to (code_of rest)) ls) ≡ true → Among y stack) → P ls rest
       → P ls (calls (plain i done) stack k to rest)
   unfolding behind_calls code_of followed_by stacks_in
   one_call ls i to_call stack k to rest e h g =
@@ -133,7 +136,8 @@ module _ (m : Module) (f : Func) (y : ℕ) (extra : length (locals_of m f) ≤ y
   abbrev c : Around
   c = around m f
 
-  on_paired : (ls : List Label) (lt : List (Option ValType)) (own mids low : List ValType) (i : Plain) (rest : Stmts) → Conds m f y extra (told y ls).tos (told y ls).out lt low → is_last i ≡ false → Takes (sig c lt i) own mids
+  on_paired : (ls : List Label) (lt : List (Option ValType)) (own mids low : List ValType) (i : Plain) (rest : Stmts) → Conds m f y extra (told y ls).tos (told y ls).out lt low
+      → is_last i ≡ false → Takes (sig c lt i) own mids
       → (live y (told y ls).tos (told y ls).out (code_of rest) ≡ true → S m f y extra (mids ++ low)) → P y ls rest → P y ls (flat_plain n c lt (own ++ low) (mids ++ low) i rest)
   on_paired ls lt own mids low (basic b) rest cs z t ih h = by_calls y ls _ rest (computes_calls ls b _ _ rest) h
   on_paired ls lt own mids low (local_get x) rest cs z t ih h = by_calls y ls _ rest (copy_calls ls _ x rest) h
@@ -141,7 +145,8 @@ module _ (m : Module) (f : Func) (y : ℕ) (extra : length (locals_of m f) ≤ y
   on_paired ls lt own mids low (local_tee x) rest cs z t ih h = by_calls y ls _ rest (copy_calls ls x _ rest) h
   on_paired ls lt own mids low (br j) rest cs z t ih h = cc
   on_paired ls lt own mids low (br_if j) rest cs z t ih h =
-      by_calls y ls _ (leaps_if (Local (top n (own ++ low))) j rest) (carry_calls n ls (length lt - suc j) (slice_get lt j) (drop 1 (own ++ low)) (leaps_if (Local (top n (own ++ low))) j rest)) (if_left y ls (top n (own ++ low)) j rest h)
+      by_calls y ls _ (leaps_if (Local (top n (own ++ low))) j rest) (carry_calls n ls (length lt - suc j) (slice_get lt j) (drop 1 (own ++ low))
+      (leaps_if (Local (top n (own ++ low))) j rest)) (if_left y ls (top n (own ++ low)) j rest h)
   on_paired ls lt own mids low (br_table ts j) rest cs z t ih h = cc
   on_paired ls lt own mids low return rest cs z t ih h = cc
   on_paired ls lt own mids low unreachable rest cs z t ih h = cc
@@ -155,10 +160,13 @@ module _ (m : Module) (f : Func) (y : ℕ) (extra : length (locals_of m f) ≤ y
   last_paired : (ls : List Label) (lt : List (Option ValType)) (ops behind : List ValType) (i : Plain) (rest : Stmts) → is_last i ≡ true → P y ls (flat_plain n c lt ops behind i rest)
   last_paired ls lt ops behind (br j) rest z = by_calls y ls _ (leaps j no_more) (carry_calls n ls (length lt - suc j) (slice_get lt j) ops (leaps j no_more)) (leap_left y ls j)
   last_paired ls lt ops behind (br_table ts j) rest z =
-      by_calls y ls _ (carry n lt (drop 1 ops) j (leaps_by (Local (top n ops)) ts j no_more)) (carries_calls n ls lt (drop 1 ops) ts (carry n lt (drop 1 ops) j (leaps_by (Local (top n ops)) ts j no_more)))
-      (by_calls y ls _ (leaps_by (Local (top n ops)) ts j no_more) (carry_calls n ls (length lt - suc j) (slice_get lt j) (drop 1 ops) (leaps_by (Local (top n ops)) ts j no_more)) (table_left y ls (top n ops) ts j))
+      by_calls y ls _ (carry n lt (drop 1 ops) j (leaps_by (Local (top n ops)) ts j no_more))
+      (carries_calls n ls lt (drop 1 ops) ts (carry n lt (drop 1 ops) j (leaps_by (Local (top n ops)) ts j no_more)))
+      (by_calls y ls _ (leaps_by (Local (top n ops)) ts j no_more) (carry_calls n ls (length lt - suc j) (slice_get lt j) (drop 1 ops) (leaps_by (Local (top n ops)) ts j no_more))
+      (table_left y ls (top n ops) ts j))
   last_paired ls lt ops behind return rest z =
-      by_calls y ls _ (leaps (length lt - 1) no_more) (carry_calls n ls (length lt - suc (length lt - 1)) (slice_get lt (length lt - 1)) ops (leaps (length lt - 1) no_more)) (leap_left y ls (length lt - 1))
+      by_calls y ls _ (leaps (length lt - 1) no_more) (carry_calls n ls (length lt - suc (length lt - 1)) (slice_get lt (length lt - 1)) ops (leaps (length lt - 1) no_more))
+      (leap_left y ls (length lt - 1))
   last_paired ls lt ops behind unreachable rest z = halt_left y ls
   last_paired ls lt ops behind (basic b) rest z = cc
   last_paired ls lt ops behind (local_get x) rest z = cc
@@ -174,15 +182,19 @@ module _ (m : Module) (f : Func) (y : ℕ) (extra : length (locals_of m f) ≤ y
   abbrev Out : List Label → Bool
   Out ls = (told y ls).out
 
-  code_paired : (ls : List Label) (q : Option ValType) (lt : List (Option ValType)) (code : Code) (outs own low : List ValType) → slice_get (q ∷ lt) (length lt) ≡ Some c.result → (q ≡ None) ⊎ (outs ≡ listed q)
-      → Conds m f y extra (Tos ls) (Out ls) (q ∷ lt) low → Ends m f y extra (Tos ls) (Out ls) (length lt) q outs low → Good n c (q ∷ lt) code outs own low → P y ls (flat n c (q ∷ lt) code (own ++ low))
+  code_paired : (ls : List Label) (q : Option ValType) (lt : List (Option ValType)) (code : Code) (outs own low : List ValType) → slice_get (q ∷ lt) (length lt) ≡ Some c.result
+      → (q ≡ None) ⊎ (outs ≡ listed q)
+      → Conds m f y extra (Tos ls) (Out ls) (q ∷ lt) low → Ends m f y extra (Tos ls) (Out ls) (length lt) q outs low → Good n c (q ∷ lt) code outs own low
+      → P y ls (flat n c (q ∷ lt) code (own ++ low))
   unfolding flat Good behind_calls code_of stacks_in
   code_paired ls q lt done outs own low la hd cs en g = by_calls y ls _ no_more (carry_calls n ls (length (q ∷ lt) - 1) (Some q) (own ++ low) no_more) (none_left y ls)
   code_paired ls q lt (plain i rest) outs own low la hd cs en g =
-      by (is_last i) refl (λ gr. code_paired ls q lt rest outs g.1 low la hd cs en gr) (λ gr z. code_live m f y extra ft.small ft.small_sort (Tos ls) (Out ls) q lt rest outs g.1 low la hd cs en gr z) g.3
+      by (is_last i) refl (λ gr. code_paired ls q lt rest outs g.1 low la hd cs en gr)
+      (λ gr z. code_live m f y extra ft.small ft.small_sort (Tos ls) (Out ls) q lt rest outs g.1 low la hd cs en gr z) g.3
     where
       by : (b : Bool) → is_last i ≡ b → (Good n c (q ∷ lt) rest outs g.1 low → P y ls (flat n c (q ∷ lt) rest (g.1 ++ low)))
-          → (Good n c (q ∷ lt) rest outs g.1 low → live y (Tos ls) (Out ls) (code_of (flat n c (q ∷ lt) rest (g.1 ++ low))) ≡ true → S m f y extra (g.1 ++ low)) → GoesOn b (Good n c (q ∷ lt) rest outs g.1 low)
+          → (Good n c (q ∷ lt) rest outs g.1 low → live y (Tos ls) (Out ls) (code_of (flat n c (q ∷ lt) rest (g.1 ++ low))) ≡ true → S m f y extra (g.1 ++ low))
+          → GoesOn b (Good n c (q ∷ lt) rest outs g.1 low)
           → P y ls (flat_plain n c (q ∷ lt) (own ++ low) (after (sig c (q ∷ lt) i) (own ++ low)) i (flat n c (q ∷ lt) rest (after (sig c (q ∷ lt) i) (own ++ low))))
       by true z ih il gr = last_paired ls (q ∷ lt) (own ++ low) (after (sig c (q ∷ lt) i) (own ++ low)) i (flat n c (q ∷ lt) rest (after (sig c (q ∷ lt) i) (own ++ low))) z
       by false z ih il gr =
@@ -193,14 +205,17 @@ module _ (m : Module) (f : Func) (y : ℕ) (extra : length (locals_of m f) ≤ y
       let k : Bool = live y (Tos ls) (Out ls) (code_of behind_code) in
       let assoc : (listed r ++ own) ++ low ≡ listed r ++ (own ++ low) = append_assoc (listed r) own low in
       let rest_it : live y (Tos ls) (Out ls) (code_of (flat n c (q ∷ lt) rest (listed r ++ (own ++ low)))) ≡ true → S m f y extra (listed r ++ (own ++ low)) =
-      subst (λ ts. live y (Tos ls) (Out ls) (code_of (flat n c (q ∷ lt) rest ts)) ≡ true → S m f y extra ts) assoc (code_live m f y extra ft.small ft.small_sort (Tos ls) (Out ls) q lt rest outs (listed r ++ own) low la hd cs en g.3) in
+      subst (λ ts. live y (Tos ls) (Out ls) (code_of (flat n c (q ∷ lt) rest ts)) ≡ true → S m f y extra ts) assoc
+      (code_live m f y extra ft.small ft.small_sort (Tos ls) (Out ls) q lt rest outs (listed r ++ own) low la hd cs en g.3) in
       let behind : k ≡ true → AtLabel m f y extra (Tos ls) (Out ls) (length (q ∷ lt)) r (own ++ low) =
       arrive_live m f y extra (Tos ls) (Out ls) (length (q ∷ lt)) r (own ++ low) (flat n c (q ∷ lt) rest (listed r ++ (own ++ low))) rest_it in
-      let inner = code_paired (goes_behind (code_of behind_code) ∷ ls) r (q ∷ lt) body (listed r) [] (own ++ low) la (inr refl) (inner_conds m f y extra (Tos ls) (Out ls) k (q ∷ lt) r own low cs behind k)
+      let inner = code_paired (goes_behind (code_of behind_code) ∷ ls) r (q ∷ lt) body (listed r) [] (own ++ low) la (inr refl)
+      (inner_conds m f y extra (Tos ls) (Out ls) k (q ∷ lt) r own low cs behind k)
       (λ e. label_deeper m f y extra (Tos ls) (Out ls) (length (q ∷ lt)) r (listed r) (own ++ low) (behind e)) g.2 in
       let outer = by_calls y ls behind_code (flat n c (q ∷ lt) rest (listed r ++ (own ++ low))) (arrive_calls n ls (length (q ∷ lt)) r (own ++ low) (flat n c (q ∷ lt) rest (listed r ++ (own ++ low))))
       (subst (λ ts. P y ls (flat n c (q ∷ lt) rest ts)) assoc (code_paired ls q lt rest outs (listed r ++ own) low la hd cs en g.3)) in
-      paired_on y (behind_calls (goes_behind (code_of behind_code) ∷ ls) (code_of (flat n c (r ∷ q ∷ lt) body (own ++ low)))) (behind_calls ls (code_of behind_code)) (stacks_in (flat n c (r ∷ q ∷ lt) body (own ++ low))) (stacks_in behind_code) inner outer
+      paired_on y (behind_calls (goes_behind (code_of behind_code) ∷ ls) (code_of (flat n c (r ∷ q ∷ lt) body (own ++ low)))) (behind_calls ls (code_of behind_code))
+      (stacks_in (flat n c (r ∷ q ∷ lt) body (own ++ low))) (stacks_in behind_code) inner outer
   code_paired ls q lt (nest a_loop r body rest) outs own low la hd cs en g =
       let behind_code : Stmts = flat n c (q ∷ lt) rest (listed r ++ (own ++ low)) in
       let inner_code : Stmts = flat n c (None ∷ q ∷ lt) body (own ++ low) in
@@ -208,34 +223,42 @@ module _ (m : Module) (f : Func) (y : ℕ) (extra : length (locals_of m f) ≤ y
       let again : Bool = live y (false ∷ Tos ls) k (code_of inner_code) in
       let assoc : (listed r ++ own) ++ low ≡ listed r ++ (own ++ low) = append_assoc (listed r) own low in
       let rest_it : k ≡ true → S m f y extra (listed r ++ (own ++ low)) =
-      subst (λ ts. live y (Tos ls) (Out ls) (code_of (flat n c (q ∷ lt) rest ts)) ≡ true → S m f y extra ts) assoc (code_live m f y extra ft.small ft.small_sort (Tos ls) (Out ls) q lt rest outs (listed r ++ own) low la hd cs en g.3) in
+      subst (λ ts. live y (Tos ls) (Out ls) (code_of (flat n c (q ∷ lt) rest ts)) ≡ true → S m f y extra ts) assoc
+      (code_live m f y extra ft.small ft.small_sort (Tos ls) (Out ls) q lt rest outs (listed r ++ own) low la hd cs en g.3) in
       let at_again : again ≡ true → S m f y extra (own ++ low) =
-      code_live m f y extra ft.small ft.small_sort (false ∷ Tos ls) k None (q ∷ lt) body (listed r) [] (own ++ low) la (inl refl) (inner_conds m f y extra (Tos ls) (Out ls) false (q ∷ lt) None own low cs (λ e. cc) k) rest_it g.2 in
+      code_live m f y extra ft.small ft.small_sort (false ∷ Tos ls) k None (q ∷ lt) body (listed r) [] (own ++ low) la (inl refl)
+      (inner_conds m f y extra (Tos ls) (Out ls) false (q ∷ lt) None own low cs (λ e. cc) k) rest_it g.2 in
       let inner = code_paired (goes_again (code_of inner_code) (code_of behind_code) ∷ ls) None (q ∷ lt) body (listed r) [] (own ++ low) la (inl refl)
       (inner_conds m f y extra (Tos ls) (Out ls) again (q ∷ lt) None own low cs at_again k) rest_it g.2 in
       let outer = subst (λ ts. P y ls (flat n c (q ∷ lt) rest ts)) assoc (code_paired ls q lt rest outs (listed r ++ own) low la hd cs en g.3) in
-      paired_on y (behind_calls (goes_again (code_of inner_code) (code_of behind_code) ∷ ls) (code_of inner_code)) (behind_calls ls (code_of behind_code)) (stacks_in inner_code) (stacks_in behind_code) inner outer
+      paired_on y (behind_calls (goes_again (code_of inner_code) (code_of behind_code) ∷ ls) (code_of inner_code)) (behind_calls ls (code_of behind_code)) (stacks_in inner_code)
+      (stacks_in behind_code) inner outer
   code_paired ls q lt (branch r a b rest) outs own low la hd cs en g =
       let below : List ValType = g.2 in
       let eo : drop 1 (own ++ low) ≡ below ++ low = ap (λ z. drop 1 (z ++ low)) g.3 in
-      subst (λ ds. P y ls (decides (Local (top n (own ++ low))) (flat n c (r ∷ q ∷ lt) a ds) (flat n c (r ∷ q ∷ lt) b ds) (arrive n (length (q ∷ lt)) r ds (flat n c (q ∷ lt) rest (listed r ++ ds))))) (sym eo)
+      subst (λ ds. P y ls (decides (Local (top n (own ++ low))) (flat n c (r ∷ q ∷ lt) a ds) (flat n c (r ∷ q ∷ lt) b ds)
+      (arrive n (length (q ∷ lt)) r ds (flat n c (q ∷ lt) rest (listed r ++ ds))))) (sym eo)
       (let behind_code : Stmts = arrive n (length (q ∷ lt)) r (below ++ low) (flat n c (q ∷ lt) rest (listed r ++ (below ++ low))) in
       let k : Bool = live y (Tos ls) (Out ls) (code_of behind_code) in
       let assoc : (listed r ++ below) ++ low ≡ listed r ++ (below ++ low) = append_assoc (listed r) below low in
       let rest_it : live y (Tos ls) (Out ls) (code_of (flat n c (q ∷ lt) rest (listed r ++ (below ++ low)))) ≡ true → S m f y extra (listed r ++ (below ++ low)) =
-      subst (λ ts. live y (Tos ls) (Out ls) (code_of (flat n c (q ∷ lt) rest ts)) ≡ true → S m f y extra ts) assoc (code_live m f y extra ft.small ft.small_sort (Tos ls) (Out ls) q lt rest outs (listed r ++ below) low la hd cs en g.6) in
+      subst (λ ts. live y (Tos ls) (Out ls) (code_of (flat n c (q ∷ lt) rest ts)) ≡ true → S m f y extra ts) assoc
+      (code_live m f y extra ft.small ft.small_sort (Tos ls) (Out ls) q lt rest outs (listed r ++ below) low la hd cs en g.6) in
       let behind : k ≡ true → AtLabel m f y extra (Tos ls) (Out ls) (length (q ∷ lt)) r (below ++ low) =
       arrive_live m f y extra (Tos ls) (Out ls) (length (q ∷ lt)) r (below ++ low) (flat n c (q ∷ lt) rest (listed r ++ (below ++ low))) rest_it in
       let conds = inner_conds m f y extra (Tos ls) (Out ls) k (q ∷ lt) r below low cs behind k in
-      let ends : k ≡ true → AtLabel m f y extra (k ∷ Tos ls) k (length (q ∷ lt)) r (listed r ++ (below ++ low)) = λ e. label_deeper m f y extra (k ∷ Tos ls) k (length (q ∷ lt)) r (listed r) (below ++ low) (behind e) in
+      let ends : k ≡ true → AtLabel m f y extra (k ∷ Tos ls) k (length (q ∷ lt)) r (listed r ++ (below ++ low)) = λ e. label_deeper m f y extra (k ∷ Tos ls) k (length (q ∷ lt)) r
+      (listed r) (below ++ low) (behind e) in
       let one = code_paired (goes_behind (code_of behind_code) ∷ ls) r (q ∷ lt) a (listed r) [] (below ++ low) la (inr refl) conds ends g.4 in
       let two = code_paired (goes_behind (code_of behind_code) ∷ ls) r (q ∷ lt) b (listed r) [] (below ++ low) la (inr refl) conds ends g.5 in
-      let outer = by_calls y ls behind_code (flat n c (q ∷ lt) rest (listed r ++ (below ++ low))) (arrive_calls n ls (length (q ∷ lt)) r (below ++ low) (flat n c (q ∷ lt) rest (listed r ++ (below ++ low))))
+      let outer = by_calls y ls behind_code (flat n c (q ∷ lt) rest (listed r ++ (below ++ low)))
+      (arrive_calls n ls (length (q ∷ lt)) r (below ++ low) (flat n c (q ∷ lt) rest (listed r ++ (below ++ low))))
       (subst (λ ts. P y ls (flat n c (q ∷ lt) rest ts)) assoc (code_paired ls q lt rest outs (listed r ++ below) low la hd cs en g.6)) in
       let la1 : List Label = goes_behind (code_of behind_code) ∷ ls in
       paired_on y (behind_calls la1 (code_of (flat n c (r ∷ q ∷ lt) a (below ++ low)))) (behind_calls la1 (code_of (flat n c (r ∷ q ∷ lt) b (below ++ low))) ++ behind_calls ls (code_of behind_code))
       (stacks_in (flat n c (r ∷ q ∷ lt) a (below ++ low))) (stacks_in (flat n c (r ∷ q ∷ lt) b (below ++ low)) ++ stacks_in behind_code) one
-      (paired_on y (behind_calls la1 (code_of (flat n c (r ∷ q ∷ lt) b (below ++ low)))) (behind_calls ls (code_of behind_code)) (stacks_in (flat n c (r ∷ q ∷ lt) b (below ++ low))) (stacks_in behind_code) two outer))
+      (paired_on y (behind_calls la1 (code_of (flat n c (r ∷ q ∷ lt) b (below ++ low)))) (behind_calls ls (code_of behind_code)) (stacks_in (flat n c (r ∷ q ∷ lt) b (below ++ low)))
+      (stacks_in behind_code) two outer))
 
   -- ---- the whole body
 

@@ -138,7 +138,8 @@ module _ (m : Module) (f : Func) (y : ℕ) (extra : length (locals_of m f) ≤ y
     live_carry d None ops more rest e h = inr (tt, h)
     live_carry d (Some t) ops more rest e h = ⊎_elim (λ a. inl (top_in t more ops e a)) (λ b. inr b) (live_copy (result_local n d t) (top n ops) rest h)
 
-    carry_at : (ls : List (Option ValType)) (j : ℕ) (r : Option ValType) (ops more : List ValType) (rest : Stmts) → slice_get ls j ≡ Some r → ops ≡ listed r ++ more → L (code_of (carry n ls ops j rest))
+    carry_at : (ls : List (Option ValType)) (j : ℕ) (r : Option ValType) (ops more : List ValType) (rest : Stmts) → slice_get ls j ≡ Some r → ops ≡ listed r ++ more
+        → L (code_of (carry n ls ops j rest))
         → S ops ⊎ (NotAt (length ls - suc j) r × L (code_of rest))
     carry_at ls j r ops more rest er e h = live_carry (length ls - suc j) r ops more rest e (subst (λ o. L (code_of (carry_to n (length ls - suc j) o ops rest))) er h)
 
@@ -147,7 +148,8 @@ module _ (m : Module) (f : Func) (y : ℕ) (extra : length (locals_of m f) ≤ y
     NotAll ls r [] = Unit {0}
     NotAll ls r (j ∷ js) = NotAt (length ls - suc j) r × NotAll ls r js
 
-    carry_each : (ls : List (Option ValType)) (js : List ℕ) (r : Option ValType) (ops more : List ValType) (rest : Stmts) → AllLabels ls r js → ops ≡ listed r ++ more → L (code_of (carry_all n ls ops js rest))
+    carry_each : (ls : List (Option ValType)) (js : List ℕ) (r : Option ValType) (ops more : List ValType) (rest : Stmts) → AllLabels ls r js → ops ≡ listed r ++ more
+        → L (code_of (carry_all n ls ops js rest))
         → S ops ⊎ (NotAll ls r js × L (code_of rest))
     carry_each ls [] r ops more rest al e h = inr (tt, h)
     carry_each ls (j ∷ js) r ops more rest al e h =
@@ -204,7 +206,8 @@ module _ (m : Module) (f : Func) (y : ℕ) (extra : length (locals_of m f) ≤ y
       low_in h = s_behind own low h
 
       -- a result goes to its slot, and the rest reads slots alone
-      behind_result : (k : ℕ) (outs below : List ValType) (ins : List ValType) (rest : Stmts) → length outs ≡ k → k ≤ 1 → mids ≡ outs ++ below → own ≡ ins ++ below → (L (code_of rest) → S (mids ++ low))
+      behind_result : (k : ℕ) (outs below : List ValType) (ins : List ValType) (rest : Stmts) → length outs ≡ k → k ≤ 1 → mids ≡ outs ++ below → own ≡ ins ++ below
+          → (L (code_of rest) → S (mids ++ low))
           → L (set_to (top_of n k (mids ++ low)) (code_of rest)) → S ops
       behind_result k outs below ins rest el le em eo ih h =
           let p = live_to (top_of n k (mids ++ low)) (code_of rest) h in
@@ -219,25 +222,29 @@ module _ (m : Module) (f : Func) (y : ℕ) (extra : length (locals_of m f) ≤ y
       basic_live b rest t ih h =
           let ex = exactly (basic_sig c b) (takes b) (gives b) own mids (sized c b) t in
           let xs : List ℕ = reverse (take (takes b) (slots n ops)) in
-          ⊎_elim (λ a. among_taken y (takes b) (slots n ops) (among_back y (take (takes b) (slots n ops)) a)) (λ z. behind_result (gives b) ex.outs ex.below ex.ins rest ex.few (gives_one b) ex.mids_is ex.own_is ih z)
+          ⊎_elim (λ a. among_taken y (takes b) (slots n ops) (among_back y (take (takes b) (slots n ops)) a))
+          (λ z. behind_result (gives b) ex.outs ex.below ex.ins rest ex.few (gives_one b) ex.mids_is ex.own_is ih z)
           (live_all xs (plain (basic b) (set_to (top_of n (gives b) (mids ++ low)) (code_of rest))) h)
         where
           gives_one : (b : Basic) → gives b ≤ 1
           gives_one b = grind arith
 
-      get_live : (x : ℕ) (rest : Stmts) → Takes (gets (slice_get c.locals x)) own mids → (L (code_of rest) → S (mids ++ low)) → L (code_of (flat_plain n c ls ops (mids ++ low) (local_get x) rest)) → S ops
+      get_live : (x : ℕ) (rest : Stmts) → Takes (gets (slice_get c.locals x)) own mids → (L (code_of rest) → S (mids ++ low))
+          → L (code_of (flat_plain n c ls ops (mids ++ low) (local_get x) rest)) → S ops
       get_live x rest t ih h = by (slice_get (locals_of m f) x) refl t
         where
           by : (o : Option ValType) → slice_get (locals_of m f) x ≡ o → Takes (gets o) own mids → S ops
           by None eo t = absurd t
           by (Some u) eo t =
-              ⊎_elim (λ a. absurd (own_not x u eo a)) (λ b. subst S (ap (λ z. z ++ low) (sym t.1)) (without_result 1 (u ∷ []) (t.0 ++ low) (mids ++ low) refl (omega arith) (ap (λ z. z ++ low) t.2) (λ e. b.0 (some_is e)) (ih b.1)))
+              ⊎_elim (λ a. absurd (own_not x u eo a)) (λ b. subst S (ap (λ z. z ++ low) (sym t.1))
+              (without_result 1 (u ∷ []) (t.0 ++ low) (mids ++ low) refl (omega arith) (ap (λ z. z ++ low) t.2) (λ e. b.0 (some_is e)) (ih b.1)))
               (live_copy (top n (mids ++ low)) x rest h)
             where
               some_is : top_of n 1 (mids ++ low) ≡ Some y → y ≡ top n (mids ++ low)
               some_is e = cc
 
-      set_live : (x : ℕ) (rest : Stmts) → Takes (sets (slice_get c.locals x)) own mids → (L (code_of rest) → S (mids ++ low)) → L (code_of (flat_plain n c ls ops (mids ++ low) (local_set x) rest)) → S ops
+      set_live : (x : ℕ) (rest : Stmts) → Takes (sets (slice_get c.locals x)) own mids → (L (code_of rest) → S (mids ++ low))
+          → L (code_of (flat_plain n c ls ops (mids ++ low) (local_set x) rest)) → S ops
       set_live x rest t ih h = by (slice_get (locals_of m f) x) refl t
         where
           by : (o : Option ValType) → slice_get (locals_of m f) x ≡ o → Takes (sets o) own mids → S ops
@@ -246,7 +253,8 @@ module _ (m : Module) (f : Func) (y : ℕ) (extra : length (locals_of m f) ≤ y
               let all : ops ≡ u ∷ (t.0 ++ low) = ap (λ z. z ++ low) t.1 in
               ⊎_elim (λ a. top_in u (t.0 ++ low) ops all a) (λ b. subst S (sym all) (inr (subst S (ap (λ z. z ++ low) t.2) (ih b.1)))) (live_copy x (top n ops) rest h)
 
-      tee_live : (x : ℕ) (rest : Stmts) → Takes (tees (slice_get c.locals x)) own mids → (L (code_of rest) → S (mids ++ low)) → L (code_of (flat_plain n c ls ops (mids ++ low) (local_tee x) rest)) → S ops
+      tee_live : (x : ℕ) (rest : Stmts) → Takes (tees (slice_get c.locals x)) own mids → (L (code_of rest) → S (mids ++ low))
+          → L (code_of (flat_plain n c ls ops (mids ++ low) (local_tee x) rest)) → S ops
       tee_live x rest t ih h = by (slice_get (locals_of m f) x) refl t
         where
           by : (o : Option ValType) → slice_get (locals_of m f) x ≡ o → Takes (tees o) own mids → S ops
@@ -286,7 +294,8 @@ module _ (m : Module) (f : Func) (y : ℕ) (extra : length (locals_of m f) ≤ y
               (live_get (top n ops) (plain (br_if j) (code_of rest)) b.1))
               (carry_at ls j r (drop 1 ops) more (leaps_if (Local (top n ops)) j rest) eo (ap (drop 1) all) h)
 
-      table_live : (ts : List ℕ) (j : ℕ) (behind : List ValType) (rest : Stmts) → Takes (jumps_sig ls ts (slice_get ls j)) own mids → L (code_of (flat_plain n c ls ops behind (br_table ts j) rest)) → S ops
+      table_live : (ts : List ℕ) (j : ℕ) (behind : List ValType) (rest : Stmts) → Takes (jumps_sig ls ts (slice_get ls j)) own mids
+          → L (code_of (flat_plain n c ls ops behind (br_table ts j) rest)) → S ops
       unfolding code_of live
       table_live ts j behind rest t h = by (slice_get ls j) refl t
         where
@@ -311,7 +320,8 @@ module _ (m : Module) (f : Func) (y : ℕ) (extra : length (locals_of m f) ≤ y
               (carry_each ls ts r (drop 1 ops) more (carry n ls (drop 1 ops) j (leaps_by (Local (top n ops)) ts j no_more)) q.0 (ap (drop 1) all) h)
 
       -- the operands of a call are slots, and its result goes to one
-      stack_live : (i : Plain) (k : ℕ) (to : Option ℕ) (rest : Stmts) → (L (set_to to (code_of rest)) → S ops) → live_plain y tos i ≡ (λ b. b) → L (code_of (calls (plain i done) (reverse (slots n ops)) k to rest)) → S ops
+      stack_live : (i : Plain) (k : ℕ) (to : Option ℕ) (rest : Stmts) → (L (set_to to (code_of rest)) → S ops) → live_plain y tos i ≡ (λ b. b)
+          → L (code_of (calls (plain i done) (reverse (slots n ops)) k to rest)) → S ops
       unfolding code_of followed_by live
       stack_live i k to rest ih plain_on h =
           let xs : List ℕ = reverse (slots n ops) in
@@ -320,7 +330,8 @@ module _ (m : Module) (f : Func) (y : ℕ) (extra : length (locals_of m f) ≤ y
 
       module _ (small : (x : ℕ) → length (func_type_at m x).results ≤ 1) (small_sort : (t : ℕ) → length (type_at m t).results ≤ 1) where
         -- behind the call itself
-        pub call_behind : (x : ℕ) (rest : Stmts) → Takes (calls_sig (slice_get c.funcs x)) own mids → (L (code_of rest) → S (mids ++ low)) → L (set_to (top_of n (length (func_type_at m x).results) (mids ++ low)) (code_of rest)) → S ops
+        pub call_behind : (x : ℕ) (rest : Stmts) → Takes (calls_sig (slice_get c.funcs x)) own mids → (L (code_of rest) → S (mids ++ low))
+            → L (set_to (top_of n (length (func_type_at m x).results) (mids ++ low)) (code_of rest)) → S ops
         call_behind x rest t ih h = by (slice_get (func_types m) x) refl t
           where
             by : (o : Option FuncType) → slice_get (func_types m) x ≡ o → Takes (calls_sig o) own mids → S ops
@@ -329,7 +340,8 @@ module _ (m : Module) (f : Func) (y : ℕ) (extra : length (locals_of m f) ≤ y
                 let eu : length u.results ≡ length (func_type_at m x).results = ap (λ (q : FuncType). length q.results) (sym (ap or_empty eo)) in
                 behind_result (length (func_type_at m x).results) (reverse u.results) t.0 (reverse u.params) rest (length-reverse u.results ∙ eu) (small x) t.2 t.1 ih h
 
-        pub indirect_behind : (sort : ℕ) (rest : Stmts) → Takes (calls_at c.table (slice_get m.types sort)) own mids → (L (code_of rest) → S (mids ++ low)) → L (set_to (top_of n (length (type_at m sort).results) (mids ++ low)) (code_of rest)) → S ops
+        pub indirect_behind : (sort : ℕ) (rest : Stmts) → Takes (calls_at c.table (slice_get m.types sort)) own mids → (L (code_of rest) → S (mids ++ low))
+            → L (set_to (top_of n (length (type_at m sort).results) (mids ++ low)) (code_of rest)) → S ops
         indirect_behind sort rest t ih h = by c.table (slice_get m.types sort) refl t
           where
             by : (b : Bool) (o : Option FuncType) → slice_get m.types sort ≡ o → Takes (calls_at b o) own mids → S ops
@@ -350,9 +362,11 @@ module _ (m : Module) (f : Func) (y : ℕ) (extra : length (locals_of m f) ≤ y
         on_live return rest z t ih h = cc
         on_live unreachable rest z t ih h = cc
         on_live (call x) rest z t ih h = stack_live (call x) (length (func_type_at m x).params) (top_of n (length (func_type_at m x).results) (mids ++ low)) rest (call_behind x rest t ih) refl h
-        on_live (call_indirect sort) rest z t ih h = stack_live (call_indirect sort) (suc (length (type_at m sort).params)) (top_of n (length (type_at m sort).results) (mids ++ low)) rest (indirect_behind sort rest t ih) refl h
+        on_live (call_indirect sort) rest z t ih h = stack_live (call_indirect sort) (suc (length (type_at m sort).params))
+            (top_of n (length (type_at m sort).results) (mids ++ low)) rest (indirect_behind sort rest t ih) refl h
 
-      last_live : (i : Plain) (behind : List ValType) (rest : Stmts) → slice_get ls (length ls - 1) ≡ Some c.result → is_last i ≡ true → Takes (sig c ls i) own mids → L (code_of (flat_plain n c ls ops behind i rest)) → S ops
+      last_live : (i : Plain) (behind : List ValType) (rest : Stmts) → slice_get ls (length ls - 1) ≡ Some c.result → is_last i ≡ true → Takes (sig c ls i) own mids
+          → L (code_of (flat_plain n c ls ops behind i rest)) → S ops
       unfolding code_of live
       last_live (br j) behind rest la z t h = br_live j t h
       last_live (br_table ts j) behind rest la z t h = table_live ts j behind rest t h
@@ -369,7 +383,8 @@ module _ (m : Module) (f : Func) (y : ℕ) (extra : length (locals_of m f) ≤ y
   -- ---- code
 
   -- behind a construct's end
-  pub arrive_live : (tos : List Bool) (out : Bool) (d : ℕ) (r : Option ValType) (ops : List ValType) (rest : Stmts) → (L tos out (code_of rest) → S (listed r ++ ops)) → L tos out (code_of (arrive n d r ops rest)) → AtLabel tos out d r ops
+  pub arrive_live : (tos : List Bool) (out : Bool) (d : ℕ) (r : Option ValType) (ops : List ValType) (rest : Stmts) → (L tos out (code_of rest) → S (listed r ++ ops))
+      → L tos out (code_of (arrive n d r ops rest)) → AtLabel tos out d r ops
   arrive_live tos out d None ops rest ih h = ih h
   arrive_live tos out d (Some t) ops rest ih h = ⊎_elim (λ a. inl a) (λ b. inr (by (ih b.1) b.0)) (live_copy tos out (slot n (length ops) t) (result_local n d t) rest h)
     where
@@ -378,7 +393,8 @@ module _ (m : Module) (f : Func) (y : ℕ) (extra : length (locals_of m f) ≤ y
       by (inr b) z = b
 
   -- inside one more label
-  pub inner_conds : (tos : List Bool) (out k : Bool) (ls : List (Option ValType)) (r : Option ValType) (own low : List ValType) → Conds tos out ls low → (k ≡ true → AtLabel tos out (length ls) r (own ++ low)) → (out' : Bool) → Conds (k ∷ tos) out' (r ∷ ls) (own ++ low)
+  pub inner_conds : (tos : List Bool) (out k : Bool) (ls : List (Option ValType)) (r : Option ValType) (own low : List ValType) → Conds tos out ls low
+      → (k ≡ true → AtLabel tos out (length ls) r (own ++ low)) → (out' : Bool) → Conds (k ∷ tos) out' (r ∷ ls) (own ++ low)
   inner_conds tos out k ls r own low cs h out' zero q e told =
       let z : r ≡ q = some_is e in
       let d : length ls ≡ length (r ∷ ls) - 1 = omega arith in
@@ -399,33 +415,41 @@ module _ (m : Module) (f : Func) (y : ℕ) (extra : length (locals_of m f) ≤ y
       same d (Some t) h = h
 
   module _ (small : (x : ℕ) → length (func_type_at m x).results ≤ 1) (small_sort : (t : ℕ) → length (type_at m t).results ≤ 1) where
-    pub code_live : (tos : List Bool) (out : Bool) (q : Option ValType) (lt : List (Option ValType)) (code : Code) (outs own low : List ValType) → slice_get (q ∷ lt) (length lt) ≡ Some c.result → (q ≡ None) ⊎ (outs ≡ listed q)
-        → Conds tos out (q ∷ lt) low → Ends tos out (length lt) q outs low → Good n c (q ∷ lt) code outs own low → live y tos out (code_of (flat n c (q ∷ lt) code (own ++ low))) ≡ true → S (own ++ low)
+    pub code_live : (tos : List Bool) (out : Bool) (q : Option ValType) (lt : List (Option ValType)) (code : Code) (outs own low : List ValType)
+        → slice_get (q ∷ lt) (length lt) ≡ Some c.result → (q ≡ None) ⊎ (outs ≡ listed q)
+        → Conds tos out (q ∷ lt) low → Ends tos out (length lt) q outs low → Good n c (q ∷ lt) code outs own low → live y tos out (code_of (flat n c (q ∷ lt) code (own ++ low))) ≡ true
+        → S (own ++ low)
     unfolding flat Good live code_of
     code_live tos out q lt done outs own low la (inl none) cs en g h =
         let e = subst (λ r. AtLabel tos out (length lt) r (outs ++ low)) none (en (subst (λ r. L tos out (code_of (carry_to n (length (q ∷ lt) - 1) (Some r) (own ++ low) no_more))) none h)) in
         subst S (ap (λ z. z ++ low) (sym g.1)) e
     code_live tos out q lt done outs own low la (inr value) cs en g h =
         ⊎_elim (λ a. a)
-        (λ b. let d : length (q ∷ lt) - 1 ≡ length lt = omega arith in subst S (ap (λ z. z ++ low) (sym g.1)) (not_there tos out (length lt) q (outs ++ low) (subst (λ i. NotAt tos out i q) d b.0) (en b.1)))
+        (λ b. let d : length (q ∷ lt) - 1 ≡ length lt = omega arith in subst S (ap (λ z. z ++ low) (sym g.1))
+        (not_there tos out (length lt) q (outs ++ low) (subst (λ i. NotAt tos out i q) d b.0) (en b.1)))
         (live_carry tos out (length (q ∷ lt) - 1) q (own ++ low) low no_more (ap (λ z. z ++ low) (g.1 ∙ value)) h)
     code_live tos out q lt (plain i rest) outs own low la hd cs en g h = by (is_last i) refl (λ gr z. code_live tos out q lt rest outs g.1 low la hd cs en gr z) g.3 h
       where
-        by : (b : Bool) → is_last i ≡ b → (Good n c (q ∷ lt) rest outs g.1 low → live y tos out (code_of (flat n c (q ∷ lt) rest (g.1 ++ low))) ≡ true → S (g.1 ++ low)) → GoesOn b (Good n c (q ∷ lt) rest outs g.1 low)
-            → live y tos out (code_of (flat_plain n c (q ∷ lt) (own ++ low) (after (sig c (q ∷ lt) i) (own ++ low)) i (flat n c (q ∷ lt) rest (after (sig c (q ∷ lt) i) (own ++ low))))) ≡ true → S (own ++ low)
+        by : (b : Bool) → is_last i ≡ b → (Good n c (q ∷ lt) rest outs g.1 low → live y tos out (code_of (flat n c (q ∷ lt) rest (g.1 ++ low))) ≡ true → S (g.1 ++ low))
+            → GoesOn b (Good n c (q ∷ lt) rest outs g.1 low)
+            → live y tos out (code_of (flat_plain n c (q ∷ lt) (own ++ low) (after (sig c (q ∷ lt) i) (own ++ low)) i (flat n c (q ∷ lt) rest (after (sig c (q ∷ lt) i) (own ++ low)))))
+            ≡ true → S (own ++ low)
         by true z ih gr h =
             let one : length lt ≡ length (q ∷ lt) - 1 = omega arith in
-            last_live tos out (q ∷ lt) own g.1 low cs i (after (sig c (q ∷ lt) i) (own ++ low)) (flat n c (q ∷ lt) rest (after (sig c (q ∷ lt) i) (own ++ low))) (subst (λ j. slice_get (q ∷ lt) j ≡ Some c.result) one la) z g.2 h
+            last_live tos out (q ∷ lt) own g.1 low cs i (after (sig c (q ∷ lt) i) (own ++ low)) (flat n c (q ∷ lt) rest (after (sig c (q ∷ lt) i) (own ++ low)))
+            (subst (λ j. slice_get (q ∷ lt) j ≡ Some c.result) one la) z g.2 h
         by false z ih gr h =
             on_live tos out (q ∷ lt) own g.1 low cs small small_sort i (flat n c (q ∷ lt) rest (g.1 ++ low)) z g.2 (ih gr)
-            (subst (λ behind. live y tos out (code_of (flat_plain n c (q ∷ lt) (own ++ low) behind i (flat n c (q ∷ lt) rest behind))) ≡ true) (after_all c (q ∷ lt) i own g.1 low (own ++ low) z g.2 refl) h)
+            (subst (λ behind. live y tos out (code_of (flat_plain n c (q ∷ lt) (own ++ low) behind i (flat n c (q ∷ lt) rest behind))) ≡ true)
+            (after_all c (q ∷ lt) i own g.1 low (own ++ low) z g.2 refl) h)
     code_live tos out q lt (nest a_block r body rest) outs own low la hd cs en g h =
         let k : Bool = live y tos out (code_of (arrive n (length (q ∷ lt)) r (own ++ low) (flat n c (q ∷ lt) rest (listed r ++ (own ++ low))))) in
         let assoc : (listed r ++ own) ++ low ≡ listed r ++ (own ++ low) = append_assoc (listed r) own low in
         let rest_it : live y tos out (code_of (flat n c (q ∷ lt) rest (listed r ++ (own ++ low)))) ≡ true → S (listed r ++ (own ++ low)) =
         subst (λ ts. live y tos out (code_of (flat n c (q ∷ lt) rest ts)) ≡ true → S ts) assoc (code_live tos out q lt rest outs (listed r ++ own) low la hd cs en g.3) in
         let behind : k ≡ true → AtLabel tos out (length (q ∷ lt)) r (own ++ low) = arrive_live tos out (length (q ∷ lt)) r (own ++ low) (flat n c (q ∷ lt) rest (listed r ++ (own ++ low))) rest_it in
-        code_live (k ∷ tos) k r (q ∷ lt) body (listed r) [] (own ++ low) la (inr refl) (inner_conds tos out k (q ∷ lt) r own low cs behind k) (λ e. label_deeper tos out (length (q ∷ lt)) r (listed r) (own ++ low) (behind e)) g.2 h
+        code_live (k ∷ tos) k r (q ∷ lt) body (listed r) [] (own ++ low) la (inr refl) (inner_conds tos out k (q ∷ lt) r own low cs behind k)
+        (λ e. label_deeper tos out (length (q ∷ lt)) r (listed r) (own ++ low) (behind e)) g.2 h
     code_live tos out q lt (nest a_loop r body rest) outs own low la hd cs en g h =
         let k : Bool = live y tos out (code_of (flat n c (q ∷ lt) rest (listed r ++ (own ++ low)))) in
         let assoc : (listed r ++ own) ++ low ≡ listed r ++ (own ++ low) = append_assoc (listed r) own low in
@@ -442,7 +466,8 @@ module _ (m : Module) (f : Func) (y : ℕ) (extra : length (locals_of m f) ≤ y
         let assoc : (listed r ++ below) ++ low ≡ listed r ++ (below ++ low) = append_assoc (listed r) below low in
         let rest_it : live y tos out (code_of (flat n c (q ∷ lt) rest (listed r ++ (below ++ low)))) ≡ true → S (listed r ++ (below ++ low)) =
         subst (λ ts. live y tos out (code_of (flat n c (q ∷ lt) rest ts)) ≡ true → S ts) assoc (code_live tos out q lt rest outs (listed r ++ below) low la hd cs en g.6) in
-        let behind : k ≡ true → AtLabel tos out (length (q ∷ lt)) r (below ++ low) = arrive_live tos out (length (q ∷ lt)) r (below ++ low) (flat n c (q ∷ lt) rest (listed r ++ (below ++ low))) rest_it in
+        let behind : k ≡ true → AtLabel tos out (length (q ∷ lt)) r (below ++ low) = arrive_live tos out (length (q ∷ lt)) r (below ++ low)
+        (flat n c (q ∷ lt) rest (listed r ++ (below ++ low))) rest_it in
         let inner = inner_conds tos out k (q ∷ lt) r below low cs behind k in
         let ends : k ≡ true → AtLabel (k ∷ tos) k (length (q ∷ lt)) r (listed r ++ (below ++ low)) = λ e. label_deeper (k ∷ tos) k (length (q ∷ lt)) r (listed r) (below ++ low) (behind e) in
         let deeper : S (below ++ low) → S (own ++ low) = λ z. subst S (sym all) (inr z) in
@@ -452,5 +477,6 @@ module _ (m : Module) (f : Func) (y : ℕ) (extra : length (locals_of m f) ≤ y
         ⊎_elim
         (λ u. deeper (code_live (k ∷ tos) k r (q ∷ lt) a (listed r) [] (below ++ low) la (inr refl) inner ends g.4 u))
         (λ u. deeper (code_live (k ∷ tos) k r (q ∷ lt) b (listed r) [] (below ++ low) la (inr refl) inner ends g.5 u))
-        (or_split (live y (k ∷ tos) k (code_of (flat n c (r ∷ q ∷ lt) a (below ++ low)))) (live y (k ∷ tos) k (code_of (flat n c (r ∷ q ∷ lt) b (below ++ low)))) (subst (λ ds. arms ds ≡ true) (ap (drop 1) all) z)))
+        (or_split (live y (k ∷ tos) k (code_of (flat n c (r ∷ q ∷ lt) a (below ++ low)))) (live y (k ∷ tos) k (code_of (flat n c (r ∷ q ∷ lt) b (below ++ low))))
+        (subst (λ ds. arms ds ≡ true) (ap (drop 1) all) z)))
         (or_split (nat_eq y (top n (own ++ low))) (arms (drop 1 (own ++ low))) h)

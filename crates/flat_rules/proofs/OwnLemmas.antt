@@ -100,10 +100,12 @@ module _ (n : Names) where
     carry_gone k None ops more rest e = refl
     carry_gone k (Some t) ops more rest e = copy_gone (result_local n k t) (top n ops) rest (omega arith) (top_extra t more ops e)
 
-    carry_at : (ls : List (Option ValType)) (j : ℕ) (r : Option ValType) (ops more : List ValType) (rest : Stmts) → slice_get ls j ≡ Some r → ops ≡ listed r ++ more → U (code_of (carry n ls ops j rest)) ≡ U (code_of rest)
+    carry_at : (ls : List (Option ValType)) (j : ℕ) (r : Option ValType) (ops more : List ValType) (rest : Stmts) → slice_get ls j ≡ Some r → ops ≡ listed r ++ more
+        → U (code_of (carry n ls ops j rest)) ≡ U (code_of rest)
     carry_at ls j r ops more rest er e = ap (λ o. U (code_of (carry_to n (length ls - suc j) o ops rest))) er ∙ carry_gone (length ls - suc j) r ops more rest e
 
-    carry_each : (ls : List (Option ValType)) (js : List ℕ) (r : Option ValType) (ops more : List ValType) (rest : Stmts) → AllLabels ls r js → ops ≡ listed r ++ more → U (code_of (carry_all n ls ops js rest)) ≡ U (code_of rest)
+    carry_each : (ls : List (Option ValType)) (js : List ℕ) (r : Option ValType) (ops more : List ValType) (rest : Stmts) → AllLabels ls r js → ops ≡ listed r ++ more
+        → U (code_of (carry_all n ls ops js rest)) ≡ U (code_of rest)
     carry_each ls [] r ops more rest al e = refl
     carry_each ls (j ∷ js) r ops more rest al e = carry_at ls j r ops more (carry_all n ls ops js rest) al.0 e ∙ carry_each ls js r ops more rest al.1 e
 
@@ -135,7 +137,8 @@ module _ (m : Module) (f : Func) where
       basic_uses b t =
           let xs : List ℕ = reverse (take (takes b) (slots nn ops)) in
           let h = basic_height c b own mids low t in
-          all_gone nn d xs (plain (basic b) (set_to (top_of nn (gives b) (mids ++ low)) (code_of rest))) (all_reversed (Extra nn) (take (takes b) (slots nn ops)) (All-take (Extra nn) (takes b) (slots nn ops) (extra_slots nn ops)))
+          all_gone nn d xs (plain (basic b) (set_to (top_of nn (gives b) (mids ++ low)) (code_of rest)))
+          (all_reversed (Extra nn) (take (takes b) (slots nn ops)) (All-take (Extra nn) (takes b) (slots nn ops) (extra_slots nn ops)))
           ∙ to_gone nn d (top_of nn (gives b) (mids ++ low)) (code_of rest) (top_of_extra nn (gives b) (mids ++ low) (omega arith))
           ∙ e
 
@@ -143,7 +146,8 @@ module _ (m : Module) (f : Func) where
       unfolding code_of
       get_uses y t = by (slice_get (locals_of m f) y) refl t
         where
-          by : (o : Option ValType) → slice_get (locals_of m f) y ≡ o → Takes (gets o) own mids → V (plain (local_get y) (plain (local_set (top nn (mids ++ low))) (code_of rest))) ≡ V (plain (local_get y) k)
+          by : (o : Option ValType) → slice_get (locals_of m f) y ≡ o → Takes (gets o) own mids
+              → V (plain (local_get y) (plain (local_set (top nn (mids ++ low))) (code_of rest))) ≡ V (plain (local_get y) k)
           by None eo t = absurd t
           by (Some u) eo t =
               got_kept nn d y (plain (local_set (top nn (mids ++ low))) (code_of rest)) (own_local y u eo)
@@ -174,7 +178,8 @@ module _ (m : Module) (f : Func) where
       unfolding code_of uses
       if_uses j t = by (slice_get ls j) refl t
         where
-          by : (o : Option (Option ValType)) → slice_get ls j ≡ o → Takes (may_jump o) own mids → V (code_of (carry nn ls (drop 1 ops) j (leaps_if (Local (top nn ops)) j rest))) ≡ V (plain (br_if j) k)
+          by : (o : Option (Option ValType)) → slice_get ls j ≡ o → Takes (may_jump o) own mids
+              → V (code_of (carry nn ls (drop 1 ops) j (leaps_if (Local (top nn ops)) j rest))) ≡ V (plain (br_if j) k)
           by None eo t = absurd t
           by (Some r) eo t =
               let all : ops ≡ I32 ∷ (listed r ++ (t.0 ++ low)) = ap (λ z. z ++ low) t.1 ∙ ap (λ z. I32 ∷ z) (append_assoc (listed r) t.0 low) in
@@ -194,14 +199,17 @@ module _ (m : Module) (f : Func) where
               let lm : length mids ≡ length (reverse u.results) + length t.0 = ap length t.2 ∙ length-append (reverse u.results) t.0 in
               let rr : length (reverse u.results) ≡ length v.results = length-reverse u.results ∙ ap (λ (q : FuncType). length q.results) eu in
               let xs : List ℕ = reverse (slots nn ops) in
-              slots_gone nn d (last_of (length v.params) xs) (plain (call y) (set_to (top_of nn (length v.results) (mids ++ low)) (code_of rest))) (all_dropped (Extra nn) (length xs - length v.params) xs (all_reversed (Extra nn) (slots nn ops) (extra_slots nn ops)))
+              slots_gone nn d (last_of (length v.params) xs) (plain (call y) (set_to (top_of nn (length v.results) (mids ++ low)) (code_of rest)))
+              (all_dropped (Extra nn) (length xs - length v.params) xs (all_reversed (Extra nn) (slots nn ops) (extra_slots nn ops)))
               ∙ ap (plain (call y)) (to_gone nn d (top_of nn (length v.results) (mids ++ low)) (code_of rest) (top_of_extra nn (length v.results) (mids ++ low) (omega arith)) ∙ e)
 
-      indirect_uses : (sort : ℕ) → Takes (calls_at c.table (slice_get m.types sort)) own mids → V (code_of (flat_plain nn c ls ops (mids ++ low) (call_indirect sort) rest)) ≡ V (plain (call_indirect sort) k)
+      indirect_uses : (sort : ℕ) → Takes (calls_at c.table (slice_get m.types sort)) own mids
+          → V (code_of (flat_plain nn c ls ops (mids ++ low) (call_indirect sort) rest)) ≡ V (plain (call_indirect sort) k)
       unfolding code_of followed_by uses
       indirect_uses sort t = by c.table (slice_get m.types sort) refl t
         where
-          by : (b : Bool) (o : Option FuncType) → slice_get m.types sort ≡ o → Takes (calls_at b o) own mids → V (code_of (flat_plain nn c ls ops (mids ++ low) (call_indirect sort) rest)) ≡ V (plain (call_indirect sort) k)
+          by : (b : Bool) (o : Option FuncType) → slice_get m.types sort ≡ o → Takes (calls_at b o) own mids
+              → V (code_of (flat_plain nn c ls ops (mids ++ low) (call_indirect sort) rest)) ≡ V (plain (call_indirect sort) k)
           by b None eo t = absurd t
           by false (Some u) eo t = absurd t
           by true (Some u) eo t =
@@ -211,7 +219,8 @@ module _ (m : Module) (f : Func) where
               let lm : length mids ≡ length (reverse u.results) + length t.0 = ap length t.2 ∙ length-append (reverse u.results) t.0 in
               let rr : length (reverse u.results) ≡ length v.results = length-reverse u.results ∙ ap (λ (q : FuncType). length q.results) eu in
               let xs : List ℕ = reverse (slots nn ops) in
-              slots_gone nn d (last_of (suc (length v.params)) xs) (plain (call_indirect sort) (set_to (top_of nn (length v.results) (mids ++ low)) (code_of rest))) (all_dropped (Extra nn) (length xs - suc (length v.params)) xs (all_reversed (Extra nn) (slots nn ops) (extra_slots nn ops)))
+              slots_gone nn d (last_of (suc (length v.params)) xs) (plain (call_indirect sort) (set_to (top_of nn (length v.results) (mids ++ low)) (code_of rest)))
+              (all_dropped (Extra nn) (length xs - suc (length v.params)) xs (all_reversed (Extra nn) (slots nn ops) (extra_slots nn ops)))
               ∙ ap (plain (call_indirect sort)) (to_gone nn d (top_of nn (length v.results) (mids ++ low)) (code_of rest) (top_of_extra nn (length v.results) (mids ++ low) (omega arith)) ∙ e)
 
       on_uses : (i : Plain) → is_last i ≡ false → Takes (sig c ls i) own mids → V (code_of (flat_plain nn c ls ops (mids ++ low) i rest)) ≡ V (plain i k)
@@ -239,7 +248,8 @@ module _ (m : Module) (f : Func) where
         by None eo t = absurd t
         by (Some r) eo t = leap_uses j r (t.0 ++ low) eo (ap (λ z. z ++ low) t.1 ∙ append_assoc (listed r) t.0 low)
 
-    table_uses : (ts : List ℕ) (j : ℕ) (behind : List ValType) (rest : Stmts) → Takes (jumps_sig ls ts (slice_get ls j)) own mids → V (code_of (flat_plain nn c ls ops behind (br_table ts j) rest)) ≡ V (plain (br_table ts j) done)
+    table_uses : (ts : List ℕ) (j : ℕ) (behind : List ValType) (rest : Stmts) → Takes (jumps_sig ls ts (slice_get ls j)) own mids
+        → V (code_of (flat_plain nn c ls ops behind (br_table ts j) rest)) ≡ V (plain (br_table ts j) done)
     unfolding code_of uses
     table_uses ts j behind rest t = by (slice_get ls j) refl t
       where
@@ -274,26 +284,30 @@ module _ (m : Module) (f : Func) where
   abbrev W : (d : ℕ) → Code → Code
   W d = uses (names m f).first d
 
-  code_uses : (q : Option ValType) (lt : List (Option ValType)) (code : Code) (outs own low : List ValType) → slice_get (q ∷ lt) (length lt) ≡ Some c.result → (q ≡ None) ⊎ (outs ≡ listed q) → Good nn c (q ∷ lt) code outs own low
+  code_uses : (q : Option ValType) (lt : List (Option ValType)) (code : Code) (outs own low : List ValType) → slice_get (q ∷ lt) (length lt) ≡ Some c.result
+      → (q ≡ None) ⊎ (outs ≡ listed q) → Good nn c (q ∷ lt) code outs own low
       → W (length lt) (code_of (flat nn c (q ∷ lt) code (own ++ low))) ≡ W (length lt) (pruned code)
   unfolding flat Good uses code_of pruned
   code_uses q lt done outs own low la (inl none) g = carry_at nn (length lt) (q ∷ lt) 0 None (own ++ low) (own ++ low) no_more (ap Some none) refl
   code_uses q lt done outs own low la (inr value) g = carry_at nn (length lt) (q ∷ lt) 0 q (own ++ low) low no_more refl (ap (λ z. z ++ low) (g.1 ∙ value))
   code_uses q lt (plain i rest) outs own low la hd g = by (is_last i) refl (λ gr. code_uses q lt rest outs g.1 low la hd gr) g.3
     where
-      by : (b : Bool) → is_last i ≡ b → (Good nn c (q ∷ lt) rest outs g.1 low → W (length lt) (code_of (flat nn c (q ∷ lt) rest (g.1 ++ low))) ≡ W (length lt) (pruned rest)) → GoesOn b (Good nn c (q ∷ lt) rest outs g.1 low)
+      by : (b : Bool) → is_last i ≡ b → (Good nn c (q ∷ lt) rest outs g.1 low → W (length lt) (code_of (flat nn c (q ∷ lt) rest (g.1 ++ low))) ≡ W (length lt) (pruned rest))
+          → GoesOn b (Good nn c (q ∷ lt) rest outs g.1 low)
           → W (length lt) (code_of (flat_plain nn c (q ∷ lt) (own ++ low) (after (sig c (q ∷ lt) i) (own ++ low)) i (flat nn c (q ∷ lt) rest (after (sig c (q ∷ lt) i) (own ++ low)))))
           ≡ W (length lt) (plain i (if b then done else pruned rest))
       by true z ih gr =
           let one : length lt ≡ length (q ∷ lt) - 1 = omega arith in
-          last_uses (q ∷ lt) (length lt) own g.1 low i (after (sig c (q ∷ lt) i) (own ++ low)) (flat nn c (q ∷ lt) rest (after (sig c (q ∷ lt) i) (own ++ low))) one (subst (λ j. slice_get (q ∷ lt) j ≡ Some c.result) one la) z g.2
+          last_uses (q ∷ lt) (length lt) own g.1 low i (after (sig c (q ∷ lt) i) (own ++ low)) (flat nn c (q ∷ lt) rest (after (sig c (q ∷ lt) i) (own ++ low))) one
+          (subst (λ j. slice_get (q ∷ lt) j ≡ Some c.result) one la) z g.2
       by false z ih gr =
           ap (λ behind. W (length lt) (code_of (flat_plain nn c (q ∷ lt) (own ++ low) behind i (flat nn c (q ∷ lt) rest behind)))) (after_all c (q ∷ lt) i own g.1 low (own ++ low) z g.2 refl)
           ∙ on_uses (q ∷ lt) (length lt) own g.1 low (flat nn c (q ∷ lt) rest (g.1 ++ low)) (pruned rest) (ih gr) i z g.2
   code_uses q lt (nest a_block r body rest) outs own low la hd g =
       let assoc : (listed r ++ own) ++ low ≡ listed r ++ (own ++ low) = append_assoc (listed r) own low in
       let inner = code_uses r (q ∷ lt) body (listed r) [] (own ++ low) la (inr refl) g.2 in
-      let behind = arrive_gone nn (length lt) (length (q ∷ lt)) r (own ++ low) (flat nn c (q ∷ lt) rest (listed r ++ (own ++ low))) ∙ subst (λ ts. W (length lt) (code_of (flat nn c (q ∷ lt) rest ts)) ≡ W (length lt) (pruned rest)) assoc (code_uses q lt rest outs (listed r ++ own) low la hd g.3) in
+      let behind = arrive_gone nn (length lt) (length (q ∷ lt)) r (own ++ low) (flat nn c (q ∷ lt) rest (listed r ++ (own ++ low)))
+      ∙ subst (λ ts. W (length lt) (code_of (flat nn c (q ∷ lt) rest ts)) ≡ W (length lt) (pruned rest)) assoc (code_uses q lt rest outs (listed r ++ own) low la hd g.3) in
       ap (λ k. nest a_block None k (W (length lt) (code_of (arrive nn (length (q ∷ lt)) r (own ++ low) (flat nn c (q ∷ lt) rest (listed r ++ (own ++ low))))))) inner
       ∙ ap (nest a_block None (W (suc (length lt)) (pruned body))) behind
   code_uses q lt (nest a_loop r body rest) outs own low la hd g =
@@ -308,11 +322,14 @@ module _ (m : Module) (f : Func) where
       let assoc : (listed r ++ below) ++ low ≡ listed r ++ (below ++ low) = append_assoc (listed r) below low in
       let ua = code_uses r (q ∷ lt) a (listed r) [] (below ++ low) la (inr refl) g.4 in
       let ub = code_uses r (q ∷ lt) b (listed r) [] (below ++ low) la (inr refl) g.5 in
-      let behind = arrive_gone nn (length lt) (length (q ∷ lt)) r (below ++ low) (flat nn c (q ∷ lt) rest (listed r ++ (below ++ low))) ∙ subst (λ ts. W (length lt) (code_of (flat nn c (q ∷ lt) rest ts)) ≡ W (length lt) (pruned rest)) assoc (code_uses q lt rest outs (listed r ++ below) low la hd g.6) in
-      let flat_code : List ValType → Code = λ ds. branch None (code_of (flat nn c (r ∷ q ∷ lt) a ds)) (code_of (flat nn c (r ∷ q ∷ lt) b ds)) (code_of (arrive nn (length (q ∷ lt)) r ds (flat nn c (q ∷ lt) rest (listed r ++ ds)))) in
+      let behind = arrive_gone nn (length lt) (length (q ∷ lt)) r (below ++ low) (flat nn c (q ∷ lt) rest (listed r ++ (below ++ low)))
+      ∙ subst (λ ts. W (length lt) (code_of (flat nn c (q ∷ lt) rest ts)) ≡ W (length lt) (pruned rest)) assoc (code_uses q lt rest outs (listed r ++ below) low la hd g.6) in
+      let flat_code : List ValType → Code = λ ds. branch None (code_of (flat nn c (r ∷ q ∷ lt) a ds)) (code_of (flat nn c (r ∷ q ∷ lt) b ds))
+      (code_of (arrive nn (length (q ∷ lt)) r ds (flat nn c (q ∷ lt) rest (listed r ++ ds)))) in
       got_gone nn (length lt) (top nn (own ++ low)) (flat_code (drop 1 (own ++ low))) (top_extra nn I32 (below ++ low) (own ++ low) (ap (λ z. z ++ low) g.3))
       ∙ ap (λ ds. W (length lt) (flat_code ds)) eo
-      ∙ ap (λ k. branch None k (W (suc (length lt)) (code_of (flat nn c (r ∷ q ∷ lt) b (below ++ low)))) (W (length lt) (code_of (arrive nn (length (q ∷ lt)) r (below ++ low) (flat nn c (q ∷ lt) rest (listed r ++ (below ++ low))))))) ua
+      ∙ ap (λ k. branch None k (W (suc (length lt)) (code_of (flat nn c (r ∷ q ∷ lt) b (below ++ low))))
+      (W (length lt) (code_of (arrive nn (length (q ∷ lt)) r (below ++ low) (flat nn c (q ∷ lt) rest (listed r ++ (below ++ low))))))) ua
       ∙ ap (λ k. branch None (W (suc (length lt)) (pruned a)) k (W (length lt) (code_of (arrive nn (length (q ∷ lt)) r (below ++ low) (flat nn c (q ∷ lt) rest (listed r ++ (below ++ low))))))) ub
       ∙ ap (branch None (W (suc (length lt)) (pruned a)) (W (suc (length lt)) (pruned b))) behind
 

@@ -60,7 +60,8 @@ module _ (n : Names) (c : Around) where
   whole_plain ls ops behind (local_set x) rest h = ap (λ k. plain (local_get (top n ops)) (plain (local_set x) k)) h
   whole_plain ls ops behind (local_tee x) rest h = ap (λ k. plain (local_get (top n ops)) (plain (local_set x) k)) h
   whole_plain ls ops behind (br l) rest h = whole_carry n (length ls - suc l) (slice_get ls l) ops (leaps l no_more) refl
-  whole_plain ls ops behind (br_if l) rest h = whole_carry n (length ls - suc l) (slice_get ls l) (drop 1 ops) (leaps_if (Local (top n ops)) l rest) (ap (λ k. plain (local_get (top n ops)) (plain (br_if l) k)) h)
+  whole_plain ls ops behind (br_if l) rest h = whole_carry n (length ls - suc l) (slice_get ls l) (drop 1 ops) (leaps_if (Local (top n ops)) l rest)
+      (ap (λ k. plain (local_get (top n ops)) (plain (br_if l) k)) h)
   whole_plain ls ops behind (br_table ts l) rest h =
       whole_carries n ls (drop 1 ops) ts (carry n ls (drop 1 ops) l (leaps_by (Local (top n ops)) ts l no_more))
       (whole_carry n (length ls - suc l) (slice_get ls l) (drop 1 ops) (leaps_by (Local (top n ops)) ts l no_more) refl)
@@ -68,7 +69,8 @@ module _ (n : Names) (c : Around) where
   whole_plain ls ops behind unreachable rest h = refl
   whole_plain ls ops behind (call x) rest h =
       let t : FuncType = or_empty (slice_get c.funcs x) in
-      whole_slots (last_of (length t.params) (reverse (slots n ops))) (plain (call x) (set_to (top_of n (length t.results) behind) (code_of rest))) (ap (plain (call x)) (whole_set (top_of n (length t.results) behind) (code_of rest) h))
+      whole_slots (last_of (length t.params) (reverse (slots n ops))) (plain (call x) (set_to (top_of n (length t.results) behind) (code_of rest)))
+      (ap (plain (call x)) (whole_set (top_of n (length t.results) behind) (code_of rest) h))
   whole_plain ls ops behind (call_indirect s) rest h =
       let t : FuncType = or_empty (slice_get c.types s) in
       whole_slots (last_of (suc (length t.params)) (reverse (slots n ops))) (plain (call_indirect s) (set_to (top_of n (length t.results) behind) (code_of rest)))

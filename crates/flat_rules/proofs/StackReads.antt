@@ -36,7 +36,8 @@ module _ (m : Module) (x : ℕ) (f : Func) where
       ∙ ap (λ ps. behind_calls (goes_behind (result_got to) ∷ []) (code_of (flattened m x f).body) ++ ps) (no_calls [] to)
       ∙ append-nil (behind_calls (goes_behind (result_got to) ∷ []) (code_of (flattened m x f).body))
 
-  pub stack_reads : (place y : ℕ) → Valid m → defined_at m x ≡ Some f → length (locals_of m f) ≤ y → LiveAfter (flat_func m x f) place y → (stack : List ℕ) × (slice_get (stacks_in (flattened m x f).body) place ≡ Some stack) × Among y stack
+  pub stack_reads : (place y : ℕ) → Valid m → defined_at m x ≡ Some f → length (locals_of m f) ≤ y → LiveAfter (flat_func m x f) place y
+      → (stack : List ℕ) × (slice_get (stacks_in (flattened m x f).body) place ≡ Some stack) × Among y stack
   stack_reads place y v is extra l =
       paired_at y (behind_calls (goes_behind (result_got to) ∷ []) (code_of (flattened m x f).body)) (stacks_in (flattened m x f).body) place l.0
       (body_paired m f y extra (facts m v) x (good_func m f v x is)) (sym (ap (λ ps. slice_get ps place) places_are) ∙ l.1) (reads_live y l.0 l.2)
