@@ -1,3 +1,5 @@
+//! The law of the small module: a function that does nothing has it as its contract.
+
 ghost use Rattle.std.specs.Prelude.{[], ◌∷◌};
 ghost use Rattle.wa_model.specs.Protocol.{exports_of};
 ghost use Rattle.wa_model.specs.Step.{entered};
