@@ -9,3 +9,4 @@ pub mod PairedFlat
 pub mod PairedStacks
 pub mod PlaceSlots
 pub mod Staying
+pub mod WrittenLocals
