@@ -1,6 +1,7 @@
 pub mod Behaving
 pub mod CallSlots
 pub mod FlatSide
+pub mod FrameFacts
 pub mod KeptFields
 pub mod NumberedCalls
 pub mod NumberedStacks
