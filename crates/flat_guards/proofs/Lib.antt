@@ -10,4 +10,5 @@ pub mod PairedFlat
 pub mod PairedStacks
 pub mod PlaceSlots
 pub mod Staying
+pub mod WantedFields
 pub mod WrittenLocals
