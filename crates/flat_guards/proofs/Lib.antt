@@ -1,5 +1,6 @@
 pub mod Behaving
 pub mod CallSlots
+pub mod CallWeights
 pub mod FlatSide
 pub mod FrameFacts
 pub mod KeptFields
