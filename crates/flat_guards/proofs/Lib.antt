@@ -10,6 +10,7 @@ pub mod NumberedStmts
 pub mod PairedFlat
 pub mod PairedStacks
 pub mod PlaceSlots
+pub mod Standing
 pub mod Staying
 pub mod WantedFields
 pub mod WrittenLocals
