@@ -11,6 +11,7 @@ pub mod PairedFlat
 pub mod PairedStacks
 pub mod PlaceSlots
 pub mod Standing
+pub mod StandingAgain
 pub mod Staying
 pub mod WantedFields
 pub mod WrittenLocals
