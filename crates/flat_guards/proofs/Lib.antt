@@ -10,6 +10,7 @@ pub mod NumberedStmts
 pub mod PairedFlat
 pub mod PairedStacks
 pub mod PlaceSlots
+pub mod StackAgain
 pub mod Standing
 pub mod StandingAgain
 pub mod Staying
