@@ -9,6 +9,7 @@ pub mod NumberedStacks
 pub mod NumberedStmts
 pub mod PairedFlat
 pub mod PairedStacks
+pub mod PauseCosts
 pub mod PlaceSlots
 pub mod StackAgain
 pub mod Standing
