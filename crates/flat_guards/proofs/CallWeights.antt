@@ -1,18 +1,18 @@
 -- What a call takes weighs no more than its function.
-use Rattle.std.proofs.Common.{◌≡◌, ℕ, zero, suc, ◌+◌, ◌≤◌, ◌⊎◌, inl, inr, List, [], ◌∷◌, ◌++◌, length, Option, Some, None, Bool, true, false, refl, sym, ap, ◌∙◌, subst, arith}
-use Rattle.std.specs.Prelude.{slice_get, if◌then◌else◌}
+use Rattle.std.proofs.Common.{◌≡◌, ℕ, zero, suc, ◌+◌, ◌≤◌, ◌⊎◌, inl, inr, List, [], ◌∷◌, ◌++◌, length, Some, refl, ap, arith}
+use Rattle.std.specs.Prelude.{slice_get}
 use Rattle.wa_types.specs.Base.{Base}
 use Rattle.wa_types.specs.Bounds.{Weight, code_weight, plain_weight}
 use Rattle.wa_types.specs.Modules.{around, func_type_at, type_at}
 use Rattle.wa_types.specs.Pausing.{Callee, callee, callee_onto, calls_in, calls_of, direct, indirect}
 use Rattle.wa_types.specs.Pruned.{pruned}
-use Rattle.wa_types.specs.Syntax.{Code, Func, Module, Plain, a_block, a_loop, basic, br, br_if, br_table, branch, call, call_indirect, done, local_get, local_set, local_tee, nest, plain, return, unreachable}
+use Rattle.wa_types.specs.Syntax.{Code, Func, Module, Plain, basic, br, br_if, br_table, branch, call, call_indirect, done, local_get, local_set, local_tee, nest, plain, return, unreachable}
 use Rattle.flat_guards.proofs.PlaceSlots.{args_of}
 
 either_got : (xs ys : List Callee) (i : ℕ) (x : Callee) → slice_get (xs ++ ys) i ≡ Some x → ((j : ℕ) × (slice_get xs j ≡ Some x)) ⊎ ((j : ℕ) × (slice_get ys j ≡ Some x))
 either_got [] ys i x e = inr (i, e)
 either_got (z ∷ xs) ys zero x e = inl (0, e)
-either_got (z ∷ xs) ys (suc i) x e = elim (either_got xs ys i x e) [ | inl h ↦ inl (suc h.0, h.1) | inr h ↦ inr h ]
+either_got (z ∷ xs) ys (suc i) x e = elim (either_got xs ys i x e) [ inl h ↦ inl (suc h.0, h.1) | inr h ↦ inr h ]
 
 module _ (m : Module) where
   abbrev weight : Callee → ℕ

@@ -1,15 +1,13 @@
 -- An activation that waits at a numbered call: what its frame keeps of the flat locals, and which number the call has.
-use Rattle.std.proofs.Common.{◌≡◌, ℕ, zero, suc, ◌+◌, ◌-◌, ◌<◌, ◌≤◌, List, [], ◌∷◌, ◌++◌, length, map, take, drop, reverse, Option, Some, None, Bool, true, false, All, refl, sym, ap, ◌∙◌, subst, arith, length-append}
-use Rattle.std.specs.Prelude.{slice_get, nat_lt, nat_eq, if◌then◌else◌}
-use Rattle.std.specs.List.{position}
+use Rattle.std.proofs.Common.{◌≡◌, ℕ, zero, suc, ◌+◌, ◌<◌, List, [], ◌∷◌, ◌++◌, length, map, take, reverse, Option, Some, Bool, true, All, refl, sym, ap, ◌∙◌, subst, arith, length-append}
+use Rattle.std.specs.Prelude.{slice_get}
 use Rattle.std.specs.Option.{option_map}
 use Rattle.std.proofs.lemmas.List.{get_or_append_left, length-map, length-reverse, length-take-le}
 use Rattle.std.proofs.lemmas.Option.{slice_get-map, slice_get_within}
 use Rattle.wa_types.specs.Base.{Base}
-use Rattle.wa_types.specs.Frames.{Pair, Place, ResultPairs, Saved, SlotPairs, operand_at, wanted}
-use Rattle.wa_types.specs.Modules.{around, defined_at, func_type_at, locals_of, or_empty, type_at}
-use Rattle.wa_types.specs.Pausing.{Callee, Numbered, Settings, calls_in, calls_of, direct, has_number, indirect, is_told, places_from, save_all}
-use Rattle.wa_types.specs.Points.{func_call_points}
+use Rattle.wa_types.specs.Frames.{Pair, Saved, SlotPairs}
+use Rattle.wa_types.specs.Modules.{around, func_type_at, locals_of, type_at}
+use Rattle.wa_types.specs.Pausing.{Callee, Numbered, Settings, calls_in, calls_of, direct, has_number, indirect, places_from, save_all}
 use Rattle.wa_types.specs.Sizes.{value_fits}
 use Rattle.wa_types.specs.Syntax.{Code, Func, FuncType, Module}
 use Rattle.wa_types.specs.Typing.{type_of}
@@ -29,9 +27,8 @@ use Rattle.wa_model.proofs.FittingSteps.{body_typed}
 use Rattle.flat_laws.specs.Flatten.{Names, flattened, names, slots}
 use Rattle.flat_laws.proofs.GotLemmas.{last_reverse}
 use Rattle.flat_fits.proofs.Calls.{calls_stay}
-use Rattle.flat_runs.specs.Beside.{Holds, Locals}
-use Rattle.flat_runs.proofs.Slots.{extra_got, slots_got}
-use Rattle.frame_laws.specs.FrameMemory.{IsKept}
+use Rattle.flat_runs.specs.Beside.{Locals}
+use Rattle.flat_runs.proofs.Slots.{slots_got}
 use Rattle.frame_laws.specs.Stack.{AllKept, slot_values}
 use Rattle.guard_form.specs.Functions.{GuardedFunc}
 use Rattle.guard_form.specs.Numbers.{NumberedAt, calls_behind}
@@ -42,7 +39,7 @@ use Rattle.guard_form.proofs.Grouped.{free_law, joins_law}
 use Rattle.guard_frames.specs.Levels.{FlatFieldsFit}
 use Rattle.headline_laws.specs.FlatLaw.{LocalsFit}
 use Rattle.flat_guards.specs.Emitted.{Emitted, fields_of, guarded_of}
-use Rattle.flat_guards.proofs.KeptFields.{all_places, fields_fit, kept_reverse, kept_take, places_each, slot_kept, slots_kept, taken_is, typed_at}
+use Rattle.flat_guards.proofs.KeptFields.{fields_fit, kept_reverse, kept_take, places_each, slot_kept, slots_kept, taken_is, typed_at}
 use Rattle.flat_guards.proofs.NumberedCalls.{Took}
 use Rattle.flat_guards.proofs.NumberedStacks.{AtNumber}
 use Rattle.flat_guards.proofs.NumberedStmts.{flat_numbered}
@@ -128,7 +125,7 @@ module _ (m : Module) (s : Settings) (which : List Bool) (keep : (func local : �
       let l = length-append a.locals pr.extra in let o = own_size in let x = held.size in
       typed_here (length own + k) q.ty (omega arith)
       (ap (λ ts. slice_get ts (length own + k)) w.1 ∙ right_got own (map (λ (q : Pair). q.ty) pairs ++ w.0) k
-        ∙ left_got (map (λ (q : Pair). q.ty) pairs) w.0 k q.ty (slice_get-map (λ (q : Pair). q.ty) pairs k ∙ ap (option_map (λ (q : Pair). q.ty)) e))
+      ∙ left_got (map (λ (q : Pair). q.ty) pairs) w.0 k q.ty (slice_get-map (λ (q : Pair). q.ty) pairs k ∙ ap (option_map (λ (q : Pair). q.ty)) e))
 
   pub fields : FlatFieldsFit (a.locals ++ pr.extra) (fields_of (keep a.func) (Saved (Base m) save_all num.func 0))
   fields = fields_fit (keep a.func) zs (Saved (Base m) save_all num.func 0) (places_each (λ q. (q.local < length zs) × (type_of (value_at zs q.local) ≡ q.ty) × value_fits (value_at zs q.local)) own pairs own_fits slot_fits)

@@ -1,11 +1,11 @@
 -- What frames keep of flat locals: each has its type, stands for what is wanted at a call, and the call's slots are among them.
 use mathlib.Core.List.{reverse_aux}
-use Rattle.std.proofs.Common.{◌≡◌, ℕ, zero, suc, ◌+◌, ◌-◌, ◌<◌, ◌≤◌, ◌⊎◌, inl, inr, List, [], ◌∷◌, ◌++◌, length, map, take, drop, reverse, Option, Some, None, Bool, true, false, All, refl, sym, ap, ◌∙◌, subst, arith, length-append, eqb-true}
-use Rattle.std.specs.Prelude.{slice_get, nat_lt, nat_eq, ◌&&◌, if◌then◌else◌}
-use Rattle.std.proofs.lemmas.List.{get_or_append_left, length-map, length-reverse, reverse-append}
+use Rattle.std.proofs.Common.{◌≡◌, ℕ, zero, suc, ◌+◌, ◌<◌, ◌⊎◌, inl, inr, List, [], ◌∷◌, ◌++◌, length, map, take, reverse, Option, Some, None, Bool, true, false, All, refl, sym, ap, ◌∙◌, subst, arith}
+use Rattle.std.specs.Prelude.{slice_get, if◌then◌else◌}
+use Rattle.std.proofs.lemmas.List.{length-map, length-reverse, reverse-append}
 use Rattle.std.proofs.lemmas.List.Elements.{All-head, All-tail}
 use Rattle.wa_types.specs.Encoding.{same_type}
-use Rattle.wa_types.specs.Frames.{Pair, Place, named_places, of_type, operand_at, place_onto, same_pair, slot_places}
+use Rattle.wa_types.specs.Frames.{Pair, Place, named_places, of_type, operand_at, same_pair, slot_places}
 use Rattle.wa_types.specs.Sizes.{value_fits}
 use Rattle.wa_types.specs.Typing.{type_of}
 use Rattle.wa_types.specs.declared.values.ValType.{ValType}
@@ -194,7 +194,7 @@ module _ (n : Names) (extra : List Value) (keep : ℕ → Bool) where
   last_got [] w zero v e = let z : v ≡ w = cc in inr (refl, z)
   last_got [] w (suc h) v e = cc
   last_got (x ∷ xs) w zero v e = inl e
-  last_got (x ∷ xs) w (suc h) v e = elim (last_got xs w h v e) [ | inl f ↦ inl f | inr f ↦ inr (let z : suc h ≡ length (x ∷ xs) = let y = f.0 in omega arith in (z, f.1)) ]
+  last_got (x ∷ xs) w (suc h) v e = elim (last_got xs w h v e) [ inl f ↦ inl f | inr f ↦ inr (let z : suc h ≡ length (x ∷ xs) = let y = f.0 in omega arith in (z, f.1)) ]
 
   types_long : (ops : List Value) → length (types_of ops) ≡ length ops
   types_long ops = length-map ops type_of

@@ -1,11 +1,11 @@
 -- What a pause costs in a guarded function of the emitted module, and that the module behaves like its original.
-use Rattle.std.proofs.Common.{◌≡◌, ℕ, zero, suc, ◌+◌, ◌*◌, ◌≤◌, List, [], ◌∷◌, ◌++◌, length, Bool, true, false, Some, refl, sym, ap, ◌∙◌, subst, arith, length-append}
+use Rattle.std.proofs.Common.{◌≡◌, ℕ, suc, ◌+◌, ◌*◌, ◌≤◌, List, [], ◌∷◌, length, Bool, true, false, Some, refl, ap, subst, arith, length-append}
 use Rattle.std.specs.Prelude.{if◌then◌else◌}
 use Rattle.wa_types.specs.Base.{Base}
 use Rattle.wa_types.specs.Bounds.{Weight}
 use Rattle.wa_types.specs.Frames.{Pair, Place, Saved, SlotPairs, named_places, slot_places}
 use Rattle.wa_types.specs.Modules.{defined_at, locals_of}
-use Rattle.wa_types.specs.Pausing.{Numbered, Settings, TellsMayPause, save_all}
+use Rattle.wa_types.specs.Pausing.{Numbered, Settings, save_all}
 use Rattle.wa_types.specs.Runtime.{global_space}
 use Rattle.wa_types.specs.Syntax.{Func, Module}
 use Rattle.wa_types.specs.Validity.{Valid}
@@ -13,8 +13,7 @@ use Rattle.wa_types.specs.declared.values.ValType.{ValType}
 use Rattle.wa_model.specs.Flat.{FlatFunc}
 use Rattle.flat_laws.specs.Flatten.{flattened}
 use Rattle.flat_laws.proofs.RuntimeModules.{base_flattened, base_slots}
-use Rattle.frame_laws.specs.Function.{rewinding, unwinding}
-use Rattle.frame_laws.specs.Layout.{Layout, FrameField, gap, kept, kept_count}
+use Rattle.frame_laws.specs.Layout.{gap, kept, kept_count}
 use Rattle.guard_form.specs.Bounds.{passing}
 use Rattle.guard_form.specs.Pieces.{first_piece, units}
 use Rattle.guard_sizes.specs.Rewritten.{KeepsFew}
@@ -23,7 +22,6 @@ use Rattle.range_laws.proofs.BlockingRuns.{base_codes, well_formed_in}
 use Rattle.flat_guards.specs.Emitted.{Emitted, fields_of, guarded_of, layout_of}
 use Rattle.flat_guards.specs.Laws.{EmittedBehaves}
 use Rattle.flat_guards.proofs.Behaving.{says}
-use Rattle.flat_guards.proofs.KeptFields.{all_places}
 use Rattle.flat_guards.proofs.PairedFlat.{base_locals}
 use Rattle.flat_guards.proofs.StackAgain.{stacks_stand}
 use Rattle.flat_guards.proofs.Standing.{pause_cost}

@@ -1,11 +1,10 @@
 -- Suspended stacks of numbered calls stand as frames, and what came back of them stands beside the same stack.
 use Rattle.std.proofs.Common.{◌≡◌, ℕ, suc, ◌+◌, ◌*◌, ◌<◌, ◌≤◌, List, [], ◌∷◌, ◌++◌, length, map, Option, Some, None, Bool, true, All, refl, sym, ap, ◌∙◌, subst, arith, length-append}
-use Rattle.std.specs.Prelude.{slice_get}
 use Rattle.std.proofs.lemmas.List.{append_assoc, length-map, map-append}
 use Rattle.wa_types.specs.Base.{Base}
 use Rattle.wa_types.specs.Bounds.{Weight}
 use Rattle.wa_types.specs.Frames.{Saved}
-use Rattle.wa_types.specs.Modules.{declared_locals, defined_at, func_sorts, func_type_at, locals_of}
+use Rattle.wa_types.specs.Modules.{declared_locals, defined_at, func_type_at, locals_of}
 use Rattle.wa_types.specs.Pausing.{Settings, TellsMayPause, is_told, save_all}
 use Rattle.wa_types.specs.Runtime.{func_space, global_space}
 use Rattle.wa_types.specs.Syntax.{Code, Func, Module}
@@ -28,7 +27,7 @@ use Rattle.range_laws.specs.Ranges.{CodesIn}
 use Rattle.flat_laws.specs.Flatten.{names, top_of}
 use Rattle.flat_runs.specs.Beside.{Asked, Beside, Callers, Locals, above, above_same, host}
 use Rattle.frame_laws.specs.FrameMemory.{IsKept}
-use Rattle.guard_frames.specs.Returned.{AllSameFlat, SameFlat}
+use Rattle.guard_frames.specs.Returned.{AllSameFlat}
 use Rattle.guard_runs.specs.Alike.{Paired, Setting, sides_of}
 use Rattle.guard_runs.specs.Beside.{Twin, both_defined, both_import}
 use Rattle.guard_runs.specs.Stopped.{Stopped}
@@ -41,9 +40,9 @@ use Rattle.flat_links.specs.Links as N
 use Rattle.flat_links.proofs.Spaces.{funcs_are, grown_defined, grown_func_type, names_there}
 use Rattle.flat_guards.specs.CoreOf.{core_of}
 use Rattle.flat_guards.specs.Emitted.{Emitted, fields_of, guarded_of, lay_at, layout_of}
-use Rattle.flat_guards.proofs.NumberedStacks.{AllAtNumbers, AtNumber, at_numbers, numbers}
+use Rattle.flat_guards.proofs.NumberedStacks.{AllAtNumbers, at_numbers, numbers}
 use Rattle.flat_guards.proofs.PairedFlat.{base_defined, core_fits, paired}
-use Rattle.flat_guards.proofs.PairedStacks.{AllPairs, AllTold, PairAt, pairs}
+use Rattle.flat_guards.proofs.PairedStacks.{AllPairs, AllTold, pairs}
 use Rattle.flat_guards.proofs.Standing.{pause_cost, stands_so}
 use Rattle.flat_guards.proofs.StandingAgain.{front_same, held_again, split}
 
@@ -132,12 +131,13 @@ module _ (m : Module) (s : Settings) (which : List Bool) (keep : (func local : �
           let same1 : g1 ≡ h = the_func g1 h (sym is1 ∙ grown_defined k fits x within ∙ eh) in
           let same2 : g2 ≡ found = the_func g2 found (sym is2 ∙ ef) in
           let decl : declared_locals found.locals ≡ declared_locals h.locals ++ Rattle.guard_form.specs.Functions.extra_types (k.role x) =
-          ap (λ (z : Func). declared_locals z.locals) (sym same2) ∙ ls ∙ ap (λ (z : Func). declared_locals z.locals ++ Rattle.guard_form.specs.Functions.extra_types (k.role x)) same1 in
-          (Rattle.guard_form.specs.Functions.extra_types (k.role x),
+          ap (λ (z : Func). declared_locals z.locals) (sym same2) ∙ ls ∙ ap (λ (z : Func). declared_locals z.locals ++ Rattle.guard_form.specs.Functions.extra_types (k.role x)) same1 in (
+            Rattle.guard_form.specs.Functions.extra_types (k.role x),
             locals_by p x found ef ∙ ap (λ t. t.params ++ declared_locals found.locals) ((pairing 0).func_type x known ∙ grown_func_type k fits x within)
-            ∙ ap (λ z. (func_type_at k.flat x).params ++ z) decl
-            ∙ sym (append_assoc (func_type_at k.flat x).params (declared_locals h.locals) (Rattle.guard_form.specs.Functions.extra_types (k.role x)))
-            ∙ ap (λ z. z ++ Rattle.guard_form.specs.Functions.extra_types (k.role x)) (sym (locals_by k.flat x h eh)))
+                ∙ ap (λ z. (func_type_at k.flat x).params ++ z) decl
+                ∙ sym (append_assoc (func_type_at k.flat x).params (declared_locals h.locals) (Rattle.guard_form.specs.Functions.extra_types (k.role x)))
+                ∙ ap (λ z. z ++ Rattle.guard_form.specs.Functions.extra_types (k.role x)) (sym (locals_by k.flat x h eh)),
+          )
 
   fits_again : (outs types : List ValType) (us vs cs : List Activation) → AllPairs (Base m) which us vs → CallersFit k.flat outs types vs → AllSameFlat k.lay vs cs → AllMore p cs → CallersFit k.flat outs types cs
   fits_again outs types us [] [] ps h same more = h
@@ -157,9 +157,9 @@ module _ (m : Module) (s : Settings) (which : List Bool) (keep : (func local : �
       let act : ActFits k.flat v.func c.locals v.code v.labels (types ++ types_of v.operands) =
       record { func = h0.func; func_is = h0.func_is; locals_fit = typed; results = h0.results; own = h0.own; below = h0.below; types_are = h0.types_are; stands = h0.stands } in (
         subst (λ os. ActFits k.flat c.func c.locals c.code c.labels (types ++ types_of os)) (none ∙ sym sm.operands)
-        (subst (λ ls. ActFits k.flat c.func c.locals c.code ls (types ++ types_of v.operands)) (sym sm.labels)
-        (subst (λ z. ActFits k.flat c.func c.locals z v.labels (types ++ types_of v.operands)) (sym sm.code)
-        (subst (λ x. ActFits k.flat x c.locals v.code v.labels (types ++ types_of v.operands)) (sym sm.func) act))),
+            (subst (λ ls. ActFits k.flat c.func c.locals c.code ls (types ++ types_of v.operands)) (sym sm.labels)
+            (subst (λ z. ActFits k.flat c.func c.locals z v.labels (types ++ types_of v.operands)) (sym sm.code)
+            (subst (λ x. ActFits k.flat x c.locals v.code v.labels (types ++ types_of v.operands)) (sym sm.func) act))),
         subst (λ x. CallersFit k.flat outs (results_of k.flat x) cs) (sym sm.func) (fits_again outs (results_of k.flat v.func) us vs cs ps.1 h.1 same.1 more.1),
       )
 

@@ -1,32 +1,29 @@
 -- A suspended stack of numbered calls stands as frames.
-use Rattle.std.proofs.Common.{◌≡◌, ℕ, zero, suc, ◌+◌, ◌*◌, ◌^◌, ◌<◌, ◌≤◌, List, [], ◌∷◌, ◌++◌, length, map, Option, Some, None, Bool, true, false, All, refl, sym, ap, ◌∙◌, subst, arith, length-append}
-use Rattle.std.specs.Prelude.{slice_get}
-use Rattle.std.proofs.lemmas.List.{length-map}
+use Rattle.std.proofs.Common.{◌≡◌, ℕ, suc, ◌+◌, ◌*◌, ◌^◌, ◌<◌, ◌≤◌, List, [], ◌∷◌, ◌++◌, length, map, Option, Some, Bool, true, refl, sym, ap, ◌∙◌, subst, arith, length-append}
 use Rattle.std.proofs.lemmas.Option.{slice_get_within}
 use Rattle.wa_types.specs.Base.{Base}
 use Rattle.wa_types.specs.Bounds.{Weight, activation_bound, weight_of_found}
 use Rattle.wa_types.specs.Frames.{Saved, Suspended, call_number, wanted}
-use Rattle.wa_types.specs.Modules.{around, declared_locals, defined_at, func_sorts, func_type_at, locals_of, type_at}
-use Rattle.wa_types.specs.Pausing.{Callee, Numbered, Settings, TellsMayPause, calls_of, is_told, save_all}
+use Rattle.wa_types.specs.Modules.{declared_locals, defined_at, func_type_at, locals_of, type_at}
+use Rattle.wa_types.specs.Pausing.{Callee, Numbered, Settings, TellsMayPause, calls_of, save_all}
 use Rattle.wa_types.specs.Runtime.{global_space}
 use Rattle.wa_types.specs.Syntax.{Code, Func, Module}
 use Rattle.wa_types.specs.Validity.{Valid}
 use Rattle.wa_types.specs.declared.values.Value.{Value}
-use Rattle.wa_model.specs.Behaves.{StandsNumbered}
-use Rattle.wa_model.specs.Configuration.{Activation, Configuration, call_count, calls_outside, place_of, stack_of, suspended, waiting}
+use Rattle.wa_model.specs.Configuration.{Activation, call_count, calls_outside, place_of, suspended, waiting}
 use Rattle.wa_model.specs.Flat.{followed_by, set_to}
 use Rattle.wa_model.specs.Plan.{Plan}
 use Rattle.wa_model.specs.Plan as P
 use Rattle.wa_model.specs.Step.{param_count}
 use Rattle.wa_model.proofs.FittingNames.{defined_type}
 use Rattle.range_laws.specs.Ranges.{CodesIn}
-use Rattle.flat_runs.specs.Beside.{Asked, AtZero, Beside}
+use Rattle.flat_runs.specs.Beside.{AtZero}
 use Rattle.frame_laws.specs.Function.{rewinding, unwinding}
 use Rattle.frame_laws.specs.Layout.{Layout}
 use Rattle.frame_laws.specs.Stack.{AllKept, Level, slot_values}
 use Rattle.frame_laws.specs.Suspended.{AllStandFor, Lays, StandsFor}
 use Rattle.guard_form.specs.Bounds.{passing}
-use Rattle.guard_form.specs.Functions.{ArmsHold, GuardedFunc, Role, as_is, with_guards}
+use Rattle.guard_form.specs.Functions.{ArmsHold, GuardedFunc, with_guards}
 use Rattle.guard_form.specs.Numbers.{calls_behind}
 use Rattle.guard_form.specs.Pieces.{Units, call_unit, flat_units}
 use Rattle.guard_form.specs.Places.{BodyPlace, Enclosing, flat_labels, in_a_block, in_a_loop}
@@ -36,19 +33,17 @@ use Rattle.guard_frames.specs.Levels.{FlatFieldsFit, MayStand, levels_of}
 use Rattle.guard_runs.specs.Alike.{Setting}
 use Rattle.guard_runs.specs.Rewinding.{NoneBelow}
 use Rattle.guard_runs.specs.Stopped.{Stopped, above, host}
-use Rattle.headline_laws.specs.FlatLaw.{AllLocalsFit, AllWeigh, FlatStands, LocalsFit}
+use Rattle.headline_laws.specs.FlatLaw.{AllLocalsFit, AllWeigh, LocalsFit}
 use Rattle.headline_laws.specs.World.{setting}
 use Rattle.flat_links.specs.Core.{Core, CoreFits, world_of}
-use Rattle.flat_links.specs.Links.{GoodStore, LinkedWaits}
-use Rattle.flat_links.specs.Links as N
 use Rattle.flat_links.proofs.Spaces.{func_type_same, funcs_are, grown_func_type}
 use Rattle.flat_guards.specs.CoreOf.{core_of}
 use Rattle.flat_guards.specs.Emitted.{Emitted, flat_of, guarded_of, lay_at, layout_of, role_at}
 use Rattle.flat_guards.proofs.CallWeights.{args_weigh}
 use Rattle.flat_guards.proofs.FrameFacts as F
-use Rattle.flat_guards.proofs.NumberedStacks.{AllAtNumbers, AtNumber, at_numbers, space_below, space_of}
+use Rattle.flat_guards.proofs.NumberedStacks.{AllAtNumbers, AtNumber, space_below}
 use Rattle.flat_guards.proofs.PairedFlat.{base_defined, base_locals, core_fits}
-use Rattle.flat_guards.proofs.PairedStacks.{AllPairs, AllTold, PairAt, pairs}
+use Rattle.flat_guards.proofs.PairedStacks.{AllPairs, PairAt}
 use Rattle.flat_guards.proofs.WantedFields.{lays, number_is}
 
 -- labels above no operand are those of constructs above none

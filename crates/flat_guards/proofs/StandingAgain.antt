@@ -1,21 +1,19 @@
 -- A flat stack that came back, but for what frames don't keep, stands beside the same suspended stack.
-use Rattle.std.proofs.Common.{◌≡◌, ℕ, zero, suc, ◌+◌, ◌-◌, ◌<◌, ◌≤◌, List, [], ◌∷◌, ◌++◌, length, map, drop, Option, Some, None, Bool, true, false, All, refl, sym, ap, ◌∙◌, subst, arith, length-append, length-drop}
+use Rattle.std.proofs.Common.{◌≡◌, ℕ, zero, suc, ◌+◌, ◌<◌, ◌≤◌, List, [], ◌∷◌, ◌++◌, length, drop, Option, Some, Bool, true, All, refl, sym, ap, ◌∙◌, arith, length-append, length-drop}
 use Rattle.std.specs.Prelude.{slice_get}
-use Rattle.std.proofs.lemmas.List.{append_assoc, get_or_append_left, length-map}
+use Rattle.std.proofs.lemmas.List.{get_or_append_left, length-map}
 use Rattle.std.proofs.lemmas.List.Elements.{All-head, All-tail}
-use Rattle.std.proofs.lemmas.Option.{slice_get_within}
 use Rattle.wa_types.specs.Base.{Base}
 use Rattle.wa_types.specs.Frames.{Pair, Saved, SlotPairs}
-use Rattle.wa_types.specs.Modules.{declared_locals, defined_at, func_type_at, locals_of, type_at}
-use Rattle.wa_types.specs.Pausing.{Settings, TellsMayPause, is_told, save_all}
-use Rattle.wa_types.specs.Runtime.{func_space}
-use Rattle.wa_types.specs.Syntax.{Code, Func, Module}
+use Rattle.wa_types.specs.Modules.{defined_at, locals_of}
+use Rattle.wa_types.specs.Pausing.{Settings, is_told, save_all}
+use Rattle.wa_types.specs.Syntax.{Module}
 use Rattle.wa_types.specs.Typing.{type_of}
 use Rattle.wa_types.specs.Validity.{Valid}
 use Rattle.wa_types.specs.declared.values.ValType.{ValType}
 use Rattle.wa_types.specs.declared.values.Value.{Value}
 use Rattle.wa_types.specs.declared.values.Value.TheVariants as V
-use Rattle.wa_model.specs.Configuration.{Activation, Label, place_of, waiting}
+use Rattle.wa_model.specs.Configuration.{Activation, place_of}
 use Rattle.wa_model.specs.Fitting.{types_of}
 use Rattle.wa_model.specs.Store.{value_at}
 use Rattle.flat_laws.specs.Flatten.{Names, names, place, slots}
@@ -54,9 +52,11 @@ holds_over n extra extra2 keep (w ∷ ops) holds ks each =
     let k0 : keep (n.first + place (length (types_of ops)) (type_of w) n.slots) ≡ true = All-head (λ y. keep y ≡ true) (n.first + place (length (types_of ops)) (type_of w) n.slots) (slots n (types_of ops)) ks in
     let l : length (types_of ops) ≡ length ops = length-map ops type_of in
     let q = there_is n.slots (place (length ops) (type_of w) n.slots) holds.0 in
-    let k1 : keep (n.first + place (length ops) (type_of w) n.slots) ≡ true = ap (λ i. keep (n.first + place i (type_of w) n.slots)) (sym l) ∙ k0 in
-    (holds.0, each (place (length ops) (type_of w) n.slots) q.0 q.1 k1 ∙ holds.1,
-      holds_over n extra extra2 keep ops holds.2 (All-tail (λ y. keep y ≡ true) (n.first + place (length (types_of ops)) (type_of w) n.slots) (slots n (types_of ops)) ks) each)
+    let k1 : keep (n.first + place (length ops) (type_of w) n.slots) ≡ true = ap (λ i. keep (n.first + place i (type_of w) n.slots)) (sym l) ∙ k0 in (
+      holds.0,
+      each (place (length ops) (type_of w) n.slots) q.0 q.1 k1 ∙ holds.1,
+      holds_over n extra extra2 keep ops holds.2 (All-tail (λ y. keep y ≡ true) (n.first + place (length (types_of ops)) (type_of w) n.slots) (slots n (types_of ops)) ks) each,
+    )
 
 -- ---- one activation
 

@@ -1,8 +1,8 @@
 -- The fields of a frame hold what the definitions of a suspended stack want of it, and the call's number is the one they have.
-use Rattle.std.proofs.Common.{◌≡◌, ℕ, zero, suc, ◌+◌, ◌-◌, ◌<◌, ◌≤◌, List, [], ◌∷◌, ◌++◌, length, map, Option, Some, None, Bool, true, false, cond, All, refl, sym, ap, ◌∙◌, subst, arith, length-append, eq-eqb, ne_eqb}
+use Rattle.std.proofs.Common.{◌≡◌, ℕ, zero, suc, ◌+◌, ◌-◌, ◌<◌, ◌≤◌, List, [], ◌∷◌, ◌++◌, length, Option, Some, None, Bool, true, false, cond, refl, sym, ap, ◌∙◌, subst, arith, length-append, eq-eqb, ne_eqb}
 use Rattle.std.specs.Prelude.{slice_get, nat_lt, nat_eq, not, if◌then◌else◌}
 use Rattle.std.specs.List.{position, prefix_len}
-use Rattle.std.proofs.lemmas.List.{get_or_append_left, length-map}
+use Rattle.std.proofs.lemmas.List.{get_or_append_left}
 use Rattle.std.proofs.lemmas.Option.{slice_get_within}
 use Rattle.wa_types.specs.Base.{Base}
 use Rattle.wa_types.specs.Frames.{Pair, Place, Saved, SlotPairs, call_number, greatest, operand_at, stands_at, wanted}

@@ -1,5 +1,5 @@
 -- The locals of a guarded function as it is written: own ones, slots, and more behind.
-use Rattle.std.proofs.Common.{◌≡◌, ℕ, zero, suc, ◌+◌, ◌-◌, ◌<◌, ◌≤◌, List, [], ◌∷◌, ◌++◌, length, map, Option, Some, None, Bool, true, false, refl, sym, ap, ◌∙◌, subst, arith, ltb-false}
+use Rattle.std.proofs.Common.{◌≡◌, ℕ, suc, ◌+◌, ◌-◌, ◌<◌, List, [], ◌∷◌, ◌++◌, length, map, Some, None, Bool, true, false, refl, sym, ap, ◌∙◌, subst, arith, ltb-false}
 use Rattle.std.specs.Prelude.{slice_get, nat_lt, if◌then◌else◌}
 use Rattle.std.specs.Option.{option_map}
 use Rattle.std.proofs.lemmas.List.{append_assoc}
@@ -17,10 +17,9 @@ use Rattle.wa_types.specs.declared.values.ValType.TheVariants.{I32, I64}
 use Rattle.wa_model.proofs.BaseValid.{base_valid}
 use Rattle.wa_model.proofs.GrownSteps.{front}
 use Rattle.wa_model.proofs.NamedModules.{valid_named}
-use Rattle.flat_laws.specs.FlatModule.{extra_types, flat_func}
 use Rattle.flat_laws.proofs.FlatModules.{is_flat}
 use Rattle.flat_guards.specs.Emitted.{Emitted, Guarded, WrittenAs}
-use Rattle.flat_guards.proofs.PairedFlat.{base_count, base_defined, types_are}
+use Rattle.flat_guards.proofs.PairedFlat.{base_defined, types_are}
 
 -- where a defined function stands
 pub index_of : (m : Module) (x : ℕ) (f : Func) → defined_at m x ≡ Some f → (j : ℕ) × (x ≡ func_imports m + j) × (slice_get m.funcs j ≡ Some f)
@@ -68,8 +67,9 @@ module _ (m : Module) (s : Settings) (which : List Bool) (keep : (func local : �
       let c : List ValType = map (λ (q : Pair). q.ty) (ResultPairs b f) in
       let tail : List ValType = I32 ∷ I32 ∷ I64 ∷ [] in
       let ty : type_at p g.sort ≡ type_at b f.sort =
-      ap (type_at p) w.sort ∙ ap (λ ts. or_empty (slice_get ts f.sort)) (em.types ∙ types_are m) ∙ ap or_empty (front b.types runtime_types f.sort (sort_known b (base_valid m valid) x f e)) in
-      (c ++ tail,
+      ap (type_at p) w.sort ∙ ap (λ ts. or_empty (slice_get ts f.sort)) (em.types ∙ types_are m) ∙ ap or_empty (front b.types runtime_types f.sort (sort_known b (base_valid m valid) x f e)) in (
+        c ++ tail,
         ap (λ t. t.params ++ declared_locals g.locals) ty
-        ∙ ap (λ z. ps ++ z) (w.locals ∙ ap (λ z. z ++ tail) ((is_flat b x f).1) ∙ append_assoc ds (a ++ c) tail ∙ ap (λ z. ds ++ z) (append_assoc a c tail))
-        ∙ sym (append_assoc ps ds (a ++ (c ++ tail))))
+            ∙ ap (λ z. ps ++ z) (w.locals ∙ ap (λ z. z ++ tail) ((is_flat b x f).1) ∙ append_assoc ds (a ++ c) tail ∙ ap (λ z. ds ++ z) (append_assoc a c tail))
+            ∙ sym (append_assoc ps ds (a ++ (c ++ tail))),
+      )
