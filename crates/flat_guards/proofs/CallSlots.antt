@@ -1,20 +1,13 @@
 -- The slots of a numbered call of a guarded flat function, by its place among all calls.
-use Rattle.std.proofs.Common.{◌≡◌, ℕ, zero, suc, ◌+◌, ◌-◌, ◌<◌, ◌≤◌, List, [], ◌∷◌, ◌++◌, length, map, take, drop, reverse, Option, Some, None, Bool, true, false, refl, sym, ap, ◌∙◌, subst, arith, ne_eqb, length-append}
+use Rattle.std.proofs.Common.{◌≡◌, ℕ, zero, suc, ◌+◌, List, [], ◌∷◌, ◌++◌, length, Option, Some, None, Bool, true, false, refl, sym, ap, ◌∙◌, subst, arith, ne_eqb, length-append}
 use Rattle.std.specs.Prelude.{slice_get, nat_eq, ◌||◌, if◌then◌else◌}
-use Rattle.std.proofs.lemmas.List.{append_assoc}
-use Rattle.wa_types.specs.declared.values.ValType.{ValType}
-use Rattle.wa_types.specs.Syntax.{Plain, basic, local_get, local_set, local_tee, br, br_if, br_table, return, unreachable, call, call_indirect, a_block, a_loop, Code, done, plain, nest, branch, FuncType, Func, Module}
-use Rattle.wa_types.specs.Typing.{Around, listed, sig, label}
-use Rattle.wa_types.specs.Points.{after}
-use Rattle.wa_types.specs.Pruned.{is_last, pruned}
-use Rattle.wa_types.specs.Modules.{around, or_empty}
-use Rattle.wa_types.specs.Pausing.{Callee, direct, indirect, callee, callee_onto, calls_of, calls_in, places_from}
+use Rattle.wa_types.specs.Syntax.{a_block, a_loop, Code, done, plain}
+use Rattle.wa_types.specs.Pausing.{Callee, direct, indirect, places_from}
 use Rattle.wa_model.specs.Flat.{Stmts, no_more, computes, copies, calls, leaps, leaps_if, leaps_by, nests, decides, halts, last_of}
-use Rattle.flat_laws.specs.Flatten.{Names, names, carry_to, carry_all, arrive, flat, flat_plain, flattened}
 use Rattle.flat_laws.specs.FlatModule.{stacks_in}
-use Rattle.flat_guards.proofs.NumberedStmts.{Kinds, kinds_flat, place_told, total_is}
+use Rattle.flat_guards.proofs.NumberedStmts.{Kinds, place_told}
 use Rattle.guard_form.specs.Functions.{GuardedFunc}
-use Rattle.guard_form.specs.Grouping.{StmtsNumbered, is_place}
+use Rattle.guard_form.specs.Grouping.{is_place}
 use Rattle.guard_form.specs.Pieces.{Units, no_unit, call_unit, nest_unit, if_unit, numbers_in, call_to, call_total, sole_callee, numbered, holds_call, first_piece, unit_call, units}
 use Rattle.guard_form.specs.Places.{Enclosing, BodyPlace, at_start, past_call, past_block, past_loop, past_if, in_block, in_loop, in_then, in_else}
 

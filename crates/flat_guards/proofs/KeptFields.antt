@@ -1,11 +1,11 @@
 -- What frames keep of flat locals: each has its type, stands for what is wanted at a call, and the call's slots are among them.
 use mathlib.Core.List.{reverse_aux}
-use Rattle.std.proofs.Common.{◌≡◌, ℕ, zero, suc, ◌+◌, ◌-◌, ◌<◌, ◌≤◌, ◌⊎◌, inl, inr, List, [], ◌∷◌, ◌++◌, length, map, take, drop, reverse, Option, Some, None, Bool, true, false, All, refl, sym, ap, ◌∙◌, subst, arith, length-append, eqb-true}
-use Rattle.std.specs.Prelude.{slice_get, nat_lt, nat_eq, ◌&&◌, if◌then◌else◌}
-use Rattle.std.proofs.lemmas.List.{get_or_append_left, length-map, length-reverse, reverse-append}
+use Rattle.std.proofs.Common.{◌≡◌, ℕ, zero, suc, ◌+◌, ◌<◌, ◌⊎◌, inl, inr, List, [], ◌∷◌, ◌++◌, length, map, take, reverse, Option, Some, None, Bool, true, false, All, refl, sym, ap, ◌∙◌, subst, arith}
+use Rattle.std.specs.Prelude.{slice_get, if◌then◌else◌}
+use Rattle.std.proofs.lemmas.List.{length-map, length-reverse, reverse-append}
 use Rattle.std.proofs.lemmas.List.Elements.{All-head, All-tail}
 use Rattle.wa_types.specs.Encoding.{same_type}
-use Rattle.wa_types.specs.Frames.{Pair, Place, named_places, of_type, operand_at, place_onto, same_pair, slot_places}
+use Rattle.wa_types.specs.Frames.{Pair, Place, named_places, of_type, operand_at, same_pair, slot_places}
 use Rattle.wa_types.specs.Sizes.{value_fits}
 use Rattle.wa_types.specs.Typing.{type_of}
 use Rattle.wa_types.specs.declared.values.ValType.{ValType}

@@ -105,7 +105,7 @@ pub space_of : (m : Module) → length (func_sorts (Base m)) ≡ func_space m
 unfolding Base
 space_of m = refl
 
-space_below : (m : Module) → Valid m → (x : ℕ) (f : Func) → defined_at (Base m) x ≡ Some f → x < func_space m
+pub space_below : (m : Module) → Valid m → (x : ℕ) (f : Func) → defined_at (Base m) x ≡ Some f → x < func_space m
 space_below m valid x f e = subst (λ i. x < i) (space_of m) (defined_below (Base m) [] [] [] [] (valid_named (Base m) (base_valid m valid)) x f e)
 
 module _ (m : Module) (s : Settings) (which : List Bool) (keep : (func local : ℕ) → Bool) (plan : Plan) (p : Module) (valid : Valid m) (tells : TellsMayPause m s which) (em : Emitted m s which keep p)

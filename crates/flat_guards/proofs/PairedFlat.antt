@@ -55,7 +55,7 @@ there (x ∷ xs) (suc i) lt = there xs i (omega arith)
 
 -- ---- the original with its memory
 
-types_are : (m : Module) → (with_runtime m).types ≡ (Base m).types ++ runtime_types
+pub types_are : (m : Module) → (with_runtime m).types ≡ (Base m).types ++ runtime_types
 unfolding Base with_runtime
 types_are m = refl
 

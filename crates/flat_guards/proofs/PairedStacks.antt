@@ -1,5 +1,5 @@
 -- A waiting activation of the original and its flat one: what they have in common at a call.
-use Rattle.std.proofs.Common.{◌≡◌, ℕ, suc, ◌+◌, List, [], ◌∷◌, ◌++◌, length, Option, Some, None, Bool, true, false, refl, sym, ap, ◌∙◌, subst, arith, length-append}
+use Rattle.std.proofs.Common.{◌≡◌, ℕ, ◌+◌, List, [], ◌∷◌, ◌++◌, length, Option, Some, None, Bool, true, false, refl, sym, ap, ◌∙◌, arith, length-append}
 use Rattle.std.specs.Prelude.{slice_get}
 use Rattle.wa_types.specs.declared.values.ValType.{ValType}
 use Rattle.wa_types.specs.declared.values.Value.{Value}
@@ -11,11 +11,11 @@ use Rattle.wa_types.specs.Typing.{Around, listed}
 use Rattle.wa_model.specs.Configuration.{Activation, Label, call_count, calls_outside, waiting}
 use Rattle.wa_model.specs.Configuration as C
 use Rattle.wa_model.specs.Fitting.{results_of, types_of}
-use Rattle.wa_model.specs.Flat.{Stmts, code_of, result_got, set_to}
+use Rattle.wa_model.specs.Flat.{code_of, result_got, set_to}
 use Rattle.wa_model.specs.Step.{result_count}
 use Rattle.flat_laws.specs.Flatten.{Names, arrive, flat, names, result_of, top_of}
 use Rattle.flat_fits.proofs.Calls.{calls_arrive, calls_flat, calls_set}
-use Rattle.flat_runs.specs.Beside.{AtZero, Callers, Labels, Locals, Spot, above, above_same, host, in_block, in_loop, outermost}
+use Rattle.flat_runs.specs.Beside.{AtZero, Callers, Labels, Locals, above, above_same, host, in_block, in_loop, outermost}
 use Rattle.flat_runs.proofs.WaitingCalls.{at_zero}
 use Rattle.guard_form.specs.Numbers.{calls_behind}
 

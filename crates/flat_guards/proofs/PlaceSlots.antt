@@ -1,29 +1,27 @@
 -- The slots that a numbered call of a guarded function takes, by its place among the calls of the original.
-use Rattle.std.proofs.Common.{◌≡◌, ℕ, zero, suc, ◌+◌, ◌-◌, ◌≤◌, ◌<◌, List, [], ◌∷◌, ◌++◌, length, map, take, drop, reverse, Option, Some, None, Bool, true, false, refl, sym, ap, ◌∙◌, subst, arith}
+use Rattle.std.proofs.Common.{◌≡◌, ℕ, suc, ◌+◌, ◌-◌, List, [], ◌∷◌, ◌++◌, length, map, drop, reverse, Option, Some, None, Bool, true, refl, sym, ap, ◌∙◌, arith}
 use Rattle.std.specs.Prelude.{slice_get, if◌then◌else◌}
 use Rattle.std.specs.Option.{option_map}
 use Rattle.std.proofs.lemmas.List.{append_assoc, map-append}
 use Rattle.std.proofs.lemmas.Option.{slice_get-map}
 use Rattle.wa_types.specs.Base.{Base}
 use Rattle.wa_types.specs.declared.values.ValType.{ValType}
-use Rattle.wa_types.specs.Syntax.{Plain, basic, local_get, local_set, local_tee, br, br_if, br_table, return, unreachable, call, call_indirect, Code, done, plain, nest, branch, FuncType, Func, Module}
+use Rattle.wa_types.specs.Syntax.{Plain, basic, local_get, local_set, local_tee, br, br_if, br_table, return, unreachable, call, call_indirect, Code, done, plain, nest, branch, Func, Module}
 use Rattle.wa_types.specs.Typing.{Around, Typed, listed, sig, label}
 use Rattle.wa_types.specs.Points.{after, func_call_points}
 use Rattle.wa_types.specs.Pruned.{is_last, pruned}
 use Rattle.wa_types.specs.Modules.{around, or_empty}
-use Rattle.wa_types.specs.Pausing.{Callee, Numbered, Settings, direct, indirect, callee, callee_onto, calls_of, calls_in, has_number, places_from}
-use Rattle.wa_model.specs.Flat.{Stmts, no_more, calls, leaps, leaps_if, leaps_by, code_of, last_of, set_to, followed_by}
+use Rattle.wa_types.specs.Pausing.{Callee, Numbered, Settings, direct, indirect, callee, callee_onto, calls_of, calls_in, has_number}
+use Rattle.wa_model.specs.Flat.{Stmts, no_more, leaps, leaps_if, leaps_by, last_of}
 use Rattle.flat_laws.specs.FlatModule.{stacks_in}
 use Rattle.flat_laws.specs.Flatten.{Names, names, slots, top, carry_to, carry_all, arrive, flat, flat_plain, flattened}
 use Rattle.flat_laws.proofs.Sizes.{stacks_are_slots}
 use Rattle.wa_model.specs.declared.flat.Operand.TheVariants.{Local}
-use Rattle.guard_form.specs.Functions.{GuardedFunc}
 use Rattle.guard_form.specs.Grouping.{is_place}
-use Rattle.guard_form.specs.Numbers.{NumberedAt, calls_behind}
-use Rattle.guard_form.specs.Pieces.{Units, call_unit, flat_units, units}
-use Rattle.guard_form.specs.Places.{Enclosing, BodyPlace, flat_labels}
+use Rattle.guard_form.specs.Pieces.{Units, call_unit}
+use Rattle.guard_form.specs.Places.{Enclosing, BodyPlace}
 use Rattle.flat_guards.specs.Emitted.{guarded_of}
-use Rattle.flat_guards.proofs.CallSlots.{EachUnit, all_calls, args_in, at_place, call_slots, each_unit, kinds_one, next_told, told_at, told_before, zip_got, zip_last, zipped}
+use Rattle.flat_guards.proofs.CallSlots.{EachUnit, all_calls, args_in, at_place, call_slots, each_unit, kinds_one, next_told, told_at, told_before, zip_got, zipped}
 use Rattle.flat_guards.proofs.NumberedStmts.{kinds_flat}
 
 -- so many operands a call takes
