@@ -77,9 +77,9 @@ pub fn add_runtime(alloc: Global, module: Module) -> Result<WithRuntime, Runtime
     Ok(WithRuntime { module, ids })
 }
 
-// The numbers of the parts to come.
+/// The numbers that the appended parts get behind those of the module.
 #[tactic(auto, using(crate::proofs::Counts::counting))]
-fn ids_behind(module: &Module) -> RuntimeIds
+pub fn ids_behind(module: &Module) -> RuntimeIds
     requires funcs { func_space (module_of «module».now) < 2 ^ 31 }
     requires globals { global_space (module_of «module».now) < 2 ^ 31 }
     ensures { result ≡ ids_behind (module_of «module».now) }

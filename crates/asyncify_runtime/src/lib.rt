@@ -18,5 +18,5 @@
 mod adding;
 mod reserving;
 
-pub use adding::{RuntimeFault, WithRuntime, add_runtime};
+pub use adding::{RuntimeFault, WithRuntime, add_runtime, ids_behind};
 pub use reserving::{ReservedAt, reserved};

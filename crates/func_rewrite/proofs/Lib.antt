@@ -1,0 +1,4 @@
+pub mod CallNumbers
+pub mod FrameChoice
+pub mod BodyCode
+pub mod WrittenFuncs

@@ -1,0 +1,171 @@
+-- A function as it is written is the definition's, part by part.
+use Rattle.std.proofs.Common.{◌≡◌, ◌∙◌, ℕ, suc, ◌+◌, ◌-◌, ◌^◌, ◌<◌, ◌≤◌, List, [], ◌∷◌, ◌++◌, length, length-append, map, filter, take, drop, Bool, All, refl, sym, ap, subst, arith}
+use Rattle.std.specs.Prelude.{nat_lt, ◌||◌}
+use Rattle.std.proofs.lemmas.List.{append_assoc, length-map}
+use Rattle.std.proofs.Math.Seq.{take-append_seam, drop-append_seam}
+use Rattle.wa_types.specs.declared.syntax.Run.{Run}
+use Rattle.wa_types.specs.declared.values.ValType.{ValType}
+use Rattle.wa_types.specs.declared.values.ValType.TheVariants.{I32, I64}
+use Rattle.wa_types.specs.Frames.{Pair, SlotPairs, ResultPairs, Saved}
+use Rattle.wa_types.specs.Modules.{locals_of}
+use Rattle.wa_types.specs.Pausing.{save_all, calls_of, calls_in, Listed, Settings, places_from, Numbered}
+use Rattle.wa_types.specs.Runtime.{global_space}
+use Rattle.wa_types.specs.Sizes.{StrictSizeRule}
+use Rattle.wa_types.specs.Syntax.{Code, done, Func, Module}
+use Rattle.wa_types.specs.Validity.{Valid}
+use Rattle.wa_model.specs.Flat.{FlatFunc, code_of, result_got}
+use Rattle.wa_model.specs.FlatFits.{FlatFits, one_run}
+use Rattle.wa_model.specs.FlatView.{flat_func_of}
+use Rattle.flat_fits.proofs.Calls.{calls_stay}
+use Rattle.flat_fits.proofs.Whole.{meets, counted}
+use Rattle.flat_laws.specs.Flatten.{flattened}
+use Rattle.flat_laws.specs.FlatModule.{extra_types}
+use Rattle.flatten.specs.declared.whole.Flattened.{Flattened}
+use Rattle.asyncify_runtime.specs.Ids.{ids_behind}
+use Rattle.local_spill.specs.Laying.{in_a_row, row_size, saved_local}
+use Rattle.local_spill.specs.Spilling.{SpillIndices, spill_indices, restoring, saving}
+use Rattle.local_spill.specs.declared.RuntimeIds.{RuntimeIds}
+use Rattle.local_spill.specs.declared.frames.Layout.{Layout as LayoutValue}
+use Rattle.local_spill.specs.declared.frames.Place.{Place}
+use Rattle.frame_laws.specs.Layout.{FrameField, fields_size, placed, spilled_by}
+use Rattle.guard_form.specs.Guarded.{function_body, guarded_code}
+use Rattle.guard_form.specs.Pieces.{call_total}
+use Rattle.call_numbers.specs.Numbering.{callees, gets_number}
+use Rattle.rewrite_form.specs.Emitted.{holds_operand, is_kept, field_where, frame_layout, written_func}
+use Rattle.written_frames.specs.Frames.{numbered_places, AllFrames}
+use Rattle.written_frames.specs.Marking.{StacksFit}
+use Rattle.func_rewrite.specs.Frames.{IsFlattened, FramesOf}
+use Rattle.func_rewrite.proofs.CallNumbers.{total_is, numbers_are, stacks_fit}
+use Rattle.func_rewrite.proofs.FrameChoice.{saved_are, chosen_places, chosen_size, row_below, frames_at}
+
+module _ (m : Module) (s : Settings) (which : List Bool) (f : Func) (v : Flattened) (valid : Valid m) (sizes : StrictSizeRule m) (h : IsFlattened m f v) where
+  abbrev x : ℕ
+  x = v.func.func
+
+  abbrev flat : FlatFunc
+  flat = flat_func_of v.func
+
+  abbrev slots : List ValType
+  slots = map (λ (p : Pair). p.ty) (SlotPairs m f)
+
+  abbrev results : List ValType
+  results = map (λ (p : Pair). p.ty) (ResultPairs m f)
+
+  pub same_locals : v.func.locals.items ≡ (locals_of m f ++ slots) ++ results
+  same_locals = ap (λ (g : FlatFunc). g.locals) h.flat
+
+  locals_few : length (flattened m x f).locals ≤ 50000
+  locals_few = let e = counted m x f in let k = h.few in omega arith
+
+  pub fits : FlatFits flat
+  fits = subst FlatFits (sym h.flat) (meets m x f valid sizes h.defined locals_few).fits
+
+  calls : calls_of (code_of flat.body) ≡ calls_in f
+  calls = ap (λ (g : FlatFunc). calls_of (code_of g.body)) h.flat ∙ calls_stay m x f
+
+  pub few_calls : call_total flat.body < 2 ^ 32
+  few_calls = let e = total_is (length flat.locals) 1 flat.body fits.statements in let k = fits.few_calls in omega arith
+
+  pub stacks : StacksFit (length v.func.locals.items) flat.body
+  stacks = stacks_fit (length flat.locals) 1 flat.body fits.statements
+
+  pub numbers : places_from (gets_number which (Listed m s) s.ignore_indirect) 0 (callees flat.body) ≡ Numbered m s which f
+  numbers = numbers_are m s which f (length flat.locals) 1 flat.body fits.statements calls
+
+  pub own_few : v.first_slot ≤ length v.func.locals.items
+  own_few =
+      let e = h.first_slot in
+      let k = ap length same_locals in
+      let l = length-append (locals_of m f ++ slots) results in
+      let n = length-append (locals_of m f) slots in omega arith
+
+  slots_count : length (locals_of m f ++ slots) ≡ v.first_result
+  slots_count =
+      let e = h.first_result in
+      let n = length-append (locals_of m f) slots in
+      let k = length-map (SlotPairs m f) (λ (p : Pair). p.ty) in omega arith
+
+  pub saved_few : v.first_result ≤ length v.func.locals.items
+  saved_few = let k = ap length same_locals in let l = length-append (locals_of m f ++ slots) results in let e = slots_count in omega arith
+
+  -- the saved locals are the first ones
+  first_are : take v.first_result v.func.locals.items ≡ locals_of m f ++ slots
+  first_are = ap (λ n. take n v.func.locals.items) (sym slots_count) ∙ ap (take (length (locals_of m f ++ slots))) same_locals ∙ take-append_seam (locals_of m f ++ slots) results
+
+  pub saved : numbered_places 0 (take v.first_result v.func.locals.items) ≡ Saved m save_all f 0
+  saved = ap (numbered_places 0) first_are ∙ sym (saved_are m f 0)
+
+  numbered_count : (k : ℕ) (ts : List ValType) → length (numbered_places k ts) ≡ length ts
+  numbered_count k [] = refl
+  numbered_count k (t ∷ ts) = ap suc (numbered_count (suc k) ts)
+
+  module _ (places : List Place) (ep : map saved_local places ≡ numbered_places 0 (take v.first_result v.func.locals.items)) where
+    same_saved : map saved_local places ≡ Saved m save_all f 0
+    same_saved = ep ∙ saved
+
+    pub places_few : length places ≤ 50000
+    places_few =
+        let a = ap length ep in
+        let b = length-map places saved_local in
+        let c = numbered_count 0 (take v.first_result v.func.locals.items) in
+        let d = ap length first_are in
+        let e = slots_count in let k = saved_few in let l = fits.few in omega arith
+
+    pub row_fits : All (λ (p : Place). p.local < length v.func.locals.items) (in_a_row 0 places)
+    row_fits =
+        let d = ap length first_are in
+        let e = slots_count in let k = saved_few in
+        row_below (length v.func.locals.items) (take v.first_result v.func.locals.items) (omega arith) places ep
+
+    pub frames_are : (numbers : List ℕ) (count : ℕ) (ls : List LayoutValue) → numbers ≡ Numbered m s which f → count ≡ length numbers → AllFrames places count ls → FramesOf m s which f ls
+    frames_are ns count ls en ec a = frames_at m f places same_saved 0 (Numbered m s which f) ls (a.many ∙ ec ∙ ap length en) a.each
+
+    -- ---- the body
+
+    abbrev keep : ℕ → Bool
+    keep = is_kept m s which x f
+
+    abbrev fields : List FrameField
+    fields = map (field_where keep) (Saved m save_all f 0)
+
+    pub kept_is : (own : ℕ) (numbers : List ℕ) (y : ℕ) → own ≡ v.first_slot → numbers ≡ Numbered m s which f → (nat_lt y own || holds_operand flat numbers y) ≡ keep y
+    kept_is own ns y eo en =
+        ap (λ k. nat_lt y k || holds_operand flat ns y) (eo ∙ h.first_slot)
+        ∙ ap (λ (g : FlatFunc). nat_lt y (length (locals_of m f)) || holds_operand g ns y) h.flat
+        ∙ ap (λ ks. nat_lt y (length (locals_of m f)) || holds_operand (flattened m x f) ks y) en
+
+    abbrev whole : ℕ → SpillIndices → ℕ → List Place → List ℕ → FlatFunc → Code
+    whole g i k ps ns fl = function_body g (restoring i k ps done) (saving i k ps done) (result_got fl.result) (guarded_code g ns fl)
+
+    pub body_same : (ids : RuntimeIds) (numbers : List ℕ) (chosen row : List Place) (kept : Place → Bool) (size rows : ℕ) → ids ≡ ids_behind m → numbers ≡ Numbered m s which f → row ≡ in_a_row 0 places → rows ≡ row_size places + 4 → size ≡ rows
+        → ((p : Place) → kept p ≡ keep p.local) → chosen ≡ filter kept row
+        → whole ids.state (spill_indices (length v.func.locals.items) ids) (size - 4) chosen numbers flat ≡ (written_func m s which x f).body
+    body_same ids ns chosen row kept size rows ei en er es ez same ec =
+        let n : ℕ = length (flattened m x f).locals in
+        let g : ℕ = global_space m in
+        let one : g + 1 ≡ suc g = omega arith in
+        let two : n + 1 ≡ suc n = omega arith in
+        let bytes : size - 4 ≡ fields_size fields = (let z = chosen_size keep places (Saved m save_all f 0) same_saved in omega arith) in
+        let spots : chosen ≡ placed 0 fields = ec ∙ ap (filter kept) er ∙ chosen_places keep places (Saved m save_all f 0) same_saved kept same in
+        let indices : spill_indices (length v.func.locals.items) (ids_behind m) ≡ spilled_by (frame_layout m s which x f) =
+        ap (λ k. spill_indices k (ids_behind m)) (ap (λ (q : FlatFunc). length q.locals) h.flat) ∙ (λ i. record { address = one i; index = n; scratch = two i }) in
+        ap (λ (j : RuntimeIds). whole j.state (spill_indices (length v.func.locals.items) j) (size - 4) chosen ns flat) ei
+        ∙ ap (λ j. whole g j (size - 4) chosen ns flat) indices
+        ∙ ap (λ k. whole g (spilled_by (frame_layout m s which x f)) k chosen ns flat) bytes
+        ∙ ap (λ ps. whole g (spilled_by (frame_layout m s which x f)) (fields_size fields) ps ns flat) spots
+        ∙ ap (λ ks. whole g (spilled_by (frame_layout m s which x f)) (fields_size fields) (placed 0 fields) ks flat) en
+        ∙ ap (whole g (spilled_by (frame_layout m s which x f)) (fields_size fields) (placed 0 fields) (Numbered m s which f)) h.flat
+
+  -- ---- the locals
+
+  pub runs_same : (own : ℕ) → own ≡ v.first_slot → f.locals ++ map one_run (drop own v.func.locals.items ++ I32 ∷ I32 ∷ I64 ∷ []) ≡ (written_func m s which x f).locals
+  runs_same own e =
+      let rest : drop own v.func.locals.items ≡ extra_types m f =
+      ap (λ n. drop n v.func.locals.items) (e ∙ h.first_slot) ∙ ap (drop (length (locals_of m f))) (same_locals ∙ append_assoc (locals_of m f) slots results) ∙ drop-append_seam (locals_of m f) (slots ++ results) in
+      ap (λ ts. f.locals ++ map one_run (ts ++ I32 ∷ I32 ∷ I64 ∷ [])) rest
+
+abbrev pub mk_func : ℕ → List Run → Code → Func
+mk_func sort locals body = record { sort = sort; locals = locals; body = body }
+
+pub func_is : (g : Func) (sort : ℕ) (locals : List Run) (body : Code) → sort ≡ g.sort → locals ≡ g.locals → body ≡ g.body → mk_func sort locals body ≡ g
+func_is g sort locals body a b c = λ i. record { sort = a i; locals = b i; body = c i }

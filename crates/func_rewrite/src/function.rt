@@ -1,0 +1,65 @@
+ghost use Rattle.std.specs.Prelude.{◌≡◌, IfOk};
+ghost use Rattle.wa_types.specs.Pausing.{Listed};
+ghost use Rattle.wa_types.specs.Sizes.{StrictSizeRule};
+ghost use Rattle.wa_types.specs.Validity.{Valid as IsValid};
+ghost use Rattle.wa_types.specs.View.{func_of, module_of};
+ghost use Rattle.call_graph.specs.Settings.{settings_of};
+ghost use Rattle.asyncify_runtime.specs.Ids.{ids_behind};
+ghost use Rattle.rewrite_form.specs.Emitted.{written_func};
+ghost use Rattle.func_rewrite.specs.Frames.{IsFlattened, FramesOf};
+
+use crate::body::written_body;
+use crate::locals::written_locals;
+use call_graph::Settings;
+use flatten::Flattened;
+use flow_rewrite::number_calls;
+use local_spill::{Layout, RuntimeIds, layout};
+use std::alloc::{AllocError, Global};
+use wa_types::{Func, Module};
+use written_frames::{call_frames, chosen_frame, kept_locals, saved_places};
+
+/// A function as it is written, and the frames of its numbered calls.
+#[derive(Debug, Drop)]
+pub struct Written {
+    pub func: Func,
+    pub frames: Vec<Layout>,
+}
+
+/// The function as it is written, and its frames, where `which` tells the functions that may pause and `listed` the imports
+/// that may. Takes time linear in the flat function and in what is answered.
+pub fn write_func(
+    alloc: Global,
+    _module: &Module,
+    settings: &Settings,
+    which: &[bool],
+    listed: &[bool],
+    source: &Func,
+    flat: &Flattened,
+    ids: &RuntimeIds,
+) -> Result<Written, AllocError>
+    requires valid { IsValid (module_of _module.now) }
+    requires sizes { StrictSizeRule (module_of _module.now) }
+    requires listed { listed.now ≡ Listed (module_of _module.now) (settings_of settings.now) }
+    requires ids { ids.now ≡ ids_behind (module_of _module.now) }
+    requires flat { IsFlattened (module_of _module.now) (func_of source.now) flat.now }
+    ensures func { IfOk result (λ w. func_of w.func ≡ written_func (module_of _module.now) (settings_of settings.now) which.now flat.now.func.func (func_of source.now)) }
+    ensures frames { IfOk result (λ w. FramesOf (module_of _module.now) (settings_of settings.now) which.now (func_of source.now) w.frames.items) }
+{
+    let own = flat.first_slot;
+    let flat_func = &flat.func;
+    let numbers = number_calls(alloc, flat_func, which, listed, settings.ignore_indirect)?;
+    let kept = kept_locals(alloc, flat_func, &numbers, own)?;
+    let saved = saved_places(alloc, &flat_func.locals, flat.first_result)?;
+    let frame = chosen_frame(alloc, layout(alloc, 0, &saved)?, &kept)?;
+    let body = written_body(alloc, flat_func, &numbers, frame, ids)?;
+    let locals = written_locals(alloc, &source.locals, &flat_func.locals, own)?;
+    let frames = call_frames(alloc, &saved, numbers.len() as u32)?;
+    Ok(Written {
+        func: Func {
+            sort: source.sort,
+            locals,
+            body,
+        },
+        frames,
+    })
+}

@@ -1,0 +1,8 @@
+//! One function as it is written: flat, guarded, with the code that restores and saves its frame, and its frames.
+#![tactic(auto)]
+
+mod body;
+mod function;
+mod locals;
+
+pub use function::{Written, write_func};
