@@ -1,11 +1,4 @@
-pub mod Accepted
-pub mod FreeNames
-pub mod Grown
-pub mod GrownFits
 pub mod OneEnd
 pub mod Printed
-pub mod SaidWords
-pub mod Spaces
 pub mod Transforming
 pub mod Verdicts
-pub mod Written

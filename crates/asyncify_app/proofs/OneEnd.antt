@@ -6,9 +6,10 @@ use Rattle.vault_port.specs.Files.{Files, bytes_of, IsMissing}
 use Rattle.vault_port.specs.Told.{WhereTold, Becomes}
 use Rattle.wa_types.specs.Pausing.{Settings}
 use Rattle.wa_model.specs.Command.{Command, transform, OnTransform}
-use Rattle.asyncify_app.specs.Sources.{Cause, IsRefusedFor, IsRefusal, status_of}
+use Rattle.source_modules.specs.Sources.{Cause, IsRefusedFor, refusal_for}
+use Rattle.printing.specs.Refused.{status_of}
 use Rattle.asyncify_app.specs.Transforms.{HasCause, HoldsSource, IsTransformed}
-use Rattle.asyncify_app.specs.Ends.{End, done, usage, memory, read_fault, write_fault, sink_fault, refused, Call, ForTransform, IsWhy, ToldThat, NothingFails, HasOneEnd, status_of_end}
+use Rattle.asyncify_app.specs.Ends.{End, done, usage, memory, read_fault, write_fault, sink_fault, refused, Call, ForTransform, IsWhy, ToldThat, NothingFails, HasOneEnd, status_of_end, IsRefusal}
 use Rattle.asyncify_app.proofs.Verdicts.{one_status, source_passes}
 
 -- what is known of a `transform`'s status
@@ -36,7 +37,7 @@ refused_not_held s input None cause h r = r
 refused_not_held s input (Some a) cause h r = source_passes s (bytes_of a input) h.0 cause h.1 r
 
 one_cause : (s : Settings) (input : List ℕ) (files : Option Files) (c d : Cause) → WhereTold files (λ all. IsRefusedFor s (bytes_of all input) c)
-    → ToldThat files (λ all. IsRefusedFor s (bytes_of all input) d) → status_of c ≡ status_of d
+    → ToldThat files (λ all. IsRefusedFor s (bytes_of all input) d) → status_of (refusal_for c) ≡ status_of (refusal_for d)
 one_cause s input None c d h k = absurd k
 one_cause s input (Some a) c d h k = one_status s (bytes_of a input) c d h k
 
@@ -57,7 +58,7 @@ held_not_missing s input (Some a) h m = some_not_none (a input) h.0 m
 
 -- the refusals of a `transform`
 refusals_of : (s : Settings) (input output : List ℕ) (c : Call) (status : ℕ) → Known s input output c status → (cause : Cause)
-    → ToldThat c.files (λ all. IsRefusedFor s (bytes_of all input) cause) → (status ≡ status_of cause) ⊎ (status ≡ 9) ⊎ (status ≡ 10)
+    → ToldThat c.files (λ all. IsRefusedFor s (bytes_of all input) cause) → (status ≡ status_of (refusal_for cause)) ⊎ (status ≡ 9) ⊎ (status ≡ 10)
 refusals_of s input output c status k cause r = elim k.statuses [
   | inl zero ↦ absurd (refused_not_held s input c.files cause (source_held s input output c.files c.files' (k.done (inl zero))) r)
   | inr x ↦ elim x [

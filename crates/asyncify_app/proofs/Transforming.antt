@@ -14,9 +14,9 @@ use Rattle.wa_types.specs.ModuleBounds.{source_bounds}
 use Rattle.wasm_reader.specs.declared.read_fault.ReadFault.{ReadFault}
 use Rattle.wasm_reader.specs.declared.read_fault.ReadFault.TheVariants.{Memory, Malformed, Float, Deep, Limit}
 use Rattle.wasm_reader.specs.Answers.{IsAccepted, IsRefused}
-use Rattle.asyncify_app.specs.Sources.{IsFree, IsValidSource, IsSource, Cause, malformed, float, deep, limit, reserved, invalid, not_built, IsRefusedFor}
-use Rattle.asyncify_app.specs.Transforms.{HoldsSource, IsRewritten, IsTransformed, IsCutShort, IsCount}
-use Rattle.asyncify_app.proofs.FreeNames.{sources_are_rewritten}
+use Rattle.source_modules.specs.Sources.{IsFree, IsValidSource, IsSource, Cause, malformed, float, deep, limit, reserved, invalid, not_built, IsRefusedFor, IsRewritten}
+use Rattle.asyncify_app.specs.Transforms.{HoldsSource, IsTransformed, IsCutShort, IsCount}
+use Rattle.source_modules.proofs.FreeNames.{sources_are_rewritten}
 
 -- a front one byte past the limit that is within it is whole
 whole_front : (bytes : List ℕ) → length (take 8388609 bytes) ≤ 8388608 → take 8388609 bytes ≡ bytes

@@ -16,7 +16,8 @@ use Rattle.wa_types.proofs.OneModule.{one_module}
 use Rattle.wa_types.proofs.UniqueCode.{one_file}
 use Rattle.wasm_reader.specs.Answers.{IsFile, HasNoFloat, IsAccepted}
 use Rattle.asyncify_runtime.specs.Reserved.{reserved_at}
-use Rattle.asyncify_app.specs.Sources.{IsFree, IsValidSource, IsSource, Cause, malformed, float, deep, limit, reserved, invalid, not_built, IsRefusedFor, status_of}
+use Rattle.source_modules.specs.Sources.{IsFree, IsValidSource, IsSource, Cause, malformed, float, deep, limit, reserved, invalid, not_built, IsRefusedFor, refusal_for}
+use Rattle.printing.specs.Refused.{status_of}
 
 -- how far bytes come
 abbrev Reached : Settings → List ℕ → ℕ → Type 0
@@ -136,7 +137,7 @@ limit_six : (what : LimitKind) → 6 ≡ status_at (limit_stage what)
 limit_six File = refl
 limit_six _ = refl
 
-by_stage : (c : Cause) → status_of c ≡ status_at (stage c)
+by_stage : (c : Cause) → status_of (refusal_for c) ≡ status_at (stage c)
 by_stage (malformed at) = refl
 by_stage (float at) = refl
 by_stage (deep at) = refl
@@ -159,7 +160,7 @@ early (invalid func rule at) = omega arith
 early not_built = omega arith
 
 -- Two causes for which bytes are refused have one status.
-pub one_status : (s : Settings) (bytes : List ℕ) (c d : Cause) → IsRefusedFor s bytes c → IsRefusedFor s bytes d → status_of c ≡ status_of d
+pub one_status : (s : Settings) (bytes : List ℕ) (c d : Cause) → IsRefusedFor s bytes c → IsRefusedFor s bytes d → status_of (refusal_for c) ≡ status_of (refusal_for d)
 one_status s bytes c d h k = elim (cases_lt (stage c) (stage d)) [
   | inl lt ↦ absurd (stops s bytes c h (below s bytes (stage d) (suc (stage c)) (omega (arith, lt)) (reaches s bytes d k)))
   | inr ge ↦ elim (cases_lt (stage d) (stage c)) [

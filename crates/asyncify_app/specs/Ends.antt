@@ -5,7 +5,8 @@ use Rattle.vault_port.specs.Files.{Files, bytes_of, IsMissing}
 use Rattle.vault_port.specs.Told.{WhereTold, Becomes}
 use Rattle.wa_types.specs.Pausing.{Settings}
 use Rattle.wa_model.specs.Command.{Command, transform}
-use Rattle.asyncify_app.specs.Sources.{Cause, IsRefusedFor, status_of}
+use Rattle.printing.specs.Refused.{status_of}
+use Rattle.source_modules.specs.Sources.{Cause, IsRefusedFor, refusal_for}
 use Rattle.asyncify_app.specs.Transforms.{HoldsSource, IsTransformed}
 
 pub data End : Type 0 where
@@ -15,7 +16,7 @@ pub data End : Type 0 where
 abbrev pub status_of_end : End → ℕ
 status_of_end done = 0
 status_of_end usage = 2
-status_of_end (refused cause) = status_of cause
+status_of_end (refused cause) = status_of (refusal_for cause)
 status_of_end memory = 9
 status_of_end read_fault = 10
 status_of_end write_fault = 11
@@ -68,6 +69,10 @@ pub record HasOneEnd (c : Call) (status : ℕ) : Type 0 where
   pub why : IsWhy c which
   pub refusals : (cause : Cause)
       → ForTransform c.spelled (λ s input output. ToldThat c.files (λ all. IsRefusedFor s (bytes_of all input) cause))
-      → (status ≡ status_of cause) ⊎ (status ≡ 9) ⊎ (status ≡ 10)
+      → (status ≡ status_of (refusal_for cause)) ⊎ (status ≡ 9) ⊎ (status ≡ 10)
   pub accepted : ForTransform c.spelled (λ s input output. ToldThat c.files (λ all. IsSome (all input) × HoldsSource s (bytes_of all input)))
       → NothingFails c → (status ≡ 0) ⊎ (status ≡ 9)
+
+-- the status of a refusal of IN
+abbrev pub IsRefusal : ℕ → Type 0
+IsRefusal n = (cause : Cause) × (n ≡ status_of (refusal_for cause))

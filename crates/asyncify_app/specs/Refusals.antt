@@ -1,41 +1,12 @@
--- What a refusal of the program says.
-use Rattle.std.specs.Prelude.{◌≡◌, List, ℕ, Option}
-use Rattle.std.specs.String.{string_bytes}
-use Rattle.wasm_reader.specs.declared.read_fault.ReadFault.{ReadFault}
-use Rattle.wasm_reader.specs.declared.read_fault.ReadFault.TheVariants.{Memory as read_memory, Malformed as read_malformed, Float as read_float, Deep as read_deep, Limit as read_limit}
-use Rattle.asyncify_app.specs.declared.refusals.Refusal.{Refusal}
-use Rattle.asyncify_app.specs.declared.refusals.Refusal.TheVariants.{Malformed, Float, Deep, Limit, Reserved, Invalid, NotBuilt}
-use Rattle.asyncify_app.specs.declared.source.SourceFault.{SourceFault}
-use Rattle.asyncify_app.specs.declared.source.SourceFault.TheVariants.{Memory, Refused}
-use Rattle.asyncify_app.specs.declared.transform.TransformFault.{TransformFault}
-use Rattle.asyncify_app.specs.declared.transform.TransformFault.TheVariants.{Refused as transform_refused}
+-- What a refused module leaves.
+use Rattle.std.specs.Prelude.{List, ℕ, Option}
 use Rattle.wa_types.specs.Pausing.{Settings}
 use Rattle.vault_port.specs.Files.{Files, bytes_of}
 use Rattle.vault_port.specs.Told.{WhereTold}
-use Rattle.asyncify_app.specs.Sources.{Cause, malformed, float, deep, limit, reserved, invalid, not_built, IsRefusedFor}
-
--- the cause that a refusal names
-abbrev pub cause_of : Refusal → Cause
-cause_of (Malformed at) = malformed at
-cause_of (Float at) = float at
-cause_of (Deep at) = deep at
-cause_of (Limit what found) = limit what found
-cause_of (Reserved name) = reserved (string_bytes name)
-cause_of (Invalid func rule at) = invalid func rule at
-cause_of NotBuilt = not_built
-
--- want of memory, or a refusal for which the bytes are refused
-abbrev pub IsFaultOf : Settings → List ℕ → SourceFault → Type 0
-IsFaultOf s bytes Memory = Unit {0}
-IsFaultOf s bytes (Refused refusal) = IsRefusedFor s bytes (cause_of refusal)
-
--- the fault of a source that wasn't read
-abbrev pub IsOfRead : ReadFault → SourceFault → Type 0
-IsOfRead read_memory fault = fault ≡ Memory
-IsOfRead (read_malformed at) fault = fault ≡ Refused (Malformed at)
-IsOfRead (read_float at) fault = fault ≡ Refused (Float at)
-IsOfRead (read_deep at) fault = fault ≡ Refused (Deep at)
-IsOfRead (read_limit what found) fault = fault ≡ Refused (Limit what found)
+use Rattle.source_modules.specs.Refusals.{cause_of}
+use Rattle.source_modules.specs.Sources.{IsRefusedFor}
+use Rattle.asyncify_app.specs.declared.transform.TransformFault.{TransformFault}
+use Rattle.asyncify_app.specs.declared.transform.TransformFault.TheVariants.{Refused as transform_refused}
 
 -- a refusal, for which, where the files are told, IN is refused
 abbrev pub IsToldRefusal : Settings → Option Files → List ℕ → TransformFault → Type 0

@@ -1,6 +1,6 @@
 -- What `transform` does to the files and what it prints.
-use Rattle.std.specs.Prelude.{◌≡◌, ◌⊎◌, ℕ, List, ◌++◌, length, take, Option, Some}
-use Rattle.vault_port.specs.Counts.{HasRisen}
+use Rattle.std.specs.Prelude.{◌≡◌, ◌⊎◌, ℕ, List, ◌++◌, length, take, Option, Some, None, codes}
+use Rattle.std.specs.Fmt.{decimal}
 use Rattle.vault_port.specs.Files.{Files, bytes_of, KeepsOthers, ChangesOnly}
 use Rattle.vault_port.specs.Told.{WhereTold}
 use Rattle.vault_port.specs.Taken.{Appends, AppendsLess}
@@ -11,13 +11,15 @@ use Rattle.wa_types.specs.Pausing.{Settings}
 use Rattle.wa_types.specs.Reading.{SpellsModule}
 use Rattle.wa_types.specs.Runtime.{with_runtime}
 use Rattle.wa_model.specs.Rewrites.{Rewrites}
-use Rattle.asyncify_app.specs.Lines.{memory_line, read_fault_line, write_fault_line, done_line, line_of}
-use Rattle.asyncify_app.specs.Sources.{IsSource, Cause, IsRefusedFor, status_of}
+use Rattle.wa_model.specs.Transcript.{refusal_line, read_fault, write_fault, line_end}
+use Rattle.printing.specs.Refused.{status_of, Prints, PrintsMemory}
+use Rattle.source_modules.specs.Sources.{IsSource, Cause, IsRefusedFor, refusal_for}
 
--- the bytes are an accepted source of so many functions, and the text is its module with the runtime's parts, and spells it
-abbrev pub IsRewritten : Settings → List ℕ → ℕ → List ℕ → Type 0
-IsRewritten s bytes functions text =
-    (m : Module) × IsSource s bytes m × (functions ≡ length m.funcs) × (text ≡ Enc (with_runtime m)) × SpellsModule text (Norm (with_runtime m))
+-- what `transform` prints: how many functions the module defines, how many of them are instrumented, and how
+-- many bytes were written
+unfoldable pub done_line : (functions instrumented bytes : ℕ) → List ℕ
+done_line functions instrumented bytes =
+    codes "ok functions " ++ decimal functions ++ codes " instrumented " ++ decimal instrumented ++ codes " bytes " ++ decimal bytes ++ line_end
 
 -- OUT holds the bytes of a module that is the module of IN, rewritten by these settings: under the host's protocol it behaves
 -- like the original. The other files are as before.
@@ -50,28 +52,16 @@ HoldsSource s bytes = (m : Module) × IsSource s bytes m
 
 -- a cause of this status; where the files are told, IN is refused for it
 abbrev pub HasCause : Settings → Option Files → List ℕ → ℕ → Type 0
-HasCause s files input status = (cause : Cause) × (status ≡ status_of cause) × WhereTold files (λ all. IsRefusedFor s (bytes_of all input) cause)
+HasCause s files input status = (cause : Cause) × (status ≡ status_of (refusal_for cause)) × WhereTold files (λ all. IsRefusedFor s (bytes_of all input) cause)
 
 -- the line of a refusal of IN
 abbrev pub IsRefusalLine : Settings → Option Files → List ℕ → List ℕ → Type 0
-IsRefusalLine s files input line = (cause : Cause) × (line ≡ line_of cause) × WhereTold files (λ all. IsRefusedFor s (bytes_of all input) cause)
+IsRefusalLine s files input line = (cause : Cause) × (line ≡ refusal_line None (refusal_for cause)) × WhereTold files (λ all. IsRefusedFor s (bytes_of all input) cause)
 
 -- the line of a refusal, or of a module that was written
 abbrev pub IsLine : Settings → Option Files → List ℕ → List ℕ → List ℕ → Type 0
 IsLine s files input output line =
-    IsRefusalLine s files input line ⊎ (line ≡ read_fault_line input) ⊎ (line ≡ write_fault_line output) ⊎ IsDoneLine s files input line
-
--- the line was printed, or less of it where the sink has failed
-abbrev pub Prints : List ℕ → ℕ → ℕ → List ℕ → List ℕ → Type 0
-Prints line faults faults' old new = Appends line old new ⊎ (AppendsLess line old new × HasRisen faults faults')
-
--- some first bytes of the line on memory were printed
-abbrev pub EndsInMemory : List ℕ → List ℕ → Type 0
-EndsInMemory old new = (k : ℕ) × (new ≡ old ++ take k memory_line)
-
--- some first bytes of this line, and then some of the line on memory, were printed
-abbrev pub PrintsMemory : List ℕ → List ℕ → List ℕ → Type 0
-PrintsMemory line old new = (n : ℕ) × (k : ℕ) × (new ≡ old ++ take n line ++ take k memory_line)
+    IsRefusalLine s files input line ⊎ (line ≡ refusal_line None (read_fault input)) ⊎ (line ≡ refusal_line None (write_fault output)) ⊎ IsDoneLine s files input line
 
 -- the line of the module that was written was printed
 abbrev pub PrintsDone : Settings → Option Files → List ℕ → List ℕ → List ℕ → Type 0
@@ -88,4 +78,4 @@ RunsOutOfMemory s files input output old new = (line : List ℕ) × IsLine s fil
 -- the line of a cause of this status was printed, for which IN is refused; or less of it where the sink has failed
 abbrev pub PrintsRefusal : Settings → Option Files → List ℕ → ℕ → ℕ → ℕ → List ℕ → List ℕ → Type 0
 PrintsRefusal s files input status faults faults' old new =
-    (cause : Cause) × (status ≡ status_of cause) × WhereTold files (λ all. IsRefusedFor s (bytes_of all input) cause) × Prints (line_of cause) faults faults' old new
+    (cause : Cause) × (status ≡ status_of (refusal_for cause)) × WhereTold files (λ all. IsRefusedFor s (bytes_of all input) cause) × Prints (refusal_line None (refusal_for cause)) faults faults' old new

@@ -6,26 +6,19 @@ ghost use Rattle.vault_port.specs.Counts.{HasRisen};
 ghost use Rattle.vault_port.specs.Files.{bytes_of, IsMissing};
 ghost use Rattle.vault_port.specs.Told.{WhereTold, Becomes};
 ghost use Rattle.wa_model.specs.Command.{command, OnTransform};
-ghost use Rattle.asyncify_app.specs.Ends.{HasOneEnd};
-ghost use Rattle.asyncify_app.specs.Lines.{read_fault_line, usage_line, write_fault_line};
-ghost use Rattle.asyncify_app.specs.Sources.{IsRefusal};
-ghost use Rattle.asyncify_app.specs.Transforms.{HasCause, HoldsSource, IsCutShort, IsTransformed, Prints, PrintsRefusal, PrintsDone, PrintsLess, PrintsMemory, RunsOutOfMemory};
+ghost use Rattle.wa_model.specs.Transcript.{read_fault, refusal_line, usage, write_fault};
+ghost use Rattle.printing.specs.Refused.{Prints, PrintsMemory};
+ghost use Rattle.asyncify_app.specs.Ends.{HasOneEnd, IsRefusal};
+ghost use Rattle.asyncify_app.specs.Transforms.{HasCause, HoldsSource, IsCutShort, IsTransformed, PrintsRefusal, PrintsDone, PrintsLess, RunsOutOfMemory};
 
-use crate::printing::{out_of_memory, refuse, refuse_name, refuse_source, report};
+use crate::report::{refusal_kind, report};
 use crate::transform::{TransformFault, transform};
-use crate::words::{Command, WordsFault, read_words};
 use call_graph::Settings;
+use command_words::{Command, WordsFault, read_words};
+use printing::{out_of_memory, refuse, refuse_read, refuse_write};
 use std::alloc::Global;
+use transcript::RefusalKind;
 use vault_port::{Sink, Vault};
-
-/// The status of words that spell no command.
-const USAGE: u8 = 2;
-
-/// The status of a file that could not be read.
-const READ_FAULT: u8 = 10;
-
-/// The status of a file that could not be written.
-const WRITE_FAULT: u8 = 11;
 
 /// Runs the command that the words spell, without the program's own name, over a vault of files and a sink for what
 /// it prints, and answers its status: 0 done, 2 no command, 3 bytes that spell no module, 4 a float, 5 a module that isn't
@@ -41,8 +34,8 @@ pub fn asyncify<V: Vault, S: Sink>(
     ensures usage { command (map string_bytes words.now) ≡ None → (result ≡ 2) ⊎ (result ≡ 9) }
     ensures usage_alone { result ≡ 2 → command (map string_bytes words.now) ≡ None }
     ensures usage_files { command (map string_bytes words.now) ≡ None → V.files vault.new ≡ V.files vault.old }
-    ensures prints_usage { result ≡ 2 → Becomes (S.taken out.old) (S.taken out.new) (Prints usage_line (S.faults out.old) (S.faults out.new)) }
-    ensures prints_usage_memory { command (map string_bytes words.now) ≡ None → result ≡ 9 → Becomes (S.taken out.old) (S.taken out.new) (PrintsMemory usage_line) }
+    ensures prints_usage { result ≡ 2 → Becomes (S.taken out.old) (S.taken out.new) (Prints (refusal_line None usage) (S.faults out.old) (S.faults out.new)) }
+    ensures prints_usage_memory { command (map string_bytes words.now) ≡ None → result ≡ 9 → Becomes (S.taken out.old) (S.taken out.new) (PrintsMemory (refusal_line None usage)) }
     ensures status { (result ≡ 0) ⊎ (result ≡ 2) ⊎ IsRefusal result ⊎ (result ≡ 9) ⊎ (result ≡ 10) ⊎ (result ≡ 11) ⊎ (result ≡ 12) }
 
     // Exactly one end, with its cause.
@@ -85,9 +78,9 @@ pub fn asyncify<V: Vault, S: Sink>(
     ensures prints_memory { OnTransform (command (map string_bytes words.now)) (λ settings input output.
         result ≡ 9 → Becomes (S.taken out.old) (S.taken out.new) (RunsOutOfMemory settings (V.files vault.old) input output)) }
     ensures prints_read { OnTransform (command (map string_bytes words.now)) (λ settings input output.
-        result ≡ 10 → Becomes (S.taken out.old) (S.taken out.new) (Prints (read_fault_line input) (S.faults out.old) (S.faults out.new))) }
+        result ≡ 10 → Becomes (S.taken out.old) (S.taken out.new) (Prints (refusal_line None (read_fault input)) (S.faults out.old) (S.faults out.new))) }
     ensures prints_write { OnTransform (command (map string_bytes words.now)) (λ settings input output.
-        result ≡ 11 → Becomes (S.taken out.old) (S.taken out.new) (Prints (write_fault_line output) (S.faults out.old) (S.faults out.new))) }
+        result ≡ 11 → Becomes (S.taken out.old) (S.taken out.new) (Prints (refusal_line None (write_fault output)) (S.faults out.old) (S.faults out.new))) }
     ensures prints_refusal { OnTransform (command (map string_bytes words.now)) (λ settings input output.
         IsRefusal result → Becomes (S.taken out.old) (S.taken out.new) (PrintsRefusal settings (V.files vault.old) input result (S.faults out.old) (S.faults out.new))) }
 
@@ -97,7 +90,7 @@ pub fn asyncify<V: Vault, S: Sink>(
     ensures sink_faults { S.faults out.old ≤ S.faults out.new }
 {
     match read_words(alloc, words) {
-        Err(WordsFault::Usage) => refuse(out, USAGE, b"usage\n"),
+        Err(WordsFault::Usage) => refuse(alloc, out, RefusalKind::Usage),
         Err(WordsFault::Memory) => out_of_memory(out),
         Ok(
             Command::Transform {
@@ -110,7 +103,6 @@ pub fn asyncify<V: Vault, S: Sink>(
 }
 
 /// `transform IN OUT`: rewrites the module in one file into another, prints a line and answers the status.
-#[tactic(auto, unfolding(crate::specs::Lines::read_fault_line, crate::specs::Lines::write_fault_line))]
 fn run_transform<V: Vault, S: Sink>(
     alloc: Global,
     vault: &mut V,
@@ -139,8 +131,8 @@ fn run_transform<V: Vault, S: Sink>(
     ensures prints_done { result ≡ 0 → Becomes (S.taken out.old) (S.taken out.new) (PrintsDone (settings_of settings.now) (V.files vault.old) input.now) }
     ensures prints_less { result ≡ 12 → Becomes (S.taken out.old) (S.taken out.new) (PrintsLess (settings_of settings.now) (V.files vault.old) input.now) }
     ensures prints_memory { result ≡ 9 → Becomes (S.taken out.old) (S.taken out.new) (RunsOutOfMemory (settings_of settings.now) (V.files vault.old) input.now output.now) }
-    ensures prints_read { result ≡ 10 → Becomes (S.taken out.old) (S.taken out.new) (Prints (read_fault_line input.now) (S.faults out.old) (S.faults out.new)) }
-    ensures prints_write { result ≡ 11 → Becomes (S.taken out.old) (S.taken out.new) (Prints (write_fault_line output.now) (S.faults out.old) (S.faults out.new)) }
+    ensures prints_read { result ≡ 10 → Becomes (S.taken out.old) (S.taken out.new) (Prints (refusal_line None (read_fault input.now)) (S.faults out.old) (S.faults out.new)) }
+    ensures prints_write { result ≡ 11 → Becomes (S.taken out.old) (S.taken out.new) (Prints (refusal_line None (write_fault output.now)) (S.faults out.old) (S.faults out.new)) }
     ensures prints_refusal { IsRefusal result → Becomes (S.taken out.old) (S.taken out.new) (PrintsRefusal (settings_of settings.now) (V.files vault.old) input.now result (S.faults out.old) (S.faults out.new)) }
 
     // No count falls.
@@ -151,8 +143,8 @@ fn run_transform<V: Vault, S: Sink>(
     match transform(alloc, vault, settings, input, output) {
         Ok(done) => report(alloc, out, done.functions, done.bytes),
         Err(TransformFault::Memory) => out_of_memory(out),
-        Err(TransformFault::Read) => refuse_name(alloc, out, READ_FAULT, "read fault ", input),
-        Err(TransformFault::Refused(refusal)) => refuse_source(alloc, out, &refusal),
-        Err(TransformFault::Write) => refuse_name(alloc, out, WRITE_FAULT, "write fault ", output),
+        Err(TransformFault::Read) => refuse_read(alloc, out, input),
+        Err(TransformFault::Refused(refusal)) => refuse(alloc, out, refusal_kind(refusal)),
+        Err(TransformFault::Write) => refuse_write(alloc, out, output),
     }
 }

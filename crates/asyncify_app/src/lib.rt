@@ -9,12 +9,7 @@
 #![tactic(auto)]
 
 mod command;
-mod lines;
-mod printing;
-mod refusals;
-mod said;
-mod source;
+mod report;
 mod transform;
-mod words;
 
 pub use command::asyncify;

@@ -8,9 +8,8 @@ ghost use Rattle.asyncify_app.specs.Refusals.{IsOfSource, IsToldRefusal};
 ghost use Rattle.asyncify_app.specs.Transforms.{HoldsSource, IsCount, IsCutShort, IsTransformed};
 ghost use Rattle.std.specs.Result.{IfErr};
 
-use crate::refusals::Refusal;
-use crate::source::{SourceFault, rewrite};
 use call_graph::Settings;
+use source_modules::{Refusal, SourceFault, rewrite};
 use std::alloc::Global;
 use thiserror::Error;
 use vault_port::{FetchFault, SaveFault, Vault, fetch_whole, save_whole};

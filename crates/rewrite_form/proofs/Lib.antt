@@ -5,3 +5,4 @@ pub mod WrittenSizes
 pub mod EmittedRewritten
 pub mod Marks
 pub mod EmittedSizes
+pub mod UnitsFew

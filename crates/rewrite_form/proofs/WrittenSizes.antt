@@ -26,12 +26,13 @@ use Rattle.frame_laws.specs.Function.{WrittenFunc}
 use Rattle.frame_laws.specs.Layout.{FrameField, kept, gap, kept_count}
 use Rattle.frame_laws.specs.Sizes.{result_size}
 use Rattle.frame_laws.proofs.FrameSizes.{function_size, function_depth}
-use Rattle.guard_form.specs.Bounds.{unit_count, calls_and_constructs}
+use Rattle.guard_form.specs.Bounds.{unit_count}
 use Rattle.guard_form.specs.Functions.{GuardedFunc, indices_of}
 use Rattle.guard_form.specs.Guarded.{front}
 use Rattle.guard_form.specs.Pieces.{flat_units}
 use Rattle.guard_form.proofs.Grouped.{joins_law}
-use Rattle.guard_form.proofs.Sizes.{depth_law, few_law, size_law}
+use Rattle.guard_form.proofs.Sizes.{depth_law, size_law}
+use Rattle.rewrite_form.proofs.UnitsFew.{calls_and_constructs, units_are_few}
 use Rattle.slot_laws.proofs.Few.{slots_are_few}
 use Rattle.rewrite_form.specs.Emitted.{is_kept, field_where, frame_layout, guarded_func, written_func}
 
@@ -167,7 +168,7 @@ module _ (m : Module) (s : Settings) (which : List Bool) (x : ℕ) (f : Func) wh
 
   few_units : unit_count gf.body ≤ w
   few_units =
-      let a = few_law (Numbered m s which f) 0 (flattened m x f).body in
+      let a = units_are_few (Numbered m s which f) 0 (flattened m x f).body in
       let b = flat_few (names m f) (around m f) ((around m f).result ∷ []) (pruned f.body) [] in
       let e : calls_and_constructs (flattened m x f).body ≡ calls_and_constructs (flat (names m f) (around m f) ((around m f).result ∷ []) (pruned f.body) []) =
       ap calls_and_constructs (sym (flat_pruned (names m f) (around m f) ((around m f).result ∷ []) f.body [])) in

@@ -1,21 +1,22 @@
 -- The line on memory alone, where the words weren't read; and the one end of a call.
-use Rattle.std.proofs.Common.{rules, ◌≡◌, ◌⊎◌, map, subst, Err}
+use Rattle.std.proofs.Common.{rules, ◌≡◌, ◌⊎◌, map, subst, Err, None}
 use Rattle.std.specs.String.{string_bytes}
 use Rattle.wa_model.specs.Command.{command, OnTransform}
-use Rattle.asyncify_app.specs.declared.words.WordsFault.{WordsFault}
+use Rattle.command_words.specs.declared.words.WordsFault.{WordsFault}
 use Rattle.vault_port.specs.Counts.{HasRisen}
 use Rattle.vault_port.specs.Files.{bytes_of, IsMissing}
 use Rattle.vault_port.specs.Told.{Becomes, WhereTold}
-use Rattle.asyncify_app.specs.Lines.{usage_line}
-use Rattle.asyncify_app.specs.Sources.{IsRefusal}
+use Rattle.wa_model.specs.Transcript.{refusal_line, usage}
+use Rattle.asyncify_app.specs.Ends.{IsRefusal}
 use Rattle.asyncify_app.specs.Transforms.{HasCause, HoldsSource, IsTransformed}
-use Rattle.asyncify_app.specs.Words.{Reads, command_of}
+use Rattle.command_words.specs.Words.{Reads, command_of}
 use Rattle.asyncify_app.proofs.OneEnd.{memory_ends, transform_ends_on, usage_ends}
-use Rattle.asyncify_app.proofs.Printed.{memory_alone, memory_unread}
+use Rattle.printing.proofs.Printed.{memory_alone}
+use Rattle.asyncify_app.proofs.Printed.{memory_unread}
 use Rattle.asyncify_app.proofs.command.asyncify.Goals as goal
 
 pub returns-in-Err-Memory-clause-prints_usage_memory : goal.returns-in-Err-Memory-clause-prints_usage_memory
-returns-in-Err-Memory-clause-prints_usage_memory g c = λ e n. memory_alone usage_line _ _ c.out_of_memory.ensures.printed
+returns-in-Err-Memory-clause-prints_usage_memory g c = λ e n. memory_alone (refusal_line None usage) _ _ c.out_of_memory.ensures.printed
 
 pub returns-in-Err-Memory-clause-prints_memory : goal.returns-in-Err-Memory-clause-prints_memory
 returns-in-Err-Memory-clause-prints_memory g c = memory_unread _ _ _ _ _ c.out_of_memory.ensures.printed

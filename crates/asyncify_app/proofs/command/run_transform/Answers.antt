@@ -1,6 +1,7 @@
 -- What stays of the two files and of the lines, by status.
 use Rattle.std.proofs.Common.{subst}
-use Rattle.asyncify_app.specs.Refusals.{cause_of, IsToldRefusal}
+use Rattle.source_modules.specs.Refusals.{cause_of}
+use Rattle.asyncify_app.specs.Refusals.{IsToldRefusal}
 use Rattle.call_graph.specs.Settings.{settings_of}
 use Rattle.asyncify_app.proofs.Printed.{memory_any, refused_has_cause}
 use Rattle.asyncify_app.proofs.Transforming.{transformed_is_cut}

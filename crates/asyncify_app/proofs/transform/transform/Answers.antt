@@ -1,7 +1,7 @@
 -- What the two files have to do with the module that was read.
 use Rattle.std.proofs.Common.{subst}
 use Rattle.call_graph.specs.Settings.{settings_of}
-use Rattle.asyncify_app.specs.Refusals.{cause_of, IsFaultOf}
+use Rattle.source_modules.specs.Refusals.{cause_of, IsFaultOf}
 use Rattle.asyncify_app.proofs.Transforming.{transformed, cut_short, counted, refused_for, held}
 use Rattle.asyncify_app.proofs.transform.transform.Goals as goal
 

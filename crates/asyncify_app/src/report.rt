@@ -1,0 +1,68 @@
+// What is printed of a module that was written, and of one that is refused.
+ghost use Rattle.std.specs.Prelude.{◌≡◌, ◌⊎◌, ◌≤◌, IfOk};
+ghost use Rattle.std.specs.String.{string_bytes};
+ghost use Rattle.vault_port.specs.Counts.{HasRisen};
+ghost use Rattle.vault_port.specs.Told.{Becomes};
+ghost use Rattle.vault_port.specs.Taken.{Appends, AppendsLess};
+ghost use Rattle.transcript.specs.Printing.{refusal_of};
+ghost use Rattle.printing.specs.Refused.{PrintsMemory};
+ghost use Rattle.source_modules.specs.Refusals.{cause_of};
+ghost use Rattle.source_modules.specs.Sources.{refusal_for};
+ghost use Rattle.asyncify_app.specs.Transforms.{done_line};
+
+use printing::out_of_memory;
+use source_modules::Refusal;
+use std::alloc::{AllocError, Global};
+use transcript::RefusalKind;
+use vault_port::{PutFault, Sink, put_whole};
+
+/// The status of a sink that failed while accepted output was printed.
+const SINK_FAULT: u8 = 12;
+
+/// What is told of a module that is refused.
+pub fn refusal_kind(refusal: Refusal) -> RefusalKind
+    ensures { refusal_of result ≡ refusal_for (cause_of refusal) }
+{
+    match refusal {
+        Refusal::Malformed { at } => RefusalKind::Malformed { at },
+        Refusal::Float { at } => RefusalKind::Float { at },
+        Refusal::Deep { at } => RefusalKind::Nesting { at },
+        Refusal::Limit { what, found } => RefusalKind::Limit { what, found },
+        Refusal::Reserved { name } => RefusalKind::Reserved { name },
+        Refusal::Invalid { func, rule, at } => RefusalKind::Invalid { func, rule, at },
+        Refusal::NotBuilt => RefusalKind::NotBuilt,
+    }
+}
+
+/// Prints the line of a module that was written. Answers 0, 12 after a fault of the sink, or 9.
+pub fn report<S: Sink>(alloc: Global, out: &mut S, functions: usize, bytes: usize) -> u8
+    ensures status { (result ≡ 0) ⊎ (result ≡ 9) ⊎ (result ≡ 12) }
+    ensures printed { result ≡ 0 → Becomes (S.taken out.old) (S.taken out.new)
+        (Appends (done_line functions 0 bytes)) }
+    ensures fault { result ≡ 12 → HasRisen (S.faults out.old) (S.faults out.new) }
+    ensures less { result ≡ 12 → Becomes (S.taken out.old) (S.taken out.new)
+        (AppendsLess (done_line functions 0 bytes)) }
+    ensures memory { result ≡ 9 → Becomes (S.taken out.old) (S.taken out.new)
+        (PrintsMemory (done_line functions 0 bytes)) }
+    ensures faults { S.faults out.old ≤ S.faults out.new }
+{
+    let Ok(line) = done_line(alloc, functions, 0, bytes) else {
+        return out_of_memory(out);
+    };
+    match put_whole(out, line.as_bytes()) {
+        Ok(()) => 0,
+        Err(PutFault::Fault) => SINK_FAULT,
+        Err(PutFault::Memory) => out_of_memory(out),
+    }
+}
+
+fn done_line(
+    alloc: Global,
+    functions: usize,
+    instrumented: usize,
+    bytes: usize,
+) -> Result<String, AllocError>
+    ensures { IfOk result (λ line. string_bytes line ≡ done_line functions instrumented bytes) }
+{
+    format!(in alloc; "ok functions {functions} instrumented {instrumented} bytes {bytes}\n")
+}

@@ -1,0 +1,4 @@
+pub mod Floats
+pub mod Levels
+pub mod Numbers
+pub mod Prepared
