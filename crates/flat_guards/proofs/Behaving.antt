@@ -30,7 +30,7 @@ use Rattle.range_laws.proofs.BlockingRuns.{base_codes}
 use Rattle.range_laws.proofs.Host.{store_lower}
 use Rattle.range_laws.proofs.Openings.{openings_in}
 use Rattle.range_laws.proofs.ProtocolRuns.{fits_areas, fits_in}
-use Rattle.run_laws.specs.Stopping.{ExportsTyped}
+use Rattle.run_laws.specs.FittingStates.{ExportsTyped}
 use Rattle.run_laws.proofs.Exported.{exports_free, none_found, parts_exported}
 use Rattle.run_laws.proofs.PlanParts.{plans_fit_parts}
 use Rattle.run_laws.proofs.RuntimeTyped.{runtime_typed}

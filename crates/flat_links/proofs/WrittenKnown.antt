@@ -24,7 +24,7 @@ use Rattle.wa_model.proofs.NamedModules.{valid_instance}
 use Rattle.range_laws.specs.Ranges.{ActivationIn, CodesIn, HeldFrom, NoteIn, OpeningIn}
 use Rattle.range_laws.proofs.Openings.{openings_in}
 use Rattle.range_laws.proofs.ProtocolRuns.{fits_in, opened_in, turn_in}
-use Rattle.run_laws.specs.Stopping.{ExportsTyped}
+use Rattle.run_laws.specs.FittingStates.{ExportsTyped}
 use Rattle.run_laws.specs.FittingStates.{HeldFits}
 use Rattle.run_laws.proofs.ProtocolStopping.{begun_fits, turn_fits}
 use Rattle.run_laws.proofs.Stopping.{start_there}

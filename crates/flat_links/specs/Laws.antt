@@ -7,7 +7,7 @@ use Rattle.wa_model.specs.Configuration.{Configuration}
 use Rattle.wa_model.specs.Plan.{AreaFits, Fits, Outcome, OutcomeFits, Plan}
 use Rattle.wa_model.specs.Protocol.{Phase, Protocol, busy}
 use Rattle.range_laws.specs.Ranges.{CodesIn}
-use Rattle.run_laws.specs.Stopping.{ExportsTyped}
+use Rattle.run_laws.specs.FittingStates.{ExportsTyped}
 use Rattle.headline_laws.specs.FlatLaw.{AllLocalsFit}
 
 -- Where a run under the protocol stands at a running program, each activation's locals have their function's types and are in range:
