@@ -53,7 +53,7 @@ module _ (m : Module) (which : List Bool) (flat : Module) (fl : Flattened m flat
     most = h.most;
     both = h.both;
   }
-  next_beside c f (asks k i args d) h = let le = lean_less flat (first_of m) f h.at h.n h.l h.before in let least = h.least in record {
+  next_beside c f (asks k i args d) h = let le = lean_less flat (first_of m) f h.at h.n h.l h.before in let least = h.least in let most = h.most in record {
     n = h.n;
     at = h.at;
     before = still_quiet flat (first_of m) f h.at h.n h.l h.before;
@@ -61,9 +61,9 @@ module _ (m : Module) (which : List Bool) (flat : Module) (fl : Flattened m flat
     j = h.j;
     there = h.ends;
     least = omega arith;
-    most = h.most;
+    most = omega arith;
   }
-  next_beside c f (returns k vs s) h = let le = lean_less flat (first_of m) f h.at h.n h.l h.before in let least = h.least in record {
+  next_beside c f (returns k vs s) h = let le = lean_less flat (first_of m) f h.at h.n h.l h.before in let least = h.least in let most = h.most in record {
     n = h.n;
     at = h.at;
     before = still_quiet flat (first_of m) f h.at h.n h.l h.before;
@@ -71,9 +71,9 @@ module _ (m : Module) (which : List Bool) (flat : Module) (fl : Flattened m flat
     j = h.j;
     there = h.ends;
     least = omega arith;
-    most = h.most;
+    most = omega arith;
   }
-  next_beside c f (traps k t s) h = let le = lean_less flat (first_of m) f h.at h.n h.l h.before in let least = h.least in record {
+  next_beside c f (traps k t s) h = let le = lean_less flat (first_of m) f h.at h.n h.l h.before in let least = h.least in let most = h.most in record {
     n = h.n;
     at = h.at;
     before = still_quiet flat (first_of m) f h.at h.n h.l h.before;
@@ -81,7 +81,7 @@ module _ (m : Module) (which : List Bool) (flat : Module) (fl : Flattened m flat
     j = h.j;
     there = h.ends;
     least = omega arith;
-    most = h.most;
+    most = omega arith;
   }
   next_beside c f stuck h = tt
 
