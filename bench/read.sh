@@ -1,18 +1,18 @@
 #!/usr/bin/env bash
-# Times reading and validating: `asyncify transform` of modules that it refuses behind both as not yet built (status 14),
-# and of a malformed one (status 3). User time, the least of RUNS runs (3), and greatest resident memory, beside `wasm-opt`
-# reading and writing the same file and `wasm-validate` (Debian's binaryen and wabt). Fails where a byte takes more than 1.3
+# Times reading and validating: `asyncify transform` of modules whose last body alone isn't valid (status 5), so that nothing is
+# rewritten, and of a malformed one (status 3). User time, the least of RUNS runs (3), and greatest resident memory, beside `wasm-opt`
+# reading and writing the same file with a valid last body and `wasm-validate` (Debian's binaryen and wabt). Fails where a byte takes more than 1.3
 # times the time of one in the next smaller file, where the 8 MB take more than half of wasm-opt's time or more than 64 bytes
 # of memory a byte, or where blocks that never end are refused in more than twice the time of a file of that size of nested
 # blocks; says whether half of wasm-validate's time is kept too.
 . "$(dirname "$0")/common.sh"
 runs=${RUNS:-3}
 
-# A module of a kind and about so many megabytes.
+# A module of a kind and about so many megabytes, with an invalid last body, and beside it, `.valid`, with a valid one.
 make_module() {
     python3 - "$1" "$2" "$3" <<'PY'
 import sys
-from wasm_bytes import PAUSING, TABLE, module, section, sized, unsigned
+from wasm_bytes import INVALID, VALID, module, section, sized, unsigned
 
 kind, megabytes, path = sys.argv[1], float(sys.argv[2]), sys.argv[3]
 size = int(megabytes * 1_000_000)
@@ -31,10 +31,12 @@ elif kind == "labels":
 if kind == "open":
     code = b"\x01" + unsigned(size) + b"\x00" + b"\x02\x40" * (size // 2)
     whole = module(section(1, [b"\x60\x00\x00"]), section(3, [b"\x00"]), b"\x0a" + unsigned(len(code) + 16) + code)
+    open(path, "wb").write(whole)
 else:
-    bodies.append(PAUSING)
-    whole = module(section(1, [b"\x60\x01\x7f\x01\x7f"]), section(3, [b"\x00"] * len(bodies)), TABLE, section(10, bodies))
-open(path, "wb").write(whole)
+    for last, name in (INVALID, path), (VALID, path + ".valid"):
+        all = [*bodies, last]
+        whole = module(section(1, [b"\x60\x01\x7f\x01\x7f"]), section(3, [b"\x00"] * len(all)), section(10, all))
+        open(name, "wb").write(whole)
 PY
 }
 
@@ -44,18 +46,18 @@ for kind in many long deep labels; do
     for megabytes in 1 2 4 8; do
         make_module "$kind" "$megabytes" "$temp/in.wasm"
         bytes=$(stat -c %s "$temp/in.wasm")
-        read -r time kilobytes < <(measure 14 "$runs" "$asyncify" transform "$temp/in.wasm" "$temp/out.wasm")
+        read -r time kilobytes < <(measure 5 "$runs" "$asyncify" transform "$temp/in.wasm" "$temp/out.wasm")
         echo "$kind: $bytes bytes in $time s, $((kilobytes * 1024 / bytes)) bytes of memory a byte"
         [ -z "$before" ] || bar "$time <= 1.3 * $before * $bytes / $fewer + 0.02" "$kind: a byte takes 1.3 times the time of before"
         before=$time fewer=$bytes
     done
     if has_peer wasm-opt; then
-        read -r opt _ < <(measure 0 1 wasm-opt "$temp/in.wasm" -o "$temp/out.wasm")
+        read -r opt _ < <(measure 0 1 wasm-opt "$temp/in.wasm.valid" -o "$temp/out.wasm")
         echo "$kind: wasm-opt $opt s"
         bar "$time <= $opt / 2" "$kind: past half of wasm-opt's time"
     fi
     if has_peer wasm-validate; then
-        read -r valid _ < <(measure 0 "$runs" wasm-validate "$temp/in.wasm")
+        read -r valid _ < <(measure 0 "$runs" wasm-validate "$temp/in.wasm.valid")
         echo "$kind: wasm-validate $valid s"
         holds "$time <= $valid / 2" || echo "$kind: past half of wasm-validate's time"
     fi

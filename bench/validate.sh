@@ -1,10 +1,10 @@
 #!/usr/bin/env bash
-# Times reading and validating: `asyncify transform` of valid modules that it refuses behind both as not yet built (status
-# 14), beside `wasm-opt` reading and writing the same file and `wasm-validate` (Debian's binaryen and wabt). Each shape is
+# Times reading and validating: `asyncify transform` of modules whose last body alone isn't valid (status 5), so that nothing is
+# rewritten, beside `wasm-opt` reading and writing the same file with a valid last body and `wasm-validate` (Debian's binaryen and wabt). Each shape is
 # made at an eighth, a quarter, half and the whole of its bound: a body of 1 MB, blocks nested 1,000 deep, 100,000
 # functions, as many small bodies of 50,000 locals each, tables of 10,000 labels, and a body of 1 MB of calls with 1,000
 # parameters behind `unreachable`; and, for their growth alone, bodies with a run for each of 50,000 locals, and 239,000 export
-# names whose hashes in a table of `indexmap` are all 0, which take at most 1.5 s. Each has a call through a table. User time, the
+# names whose hashes in a table of `indexmap` are all 0, which take at most 1.5 s. User time, the
 # least of RUNS runs (5), of `wasm-opt` one; beside `wasm-validate` the median of RUNS runs of both in turns. SHAPES names
 # the shapes to time.
 # Fails where twice the size takes more than 2.6 times the time, and where 8 MB take more than half the time of `wasm-opt`
@@ -12,11 +12,12 @@
 . "$(dirname "$0")/common.sh"
 runs=${RUNS:-5}
 
-# A module of a shape, at so many eighths of its bound, or 8 MB of it (`whole`).
+# A module of a shape, at so many eighths of its bound, or 8 MB of it (`whole`), with an invalid last body, and beside it,
+# `.valid`, with a valid one.
 make_module() {
     python3 - "$1" "$2" "$3" <<'PY'
 import sys
-from wasm_bytes import PAUSING, TABLE, module, section, sized, unsigned
+from wasm_bytes import INVALID, VALID, module, section, sized, unsigned
 
 shape, eighths, path = sys.argv[1:]
 END = b"\x20\x00\x0b"
@@ -63,10 +64,10 @@ elif shape == "names":
     for n in range(part * 29_875):
         free = "".join(chr(97 + (n >> 4 * k & 15)) for k in range(8))
         exports.append(sized(b"vael51bfy6vcb6a2A3<F0~[k" + free.encode()) + b"\x00\x00")
-funcs = first + [(b"\x00", one)] * count + [(b"\x00", PAUSING)]
-sorts, bodies = zip(*funcs)
-whole = module(section(1, types), section(3, sorts), TABLE, section(7, exports), section(10, bodies))
-open(path, "wb").write(whole)
+for last, name in (INVALID, path), (VALID, path + ".valid"):
+    sorts, bodies = zip(*first, *[(b"\x00", one)] * count, (b"\x00", last))
+    whole = module(section(1, types), section(3, sorts), section(7, exports), section(10, bodies))
+    open(name, "wb").write(whole)
 PY
 }
 
@@ -76,7 +77,7 @@ for shape in ${SHAPES:-long dead deep functions locals labels runs names}; do
     for part in 1 2 4 8 whole; do
         [ "$part" = whole ] && [[ "$shape" != long && "$shape" != dead ]] && continue
         make_module "$shape" "$part" "$temp/in.wasm"
-        read -r time _ < <(measure 14 "$runs" "$asyncify" transform "$temp/in.wasm" "$temp/out.wasm")
+        read -r time _ < <(measure 5 "$runs" "$asyncify" transform "$temp/in.wasm" "$temp/out.wasm")
         echo "$shape: $(stat -c %s "$temp/in.wasm") bytes in $time s"
         if [ "$part" != whole ] && [ -n "$half" ]; then
             bar "$time <= 2.6 * $half + 0.02" "$shape: twice the size takes more than 2.6 times the time"
@@ -87,13 +88,13 @@ for shape in ${SHAPES:-long dead deep functions locals labels runs names}; do
     [[ "$shape" = runs || "$shape" = names ]] && continue
     if has_peer wasm-opt; then
         # within the memory, `wasm-opt` doesn't end on many bodies of 50,000 locals
-        read -r opt _ < <(measure 0 1 wasm-opt "$temp/in.wasm" -o "$temp/out.wasm")
+        read -r opt _ < <(measure 0 1 wasm-opt "$temp/in.wasm.valid" -o "$temp/out.wasm")
         echo "$shape: wasm-opt $opt s"
         [ "$opt" = none ] || bar "$time <= $opt / 2 + 0.004" "$shape: past half of wasm-opt's time"
     fi
     if has_peer wasm-validate; then
-        read -r ours valid < <(in_turns "$runs" 14 "$asyncify" transform "$temp/in.wasm" "$temp/out.wasm" -- \
-            0 wasm-validate "$temp/in.wasm")
+        read -r ours valid < <(in_turns "$runs" 5 "$asyncify" transform "$temp/in.wasm" "$temp/out.wasm" -- \
+            0 wasm-validate "$temp/in.wasm.valid")
         echo "$shape: $ours s in turns with wasm-validate, $valid s"
         bar "$ours <= $valid / 2 + 0.004" "$shape: past half of wasm-validate's time"
     fi

@@ -34,7 +34,7 @@ def module(*sections):
     return b"\0asm\x01\0\0\0" + b"".join(sections)
 
 
-# A table and a body that calls through it, so that `transform` answers `not yet built` behind reading and validating. Type 0 is
-# of one i32 to one.
-TABLE = section(4, [b"\x70\x00\x01"])
-PAUSING = sized(b"\x00\x20\x00\x20\x00\x11\x00\x00\x0b")
+# Two bodies for functions of one i32 to one: the first lacks an operand, so that `transform` answers `invalid` (status 5) once
+# all bodies before it are read and validated; the second is valid.
+INVALID = sized(b"\x00\x6a\x0b")
+VALID = sized(b"\x00\x20\x00\x0b")
