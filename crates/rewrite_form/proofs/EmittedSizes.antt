@@ -141,7 +141,7 @@ all_of : {X : Type 0} (P : X → Type 0) (xs : List X) → ((i : ℕ) (x : X) �
 all_of P [] h = All-nil P
 all_of P (x ∷ xs) h = All-cons P x xs (h 0 x refl) (all_of P xs (λ i y e. h (suc i) y e))
 
-defined_of : (m : Module) (i : ℕ) (f : Func) → slice_get m.funcs i ≡ Some f → defined_at m (func_imports m + i) ≡ Some f
+pub defined_of : (m : Module) (i : ℕ) (f : Func) → slice_get m.funcs i ≡ Some f → defined_at m (func_imports m + i) ≡ Some f
 defined_of m i f e =
     let n : ℕ = func_imports m in
     let z : nat_lt (n + i) n ≡ false = le-ltb (n + i) n (omega arith) in

@@ -1,0 +1,4 @@
+pub mod EmitLemmas
+pub mod FreeNames
+pub mod Spaces
+pub mod WholeLemmas

@@ -1,0 +1,136 @@
+use Rattle.std.proofs.Common.{ap, sym, subst, map, Err, None, ◌≡◌, ◌<◌, ◌^◌, ◌∙◌}
+use Rattle.std.proofs.lemmas.Result.{err_from_is_err_and}
+use Rattle.wa_types.specs.declared.syntax.Module.{Module as ModuleValue}
+use Rattle.wa_types.specs.Runtime.{func_space, global_space, with_runtime}
+use Rattle.wa_types.specs.Sizes.{SizeRule}
+use Rattle.wa_types.specs.Validity.{Valid}
+use Rattle.wa_types.specs.View.{func_of, module_of}
+use Rattle.asyncify_runtime.specs.Reserved.{reserved_at}
+use Rattle.call_graph.specs.Settings.{settings_of}
+use Rattle.rewrite_form.specs.Rewritten.{RewritesButRuns}
+use Rattle.rewrite_form.proofs.Emitted.{inner}
+use Rattle.rewrite_form.proofs.EmittedRewritten.{rewritten_law, valid_law}
+use Rattle.rewrite_form.proofs.EmittedSizes.{sizes_law}
+use Rattle.module_rewrite.specs.Emitting.{Emits, AllEmitted}
+use Rattle.module_rewrite.specs.Whole.{Asyncifies}
+use Rattle.module_rewrite.proofs.FreeNames.{unreserved_is_free}
+use Rattle.module_rewrite.proofs.WholeLemmas.{emits_fault, few_written, globals_small, inner_space, none_is, space_small}
+use Rattle.module_rewrite.proofs.whole.asyncify_module.Goals as goal
+
+pub ids_behind-ids-requires-clause-funcs : goal.ids_behind-ids-requires-clause-funcs
+ids_behind-ids-requires-clause-funcs c =
+    let v = c.args.valid.now in
+    let m = module_of v in
+    let same = c.module-module.ensures.same in
+    subst (λ (z : ModuleValue). func_space (module_of z) < 2 ^ 31) (sym same) (space_small m c.requires.sizes)
+
+pub ids_behind-ids-requires-clause-globals : goal.ids_behind-ids-requires-clause-globals
+ids_behind-ids-requires-clause-globals c =
+    let v = c.args.valid.now in
+    let m = module_of v in
+    let same = c.module-module.ensures.same in
+    subst (λ (z : ModuleValue). global_space (module_of z) < 2 ^ 31) (sym same) (globals_small m c.requires.sizes)
+
+pub returns-in_err-emitted : goal.returns-in_err-emitted
+returns-in_err-emitted c =
+    let v = c.args.valid.now in
+    let m = module_of v in
+    let same = c.module-module.ensures.same in
+    let s = settings_of c.args.settings.now in
+    let which = c.in_ok-which.which.items in
+    let free : reserved_at m ≡ None = ap (λ (z : ModuleValue). reserved_at (module_of z)) (sym same) ∙ sym c.reserved.ensures ∙ none_is c.reserved.result c.in_default.not-Some in
+    let p = err_from_is_err_and c.from_residual-in_err-emitted.result c.from_residual-in_err-emitted.ensures.1 in
+    let h = subst (λ w. Emits m s w (Err c.in_err-emitted.field-0.0)) c.deref.ensures.value c.in_err-emitted.ensures in
+    subst (Asyncifies m s) (sym p.1) (subst (λ z. Asyncifies m s (Err z)) (sym p.2) (emits_fault m s which c.in_err-emitted.field-0.0 free c.in_ok-which.ensures h))
+
+pub with_parts-requires-clause-funcs : goal.with_parts-requires-clause-funcs
+with_parts-requires-clause-funcs c =
+    let v = c.args.valid.now in
+    let m = module_of v in
+    let same = c.module-module.ensures.same in
+    let s = settings_of c.args.settings.now in
+    let which = c.in_ok-which.which.items in
+    let valid = subst (λ (z : ModuleValue). Valid (module_of z)) same c.module-module.ensures.valid in
+    let free : reserved_at m ≡ None = ap (λ (z : ModuleValue). reserved_at (module_of z)) (sym same) ∙ sym c.reserved.ensures ∙ none_is c.reserved.result c.in_default.not-Some in
+    let emitted : AllEmitted m s which c.in_ok-emitted.emitted = subst (λ w. AllEmitted m s w c.in_ok-emitted.emitted) c.deref.ensures.value c.in_ok-emitted.ensures in
+    let made : module_of c.in_ok-inner.inner ≡ inner m s which =
+    c.in_ok-inner.ensures ∙ ap (λ (z : ModuleValue). record (module_of z) { funcs = map func_of c.in_ok-emitted.emitted.funcs.items }) same ∙ ap (λ fs. record m { funcs = fs }) emitted.funcs in
+    subst (λ q. func_space q < 2 ^ 31) (sym made) (inner_space m s which c.requires.sizes)
+
+pub with_parts-requires-clause-globals : goal.with_parts-requires-clause-globals
+with_parts-requires-clause-globals c =
+    let v = c.args.valid.now in
+    let m = module_of v in
+    let same = c.module-module.ensures.same in
+    let s = settings_of c.args.settings.now in
+    let which = c.in_ok-which.which.items in
+    let valid = subst (λ (z : ModuleValue). Valid (module_of z)) same c.module-module.ensures.valid in
+    let free : reserved_at m ≡ None = ap (λ (z : ModuleValue). reserved_at (module_of z)) (sym same) ∙ sym c.reserved.ensures ∙ none_is c.reserved.result c.in_default.not-Some in
+    let emitted : AllEmitted m s which c.in_ok-emitted.emitted = subst (λ w. AllEmitted m s w c.in_ok-emitted.emitted) c.deref.ensures.value c.in_ok-emitted.ensures in
+    let made : module_of c.in_ok-inner.inner ≡ inner m s which =
+    c.in_ok-inner.ensures ∙ ap (λ (z : ModuleValue). record (module_of z) { funcs = map func_of c.in_ok-emitted.emitted.funcs.items }) same ∙ ap (λ fs. record m { funcs = fs }) emitted.funcs in
+    subst (λ q. global_space q < 2 ^ 31) (sym made) (globals_small m c.requires.sizes)
+
+pub with_parts-requires-clause-free : goal.with_parts-requires-clause-free
+with_parts-requires-clause-free c =
+    let v = c.args.valid.now in
+    let m = module_of v in
+    let same = c.module-module.ensures.same in
+    let s = settings_of c.args.settings.now in
+    let which = c.in_ok-which.which.items in
+    let valid = subst (λ (z : ModuleValue). Valid (module_of z)) same c.module-module.ensures.valid in
+    let free : reserved_at m ≡ None = ap (λ (z : ModuleValue). reserved_at (module_of z)) (sym same) ∙ sym c.reserved.ensures ∙ none_is c.reserved.result c.in_default.not-Some in
+    let emitted : AllEmitted m s which c.in_ok-emitted.emitted = subst (λ w. AllEmitted m s w c.in_ok-emitted.emitted) c.deref.ensures.value c.in_ok-emitted.ensures in
+    let made : module_of c.in_ok-inner.inner ≡ inner m s which =
+    c.in_ok-inner.ensures ∙ ap (λ (z : ModuleValue). record (module_of z) { funcs = map func_of c.in_ok-emitted.emitted.funcs.items }) same ∙ ap (λ fs. record m { funcs = fs }) emitted.funcs in
+    subst (λ q. reserved_at q ≡ None) (sym made) free
+
+pub with_parts-requires-clause-valid : goal.with_parts-requires-clause-valid
+with_parts-requires-clause-valid c =
+    let v = c.args.valid.now in
+    let m = module_of v in
+    let same = c.module-module.ensures.same in
+    let s = settings_of c.args.settings.now in
+    let which = c.in_ok-which.which.items in
+    let valid = subst (λ (z : ModuleValue). Valid (module_of z)) same c.module-module.ensures.valid in
+    let free : reserved_at m ≡ None = ap (λ (z : ModuleValue). reserved_at (module_of z)) (sym same) ∙ sym c.reserved.ensures ∙ none_is c.reserved.result c.in_default.not-Some in
+    let emitted : AllEmitted m s which c.in_ok-emitted.emitted = subst (λ w. AllEmitted m s w c.in_ok-emitted.emitted) c.deref.ensures.value c.in_ok-emitted.ensures in
+    let made : module_of c.in_ok-inner.inner ≡ inner m s which =
+    c.in_ok-inner.ensures ∙ ap (λ (z : ModuleValue). record (module_of z) { funcs = map func_of c.in_ok-emitted.emitted.funcs.items }) same ∙ ap (λ fs. record m { funcs = fs }) emitted.funcs in
+    subst (λ q. Valid (with_runtime q)) (sym made) (valid_law m s which valid (unreserved_is_free m free))
+
+pub with_parts-requires-clause-sizes : goal.with_parts-requires-clause-sizes
+with_parts-requires-clause-sizes c =
+    let v = c.args.valid.now in
+    let m = module_of v in
+    let same = c.module-module.ensures.same in
+    let s = settings_of c.args.settings.now in
+    let which = c.in_ok-which.which.items in
+    let valid = subst (λ (z : ModuleValue). Valid (module_of z)) same c.module-module.ensures.valid in
+    let free : reserved_at m ≡ None = ap (λ (z : ModuleValue). reserved_at (module_of z)) (sym same) ∙ sym c.reserved.ensures ∙ none_is c.reserved.result c.in_default.not-Some in
+    let emitted : AllEmitted m s which c.in_ok-emitted.emitted = subst (λ w. AllEmitted m s w c.in_ok-emitted.emitted) c.deref.ensures.value c.in_ok-emitted.ensures in
+    let made : module_of c.in_ok-inner.inner ≡ inner m s which =
+    c.in_ok-inner.ensures ∙ ap (λ (z : ModuleValue). record (module_of z) { funcs = map func_of c.in_ok-emitted.emitted.funcs.items }) same ∙ ap (λ fs. record m { funcs = fs }) emitted.funcs in
+    subst (λ q. SizeRule (with_runtime q)) (sym made) (sizes_law m s which valid c.requires.sizes (few_written m which emitted.few))
+
+pub returns : goal.returns
+returns c =
+    let v = c.args.valid.now in
+    let m = module_of v in
+    let same = c.module-module.ensures.same in
+    let s = settings_of c.args.settings.now in
+    let which = c.in_ok-which.which.items in
+    let valid = subst (λ (z : ModuleValue). Valid (module_of z)) same c.module-module.ensures.valid in
+    let free : reserved_at m ≡ None = ap (λ (z : ModuleValue). reserved_at (module_of z)) (sym same) ∙ sym c.reserved.ensures ∙ none_is c.reserved.result c.in_default.not-Some in
+    let emitted : AllEmitted m s which c.in_ok-emitted.emitted = subst (λ w. AllEmitted m s w c.in_ok-emitted.emitted) c.deref.ensures.value c.in_ok-emitted.ensures in
+    let made : module_of c.in_ok-inner.inner ≡ inner m s which =
+    c.in_ok-inner.ensures ∙ ap (λ (z : ModuleValue). record (module_of z) { funcs = map func_of c.in_ok-emitted.emitted.funcs.items }) same ∙ ap (λ fs. record m { funcs = fs }) emitted.funcs in
+    let is = c.in_ok-rewritten.ensures.done ∙ ap with_runtime made in
+    record {
+      free = free;
+      tells = c.in_ok-which.ensures;
+      few = emitted.few;
+      emitted = is;
+      rewrites = subst (RewritesButRuns m s) (sym is) (rewritten_law m s which valid (unreserved_is_free m free) c.in_ok-which.ensures);
+      layouts = emitted.layouts;
+    }

@@ -1,0 +1,38 @@
+-- What rewriting a module answers.
+use Rattle.std.specs.Prelude.{◌≡◌, ℕ, List, drop, None, Some, Bool, Result, Ok, Err}
+use Rattle.wa_types.specs.Modules.{func_imports}
+use Rattle.wa_types.specs.Pausing.{Settings, TellsMayPause}
+use Rattle.wa_types.specs.Syntax.{Module}
+use Rattle.wa_types.specs.View.{module_of}
+use Rattle.asyncify_runtime.specs.Reserved.{reserved_at}
+use Rattle.flatten.specs.Whole.{NonePasses, FirstPasses}
+use Rattle.rewrite_form.specs.Emitted.{asyncified}
+use Rattle.rewrite_form.specs.Rewritten.{RewritesButRuns}
+use Rattle.module_rewrite.specs.Emitting.{LaidOut}
+use Rattle.module_rewrite.specs.declared.fault.RewriteFault.{RewriteFault}
+use Rattle.module_rewrite.specs.declared.fault.RewriteFault.TheVariants.{Memory, Locals, Reserved}
+use Rattle.module_rewrite.specs.declared.whole.Rewritten.{Rewritten}
+
+-- The module is the one that is emitted, where those functions are written that may pause, none of which has too many locals;
+-- it is the original, rewritten in every part but its runs. The frames are those of the written functions.
+pub record IsAsyncified (m : Module) (s : Settings) (r : Rewritten) : Type 0 where
+  pub free : reserved_at m ≡ None
+  pub tells : TellsMayPause m s r.instrumented.items
+  pub few : NonePasses m (drop (func_imports m) r.instrumented.items) m.funcs
+  pub emitted : module_of r.«module» ≡ asyncified m s r.instrumented.items
+  pub rewrites : RewritesButRuns m s (module_of r.«module»)
+  pub layouts : LaidOut m s r.instrumented.items (func_imports m) (drop (func_imports m) r.instrumented.items) m.funcs r.layouts.items
+
+-- The first function that may pause and would have too many locals.
+pub record FirstTooMany (m : Module) (s : Settings) (func count : ℕ) : Type 0 where
+  pub free : reserved_at m ≡ None
+  pub which : List Bool
+  pub tells : TellsMayPause m s which
+  pub first : FirstPasses m func count (func_imports m) (drop (func_imports m) which) m.funcs
+
+-- A reserved name comes first, then too many locals.
+abbrev pub Asyncifies : Module → Settings → Result Rewritten RewriteFault → Type 0
+Asyncifies m s (Ok r) = IsAsyncified m s r
+Asyncifies m s (Err Memory) = Unit {0}
+Asyncifies m s (Err (Locals func count)) = FirstTooMany m s func count
+Asyncifies m s (Err (Reserved at)) = reserved_at m ≡ Some at

@@ -1,0 +1,11 @@
+//! The module that rewriting emits: each function that may pause is written with guards and frames, every other stays, and the
+//! runtime's parts stand behind. The answer is exactly `asyncified` of `rewrite_form`.
+#![tactic(auto)]
+
+mod emitting;
+mod fault;
+mod whole;
+
+pub use emitting::FuncLayout;
+pub use fault::RewriteFault;
+pub use whole::{Rewritten, asyncify_module};

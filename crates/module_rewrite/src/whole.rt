@@ -1,0 +1,82 @@
+ghost use Rattle.std.specs.Prelude.{◌≡◌, ◌<◌, ◌^◌, None, length, IfOk, IfErr};
+ghost use Rattle.wa_types.specs.Runtime.{func_space, global_space, with_runtime};
+ghost use Rattle.wa_types.specs.Sizes.{SizeRule, StrictSizeRule};
+ghost use Rattle.wa_types.specs.Validity.{Valid as IsValid};
+ghost use Rattle.wa_types.specs.View.{module_of};
+ghost use Rattle.asyncify_runtime.specs.Reserved.{reserved_at};
+ghost use Rattle.call_graph.specs.Settings.{settings_of};
+ghost use Rattle.call_graph.specs.declared.settings.Policy.TheVariants.{All};
+ghost use Rattle.module_rewrite.specs.declared.fault.RewriteFault.TheVariants.{Memory};
+ghost use Rattle.module_rewrite.specs.Whole.{Asyncifies};
+
+use crate::emitting::{FuncLayout, emit_funcs};
+use crate::fault::RewriteFault;
+use asyncify_runtime::{RuntimeFault, add_runtime, ids_behind, reserved};
+use call_graph::{Settings, listed_imports, may_pause};
+use module_copy::copy_around;
+use std::alloc::Global;
+use wa_types::Module;
+use wasm_validate::{Valid, ValidateFault, validate};
+
+/// A module as it is rewritten, the frames of the functions that may pause, in index order, and which these are, by one answer
+/// a function, imports first.
+#[derive(Debug, Drop)]
+pub struct Rewritten {
+    pub module: Valid,
+    pub layouts: Vec<FuncLayout>,
+    pub instrumented: Vec<bool>,
+}
+
+/// The module with the runtime's parts behind, which is valid. A valid module is made by `validate` alone.
+fn with_parts(alloc: Global, module: Module) -> Result<Valid, RewriteFault>
+    requires types { length «module».types.items < 2 ^ 31 }
+    requires imports { length «module».imports.items < 2 ^ 31 }
+    requires funcs { func_space (module_of «module») < 2 ^ 31 }
+    requires globals { global_space (module_of «module») < 2 ^ 31 }
+    requires exports { length «module».exports.items < 2 ^ 31 }
+    requires free { reserved_at (module_of «module») ≡ None }
+    requires valid { IsValid (with_runtime (module_of «module»)) }
+    requires sizes { SizeRule (with_runtime (module_of «module»)) }
+    ensures done { IfOk result (λ v. module_of v ≡ with_runtime (module_of «module»)) }
+    ensures fault { IfErr result (λ e. e ≡ Memory) }
+{
+    let with = match add_runtime(alloc, module) {
+        Ok(with) => with,
+        Err(RuntimeFault::Memory) => return Err(RewriteFault::Memory),
+        Err(RuntimeFault::Reserved(_)) => unreachable!(),
+    };
+    match validate(alloc, with.module) {
+        Ok(valid) => Ok(valid),
+        Err(ValidateFault::Memory) => Err(RewriteFault::Memory),
+        Err(ValidateFault::Invalid { .. }) => unreachable!(),
+    }
+}
+
+/// The module rewritten so that it can stop in the middle of a call of a listed import and go on later. `Reserved` comes
+/// exactly where `reserved` gives that place; else `Locals` exactly where a function that may pause would have more than
+/// 50,000 parameters and locals, for the first. Takes time linear in the module and in what is answered.
+pub fn asyncify_module(
+    alloc: Global,
+    valid: &Valid,
+    settings: &Settings,
+) -> Result<Rewritten, RewriteFault>
+    requires sizes { StrictSizeRule (module_of valid.now) }
+    requires policy { settings.now.policy ≡ All }
+    ensures { Asyncifies (module_of valid.now) (settings_of settings.now) result }
+{
+    let module = valid.module();
+    if let Some(at) = reserved(module) {
+        return Err(RewriteFault::Reserved(at));
+    }
+    let which = may_pause(alloc, valid, settings)?;
+    let listed = listed_imports(alloc, valid, settings)?;
+    let ids = ids_behind(module);
+    let emitted = emit_funcs(alloc, valid, settings, &which, &listed, &ids)?;
+    let inner = copy_around(alloc, module, emitted.funcs)?;
+    let rewritten = with_parts(alloc, inner)?;
+    Ok(Rewritten {
+        module: rewritten,
+        layouts: emitted.layouts,
+        instrumented: which,
+    })
+}
