@@ -101,11 +101,10 @@ below p (suc n) = p n && below p n
 at_each : (p : ℕ → Bool) (n k : ℕ) → k < n → below p n ≡ true → p k ≡ true
 unfolding below
 at_each p zero k l e = absurd (omega (arith, l))
-at_each p (suc n) k l e = by (cases_lt k n)
-  where
-    by : (k < n) ⊎ (n ≤ k) → p k ≡ true
-    by (inl less) = at_each p n k less (second_of (p n) (below p n) e)
-    by (inr most) = let same : n ≡ k = omega (arith, l, most) in subst (λ j. p j ≡ true) same (first_of (p n) (below p n) e)
+at_each p (suc n) k l e = elim (cases_lt k n) [
+  | inl less ↦ at_each p n k less (second_of (p n) (below p n) e)
+  | inr most ↦ let same : n ≡ k = omega (arith, l, most) in subst (λ j. p j ≡ true) same (first_of (p n) (below p n) e)
+]
 
 -- an opcode of an access is none of a float
 access_test : ℕ → Bool
@@ -128,6 +127,7 @@ store_small op h = elim (or_cases (within 0x36 0x37 op) (within 0x3A 0x3E op) h)
 ]
 
 access_clear : (op : ℕ) → op < 64 → is_load_op op || is_store_op op ≡ true → is_float_op op ≡ false
+unfolding access_test
 access_clear op small h = by (is_load_op op || is_store_op op) (is_float_op op) h (at_each access_test 64 op small accesses_pass)
   where
     by : (a b : Bool) → a ≡ true → not a || not b ≡ true → b ≡ false
@@ -190,13 +190,13 @@ code_clear (instr op operands rest) (nest s r body more) e h = absurd h
 code_clear (instr op operands rest) (branch r a b more) e h = absurd h
 code_clear (nested op result body rest) (nest s r inner more) e h =
     join_clear (float_type result ++ code_floats body) (code_floats rest)
-    (join_clear (float_type result) (code_floats body) (block_clear result r h.0.0.1) (code_clear body inner done h.0.1)) (code_clear rest more e h.1)
+    (join_clear (float_type result) (code_floats body) (block_clear result r h.1) (code_clear body inner done h.2)) (code_clear rest more e h.3)
 code_clear (nested op result body rest) done e h = absurd h
 code_clear (nested op result body rest) (plain p more) e h = absurd h
 code_clear (nested op result body rest) (branch r a b more) e h = absurd h
 code_clear (branched op result arms rest) (branch r a b more) e h =
     join_clear (float_type result ++ code_floats arms) (code_floats rest)
-    (join_clear (float_type result) (code_floats arms) (block_clear result r h.0.0) (code_clear arms a b h.0.1)) (code_clear rest more e h.1)
+    (join_clear (float_type result) (code_floats arms) (block_clear result r h.0) (code_clear arms a b h.1)) (code_clear rest more e h.2)
 code_clear (branched op result arms rest) done e h = absurd h
 code_clear (branched op result arms rest) (plain p more) e h = absurd h
 code_clear (branched op result arms rest) (nest s r inner more) e h = absurd h
@@ -254,26 +254,26 @@ back_all P (x ∷ xs) ys h = back_all P xs ys (All-tail P x (xs ++ ys) h)
 
 section_clear : (s : Section) (ss : List Section) → Clear (s ∷ ss) → section_floats s ≡ []
 section_clear (custom name bytes) ss c = refl
-section_clear (types ts) ss c = all_clear type_floats ts (front_all _ ts (flat_map types_in ss) c.types)
-section_clear (imports is) ss c = all_clear (λ (i : RawImport). kind_floats i.kind) is (front_all _ is (flat_map imports_in ss) c.imports)
+section_clear (types ts) ss c = all_clear type_floats ts (front_all (λ (t : RawType). type_floats t ≡ []) ts (flat_map types_in ss) c.types)
+section_clear (imports is) ss c = all_clear (λ (i : RawImport). kind_floats i.kind) is (front_all (λ (i : RawImport). kind_floats i.kind ≡ []) is (flat_map imports_in ss) c.imports)
 section_clear (functions sorts) ss c = refl
 section_clear (tables ts) ss c = refl
 section_clear (memories ms) ss c = refl
-section_clear (globals gs) ss c = all_clear (λ (g : RawGlobal). float_type g.ty ++ code_floats g.init) gs (front_all _ gs (flat_map globals_in ss) c.globals)
+section_clear (globals gs) ss c = all_clear (λ (g : RawGlobal). float_type g.ty ++ code_floats g.init) gs (front_all (λ (g : RawGlobal). float_type g.ty ++ code_floats g.init ≡ []) gs (flat_map globals_in ss) c.globals)
 section_clear (exports es) ss c = refl
 section_clear (start x) ss c = refl
-section_clear (elements es) ss c = all_clear (λ (e : RawElem). code_floats e.offset) es (front_all _ es (flat_map elements_in ss) c.elems)
-section_clear (bodies bs) ss c = all_clear body_floats bs (front_all _ bs (flat_map bodies_in ss) c.bodies)
-section_clear (segments ds) ss c = all_clear (λ (s : RawSegment). code_floats s.offset) ds (front_all _ ds (flat_map segments_in ss) c.segments)
+section_clear (elements es) ss c = all_clear (λ (e : RawElem). code_floats e.offset) es (front_all (λ (e : RawElem). code_floats e.offset ≡ []) es (flat_map elements_in ss) c.elems)
+section_clear (bodies bs) ss c = all_clear body_floats bs (front_all (λ (b : RawBody). body_floats b ≡ []) bs (flat_map bodies_in ss) c.bodies)
+section_clear (segments ds) ss c = all_clear (λ (s : RawSegment). code_floats s.offset) ds (front_all (λ (s : RawSegment). code_floats s.offset ≡ []) ds (flat_map segments_in ss) c.segments)
 
 rest_clear : (s : Section) (ss : List Section) → Clear (s ∷ ss) → Clear ss
 rest_clear s ss c = record {
-  types = back_all _ (types_in s) (flat_map types_in ss) c.types;
-  imports = back_all _ (imports_in s) (flat_map imports_in ss) c.imports;
-  globals = back_all _ (globals_in s) (flat_map globals_in ss) c.globals;
-  elems = back_all _ (elements_in s) (flat_map elements_in ss) c.elems;
-  bodies = back_all _ (bodies_in s) (flat_map bodies_in ss) c.bodies;
-  segments = back_all _ (segments_in s) (flat_map segments_in ss) c.segments;
+  types = back_all (λ (t : RawType). type_floats t ≡ []) (types_in s) (flat_map types_in ss) c.types;
+  imports = back_all (λ (i : RawImport). kind_floats i.kind ≡ []) (imports_in s) (flat_map imports_in ss) c.imports;
+  globals = back_all (λ (g : RawGlobal). float_type g.ty ++ code_floats g.init ≡ []) (globals_in s) (flat_map globals_in ss) c.globals;
+  elems = back_all (λ (e : RawElem). code_floats e.offset ≡ []) (elements_in s) (flat_map elements_in ss) c.elems;
+  bodies = back_all (λ (b : RawBody). body_floats b ≡ []) (bodies_in s) (flat_map bodies_in ss) c.bodies;
+  segments = back_all (λ (s : RawSegment). code_floats s.offset ≡ []) (segments_in s) (flat_map segments_in ss) c.segments;
 }
 
 clear_floats : (ss : List Section) → Clear ss → floats ss ≡ []

@@ -45,8 +45,8 @@ code_depth bound level (nested op result body rest) (nest s r inner more) e h z 
     let p = both_empty (place_if (nat_le bound level) op.place ++ code_opens bound (level + 1) body) (code_opens bound level rest) z in
     let q = both_empty (place_if (nat_le bound level) op.place) (code_opens bound (level + 1) body) p.0 in
     let low = leb-false bound level (not_deep (nat_le bound level) op.place q.0) in
-    let a = code_depth bound (level + 1) body inner done h.0.1 q.1 (omega (arith, low)) in
-    let b = code_depth bound level rest more e h.1 p.1 l in
+    let a = code_depth bound (level + 1) body inner done h.2 q.1 (omega (arith, low)) in
+    let b = code_depth bound level rest more e h.3 p.1 l in
     (deeper level bound (depth_of inner) (depth_of more) a.0 b.0, b.1)
   where
     deeper : (level bound x y : ℕ) → level + 1 + x ≤ bound → level + y ≤ bound → level + max (1 + x) y ≤ bound
@@ -58,8 +58,8 @@ code_depth bound level (branched op result arms rest) (branch r x y more) e h z 
     let p = both_empty (place_if (nat_le bound level) op.place ++ code_opens bound (level + 1) arms) (code_opens bound level rest) z in
     let q = both_empty (place_if (nat_le bound level) op.place) (code_opens bound (level + 1) arms) p.0 in
     let low = leb-false bound level (not_deep (nat_le bound level) op.place q.0) in
-    let a = code_depth bound (level + 1) arms x y h.0.1 q.1 (omega (arith, low)) in
-    let b = code_depth bound level rest more e h.1 p.1 l in
+    let a = code_depth bound (level + 1) arms x y h.1 q.1 (omega (arith, low)) in
+    let b = code_depth bound level rest more e h.2 p.1 l in
     (deeper level bound (depth_of x) (depth_of y) (depth_of more) a.0 a.1 b.0, b.1)
   where
     deeper : (level bound x y w : ℕ) → level + 1 + x ≤ bound → level + 1 + y ≤ bound → level + w ≤ bound → level + max (1 + max x y) w ≤ bound
@@ -85,8 +85,8 @@ code_shallow bound level (nested op result body rest) (nest s r inner more) e h 
     let low : nat_le bound level ≡ false = lt-leb bound level (omega (arith, k.0)) in
     join_clear (place_if (nat_le bound level) op.place ++ code_opens bound (level + 1) body) (code_opens bound level rest)
     (join_clear (place_if (nat_le bound level) op.place) (code_opens bound (level + 1) body) (ap (λ b. place_if b op.place) low)
-    (code_shallow bound (level + 1) body inner done h.0.1 k.0 (omega (arith, k.0))))
-    (code_shallow bound level rest more e h.1 k.1 n)
+    (code_shallow bound (level + 1) body inner done h.2 k.0 (omega (arith, k.0))))
+    (code_shallow bound level rest more e h.3 k.1 n)
   where
     parts : (level bound x y : ℕ) → level + max (1 + x) y ≤ bound → (level + 1 + x ≤ bound) × (level + y ≤ bound)
     parts level bound x y h = (grind (arith, h), grind (arith, h))
@@ -98,11 +98,11 @@ code_shallow bound level (branched op result arms rest) (branch r x y more) e h 
     let low : nat_le bound level ≡ false = lt-leb bound level (omega (arith, k.0)) in
     join_clear (place_if (nat_le bound level) op.place ++ code_opens bound (level + 1) arms) (code_opens bound level rest)
     (join_clear (place_if (nat_le bound level) op.place) (code_opens bound (level + 1) arms) (ap (λ b. place_if b op.place) low)
-    (code_shallow bound (level + 1) arms x y h.0.1 k.0 k.1))
-    (code_shallow bound level rest more e h.1 k.2 n)
+    (code_shallow bound (level + 1) arms x y h.1 k.0 k.1))
+    (code_shallow bound level rest more e h.2 k.2 n)
   where
     parts : (level bound x y w : ℕ) → level + max (1 + max x y) w ≤ bound → (level + 1 + x ≤ bound) × (level + 1 + y ≤ bound) × (level + w ≤ bound)
-    parts level bound x y w h = ((grind (arith, h), grind (arith, h)), grind (arith, h))
+    parts level bound x y w h = (grind (arith, h), grind (arith, h), grind (arith, h))
 code_shallow bound level (branched op result arms rest) done e h l n = absurd h
 code_shallow bound level (branched op result arms rest) (plain p more) e h l n = absurd h
 code_shallow bound level (branched op result arms rest) (nest s r inner more) e h l n = absurd h
@@ -159,10 +159,10 @@ shallow_parts bound ss e = record {
     of_segments _ e = refl
 
 section_shallow : (bound : ℕ) (s : Section) (ss : List Section) → Shallow bound (s ∷ ss) → section_opens bound s ≡ []
-section_shallow bound (globals gs) ss c = all_clear (λ (g : RawGlobal). code_opens bound 0 g.init) gs (front_all _ gs (flat_map globals_in ss) c.globals)
-section_shallow bound (elements es) ss c = all_clear (λ (e : RawElem). code_opens bound 0 e.offset) es (front_all _ es (flat_map elements_in ss) c.elems)
-section_shallow bound (bodies bs) ss c = all_clear (λ (b : RawBody). code_opens bound 0 b.code) bs (front_all _ bs (flat_map bodies_in ss) c.bodies)
-section_shallow bound (segments ds) ss c = all_clear (λ (s : RawSegment). code_opens bound 0 s.offset) ds (front_all _ ds (flat_map segments_in ss) c.segments)
+section_shallow bound (globals gs) ss c = all_clear (λ (g : RawGlobal). code_opens bound 0 g.init) gs (front_all (λ (g : RawGlobal). code_opens bound 0 g.init ≡ []) gs (flat_map globals_in ss) c.globals)
+section_shallow bound (elements es) ss c = all_clear (λ (e : RawElem). code_opens bound 0 e.offset) es (front_all (λ (e : RawElem). code_opens bound 0 e.offset ≡ []) es (flat_map elements_in ss) c.elems)
+section_shallow bound (bodies bs) ss c = all_clear (λ (b : RawBody). code_opens bound 0 b.code) bs (front_all (λ (b : RawBody). code_opens bound 0 b.code ≡ []) bs (flat_map bodies_in ss) c.bodies)
+section_shallow bound (segments ds) ss c = all_clear (λ (s : RawSegment). code_opens bound 0 s.offset) ds (front_all (λ (s : RawSegment). code_opens bound 0 s.offset ≡ []) ds (flat_map segments_in ss) c.segments)
 section_shallow bound (custom name bytes) ss c = refl
 section_shallow bound (types ts) ss c = refl
 section_shallow bound (imports is) ss c = refl
@@ -174,10 +174,10 @@ section_shallow bound (start x) ss c = refl
 
 rest_shallow : (bound : ℕ) (s : Section) (ss : List Section) → Shallow bound (s ∷ ss) → Shallow bound ss
 rest_shallow bound s ss c = record {
-  globals = back_all _ (globals_in s) (flat_map globals_in ss) c.globals;
-  elems = back_all _ (elements_in s) (flat_map elements_in ss) c.elems;
-  bodies = back_all _ (bodies_in s) (flat_map bodies_in ss) c.bodies;
-  segments = back_all _ (segments_in s) (flat_map segments_in ss) c.segments;
+  globals = back_all (λ (g : RawGlobal). code_opens bound 0 g.init ≡ []) (globals_in s) (flat_map globals_in ss) c.globals;
+  elems = back_all (λ (e : RawElem). code_opens bound 0 e.offset ≡ []) (elements_in s) (flat_map elements_in ss) c.elems;
+  bodies = back_all (λ (b : RawBody). code_opens bound 0 b.code ≡ []) (bodies_in s) (flat_map bodies_in ss) c.bodies;
+  segments = back_all (λ (s : RawSegment). code_opens bound 0 s.offset ≡ []) (segments_in s) (flat_map segments_in ss) c.segments;
 }
 
 opens_none : (bound : ℕ) (ss : List Section) → Shallow bound ss → opens bound ss ≡ []
@@ -194,22 +194,28 @@ module _ (bound : ℕ) (ss : List Section) (m : Module) (is : IsModule ss m) whe
   low : 0 ≤ bound
   low = omega arith
 
+  shallower : (n : ℕ) → 0 + n ≤ bound → n ≤ bound
+  shallower n h = omega (arith, h)
+
+  from_none : (n : ℕ) → n ≤ bound → 0 + n ≤ bound
+  from_none n h = omega (arith, h)
+
   -- a module of sections that open no level past the bound
   pub levels_of : opens bound ss ≡ [] → Levels bound m
   levels_of e =
       let c = shallow_parts bound ss e in
       record {
-        funcs = each_back IsBody (λ (b : RawBody). code_opens bound 0 b.code ≡ []) (λ (f : Func). depth_of f.body ≤ bound) (λ x y r o. (code_depth bound 0 x.code y.body done r.body o low).0)
+        funcs = each_back IsBody (λ (b : RawBody). code_opens bound 0 b.code ≡ []) (λ (f : Func). depth_of f.body ≤ bound) (λ x y r o. shallower (depth_of y.body) (code_depth bound 0 x.code y.body done r.body o low).0)
             (flat_map bodies_in ss) m.funcs is.funcs c.bodies;
-        globals = each_back IsGlobal (λ (g : RawGlobal). code_opens bound 0 g.init ≡ []) (λ (g : GlobalDef). depth_of g.init ≤ bound) (λ x y r o. (code_depth bound 0 x.init y.init done r.init o low).0)
+        globals = each_back IsGlobal (λ (g : RawGlobal). code_opens bound 0 g.init ≡ []) (λ (g : GlobalDef). depth_of g.init ≤ bound) (λ x y r o. shallower (depth_of y.init) (code_depth bound 0 x.init y.init done r.init o low).0)
             (flat_map globals_in ss) m.globals is.globals c.globals;
-        elems = each_back IsElem (λ (e : RawElem). code_opens bound 0 e.offset ≡ []) (λ (e : Elem). depth_of e.offset ≤ bound) (λ x y r o. (code_depth bound 0 x.offset y.offset done r.offset o low).0)
+        elems = each_back IsElem (λ (e : RawElem). code_opens bound 0 e.offset ≡ []) (λ (e : Elem). depth_of e.offset ≤ bound) (λ x y r o. shallower (depth_of y.offset) (code_depth bound 0 x.offset y.offset done r.offset o low).0)
             (flat_map elements_in ss) m.elems is.elems c.elems;
-        segments = each_back IsSegment (λ (s : RawSegment). code_opens bound 0 s.offset ≡ []) (λ (s : Segment). depth_of s.offset ≤ bound) (λ x y r o. (code_depth bound 0 x.offset y.offset done r.offset o low).0)
+        segments = each_back IsSegment (λ (s : RawSegment). code_opens bound 0 s.offset ≡ []) (λ (s : Segment). depth_of s.offset ≤ bound) (λ x y r o. shallower (depth_of y.offset) (code_depth bound 0 x.offset y.offset done r.offset o low).0)
             (flat_map segments_in ss) m.segments is.segments c.segments;
       }
 
-  none_deep : depth_of done ≤ bound
+  none_deep : 0 + depth_of done ≤ bound
   unfolding depth_of
   none_deep = omega arith
 
@@ -217,12 +223,12 @@ module _ (bound : ℕ) (ss : List Section) (m : Module) (is : IsModule ss m) whe
   pub opens_of : Levels bound m → opens bound ss ≡ []
   opens_of l =
       opens_none bound ss (record {
-        globals = each_all IsGlobal (λ (g : RawGlobal). code_opens bound 0 g.init ≡ []) (λ (g : GlobalDef). depth_of g.init ≤ bound) (λ x y r d. code_shallow bound 0 x.init y.init done r.init d none_deep)
+        globals = each_all IsGlobal (λ (g : RawGlobal). code_opens bound 0 g.init ≡ []) (λ (g : GlobalDef). depth_of g.init ≤ bound) (λ x y r d. code_shallow bound 0 x.init y.init done r.init (from_none (depth_of y.init) d) none_deep)
             (flat_map globals_in ss) m.globals is.globals l.globals;
-        elems = each_all IsElem (λ (e : RawElem). code_opens bound 0 e.offset ≡ []) (λ (e : Elem). depth_of e.offset ≤ bound) (λ x y r d. code_shallow bound 0 x.offset y.offset done r.offset d none_deep)
+        elems = each_all IsElem (λ (e : RawElem). code_opens bound 0 e.offset ≡ []) (λ (e : Elem). depth_of e.offset ≤ bound) (λ x y r d. code_shallow bound 0 x.offset y.offset done r.offset (from_none (depth_of y.offset) d) none_deep)
             (flat_map elements_in ss) m.elems is.elems l.elems;
-        bodies = each_all IsBody (λ (b : RawBody). code_opens bound 0 b.code ≡ []) (λ (f : Func). depth_of f.body ≤ bound) (λ x y r d. code_shallow bound 0 x.code y.body done r.body d none_deep)
+        bodies = each_all IsBody (λ (b : RawBody). code_opens bound 0 b.code ≡ []) (λ (f : Func). depth_of f.body ≤ bound) (λ x y r d. code_shallow bound 0 x.code y.body done r.body (from_none (depth_of y.body) d) none_deep)
             (flat_map bodies_in ss) m.funcs is.funcs l.funcs;
-        segments = each_all IsSegment (λ (s : RawSegment). code_opens bound 0 s.offset ≡ []) (λ (s : Segment). depth_of s.offset ≤ bound) (λ x y r d. code_shallow bound 0 x.offset y.offset done r.offset d none_deep)
+        segments = each_all IsSegment (λ (s : RawSegment). code_opens bound 0 s.offset ≡ []) (λ (s : Segment). depth_of s.offset ≤ bound) (λ x y r d. code_shallow bound 0 x.offset y.offset done r.offset (from_none (depth_of y.offset) d) none_deep)
             (flat_map segments_in ss) m.segments is.segments l.segments;
       })

@@ -7,6 +7,7 @@ use Rattle.std.proofs.lemmas.List.Sums.{sum_by-cons}
 use Rattle.std.proofs.lemmas.List.Elements.{All-nil, All-cons, All-head, All-tail, All-append}
 use Rattle.wa_types.specs.declared.syntax.Run.{Run}
 use Rattle.wa_types.specs.declared.values.ValType.{ValType}
+use Rattle.wa_types.specs.declared.values.ValType.TheVariants.{I32}
 use Rattle.wa_types.specs.Counts.{depth_of}
 use Rattle.wa_types.specs.Encoding.{Enc, merged}
 use Rattle.wa_types.specs.Frames.{Count}
@@ -74,7 +75,6 @@ pruned_flatter done = omega arith
 pruned_flatter (plain p rest) = by (is_last p) (pruned_flatter rest)
   where
     by : (b : Bool) → depth_of (pruned rest) ≤ depth_of rest → depth_of (if b then done else pruned rest) ≤ depth_of rest
-    unfolding depth_of
     by true h = omega arith
     by false h = h
 pruned_flatter (nest s r body rest) = let a = pruned_flatter body in let b = pruned_flatter rest in grind arith
@@ -83,6 +83,16 @@ pruned_flatter (branch r x y rest) = let a = pruned_flatter x in let b = pruned_
 deeper : {X : Type 0} (f : X → ℕ) (xs : List X) → All (λ x. f x ≤ 1000) xs → All (λ x. f x ≤ 3008) xs
 deeper f [] h = All-nil (λ x. f x ≤ 3008)
 deeper f (x ∷ xs) h = let l = All-head (λ x. f x ≤ 1000) x xs h in All-cons (λ x. f x ≤ 3008) x xs (omega (arith, l)) (deeper f xs (All-tail (λ x. f x ≤ 1000) x xs h))
+
+abbrev FewParams : FuncType → Type 0
+FewParams t = length t.params ≤ 1000
+
+three_types : All FewParams runtime_types
+three_types =
+    let a : FuncType = record { params = I32 ∷ []; results = [] } in
+    let b : FuncType = record { params = []; results = [] } in
+    let c : FuncType = record { params = []; results = I32 ∷ [] } in
+    All-cons FewParams a (b ∷ c ∷ []) (omega arith) (All-cons FewParams b (c ∷ []) (omega arith) (All-cons FewParams c [] (omega arith) (All-nil FewParams)))
 
 -- ---- the emitted module
 
@@ -112,8 +122,8 @@ merged_counted p f =
     let a = ap length (merged_keeps f.locals) in omega (arith, a, declared_length f.locals, declared_length (merged f.locals))
 
 params_behind : (ts us : List FuncType) (k : ℕ) → params_of_type (ts ++ us) (length ts + k) ≡ params_of_type us k
-params_behind [] us k = refl
-params_behind (t ∷ ts) us k = params_behind ts us k
+params_behind [] us k = let z : 0 + k ≡ k = omega arith in ap (params_of_type us) z
+params_behind (t ∷ ts) us k = let z : length (t ∷ ts) + k ≡ suc (length ts + k) = omega arith in ap (params_of_type (t ∷ ts ++ us)) z ∙ params_behind ts us k
 
 -- a body of the runtime
 abbrev Low : Module → Func → Type 0
@@ -128,10 +138,17 @@ runtime_low m =
     let z : length m.types + 0 ≡ length m.types = omega arith in
     let e = ap (params_of_type (m.types ++ runtime_types)) z in
     let P : Func → Type 0 = Low (with_runtime m) in
-    let start : (n : ℕ) → P (runtime_func (length m.types) (start_code n (global_space m) (global_space m + 1))) = λ n. (omega arith, omega (arith, a, e)) in
-    let stop : P (runtime_func (length m.types + 1) (stop_code (global_space m) (global_space m + 1))) = (omega arith, omega (arith, b)) in
-    let state : P (runtime_func (length m.types + 2) (state_code (global_space m))) = (omega arith, omega (arith, c)) in
-    All-cons P _ _ (start 1) (All-cons P _ _ stop (All-cons P _ _ (start 2) (All-cons P _ _ stop (All-cons P _ [] state (All-nil P)))))
+    let sort : ℕ = length m.types in
+    let state : ℕ = global_space m in
+    let x : Func = runtime_func sort (start_code 1 state (state + 1)) in
+    let y : Func = runtime_func (sort + 1) (stop_code state (state + 1)) in
+    let w : Func = runtime_func sort (start_code 2 state (state + 1)) in
+    let q : Func = runtime_func (sort + 2) (state_code state) in
+    let px : P x = (omega arith, omega (arith, a, e)) in
+    let py : P y = (omega arith, omega (arith, b)) in
+    let pw : P w = (omega arith, omega (arith, a, e)) in
+    let pq : P q = (omega arith, omega (arith, c)) in
+    All-cons P x (y ∷ w ∷ y ∷ q ∷ []) px (All-cons P y (w ∷ y ∷ q ∷ []) py (All-cons P w (y ∷ q ∷ []) pw (All-cons P y (q ∷ []) py (All-cons P q [] pq (All-nil P)))))
 
 module _ (m : Module) (s : Settings) (which : List Bool) (v : Valid m) (few : FewWritten m which) (levels : Levels 1000 m) (locals : All (λ (f : Func). func_locals m.types f ≤ 50000) m.funcs) where
   abbrev p : Module
@@ -210,8 +227,7 @@ emitted_prepared m s which bytes a v few short spelled =
     let functions = functions_counted a.sections m a.is_module in
     let most = a.within.before.before.before.before.functions in
     let params = few_params_of 1000 a.sections m a.is_module a.within.before.before.before.parameters in
-    let P : FuncType → Type 0 = λ t. length t.params ≤ 1000 in
     let n = norm_functions m s which v few levels locals in
     prepared (Enc (asyncified m s which)) (Norm (asyncified m s which)) spelled short (omega (arith, n, functions, most))
-    (All-append P m.types runtime_types params (All-cons P _ _ (omega arith) (All-cons P _ _ (omega arith) (All-cons P _ [] (omega arith) (All-nil P)))))
+    (All-append FewParams m.types runtime_types params three_types)
     (norm_levels m s which v few levels locals) (norm_locals m s which v few levels locals)

@@ -1,5 +1,7 @@
 -- What stays of the two files and of the lines, by status.
-use Rattle.std.proofs.Common.{subst}
+use Rattle.std.proofs.Common.{◌≡◌, ◌⊎◌, subst}
+use Rattle.wa_model.specs.Transcript.{Refusal}
+use Rattle.printing.specs.Refused.{status_of}
 use Rattle.source_modules.specs.Refusals.{cause_of}
 use Rattle.asyncify_app.specs.Refusals.{IsToldRefusal}
 use Rattle.call_graph.specs.Settings.{settings_of}
@@ -15,5 +17,6 @@ returns-in-Err-Memory-clause-prints_memory g c = λ h. memory_any (settings_of c
 
 pub returns-in-Err-Refused-clause-refused : goal.returns-in-Err-Refused-clause-refused
 returns-in-Err-Refused-clause-refused g c = λ h.
-    refused_has_cause (settings_of c.args.settings.now) (g.V.Vault.files c.args.vault.now) c.args.input.now c.refuse_source.result (cause_of c.in-Err-Refused.refusal) c.refuse_source.ensures.status h
+    refused_has_cause (settings_of c.args.settings.now) (g.V.Vault.files c.args.vault.now) c.args.input.now c.refuse.result (cause_of c.in-Err-Refused.refusal)
+    (subst (λ (r : Refusal). (c.refuse.result ≡ status_of r) ⊎ (c.refuse.result ≡ 9)) c.refusal_kind.ensures c.refuse.ensures.status) h
     (subst (IsToldRefusal (settings_of c.args.settings.now) (g.V.Vault.files c.args.vault.now) c.args.input.now) c.in-Err-Refused.field-0-is c.in-Err-Refused.ensures.refused)
