@@ -23,7 +23,8 @@ callees_are locals labels (computes op args to rest) h = callees_are locals labe
 callees_are locals labels (copies to from rest) h = callees_are locals labels rest h.2 ∙ ap told (sym (copies_calls to from rest))
 callees_are locals labels (calls op stack args to rest) h =
     let z = one_call op h.0 in
-    ap (λ c. sole_callee c ∷ callees rest) z.is ∙ ap (λ o. o ∷ callees rest) (sole_is z.to) ∙ ap (λ os. Some z.to ∷ os) (callees_are locals labels rest h.5) ∙ ap told (sym (call_calls op stack args to rest z))
+    ap (λ c. sole_callee c ∷ callees rest) z.is ∙ ap (λ o. o ∷ callees rest) (sole_is z.to) ∙ ap (λ os. Some z.to ∷ os) (callees_are locals labels rest h.5)
+    ∙ ap told (sym (call_calls op stack args to rest z))
 callees_are locals labels (leaps l rest) h = callees_are locals labels rest h.1 ∙ ap told (sym (leaps_calls l rest))
 callees_are locals labels (leaps_if o l rest) h = callees_are locals labels rest h.2 ∙ ap told (sym (leaps_if_calls o l rest))
 callees_are locals labels (leaps_by o ls l rest) h = callees_are locals labels rest h.3 ∙ ap told (sym (table_calls o ls l rest))
@@ -45,7 +46,8 @@ module _ (m : Module) (s : Settings) (which : List Bool) where
   same_places : (n : ℕ) (xs : List Callee) → places_from (gets_number which (Listed m s) s.ignore_indirect) n (told xs) ≡ places_from (has_number m s which) n xs
   same_places n [] = refl
   same_places n (c ∷ xs) =
-      ap (λ b. if b then n ∷ places_from (gets_number which (Listed m s) s.ignore_indirect) (suc n) (told xs) else places_from (gets_number which (Listed m s) s.ignore_indirect) (suc n) (told xs)) (same_test c)
+      ap (λ b. if b then n ∷ places_from (gets_number which (Listed m s) s.ignore_indirect) (suc n) (told xs) else places_from (gets_number which (Listed m s) s.ignore_indirect) (suc n)
+      (told xs)) (same_test c)
       ∙ ap (λ ps. if has_number m s which c then n ∷ ps else ps) (same_places (suc n) xs)
 
 pub numbers_law : FlatNumbers

@@ -25,7 +25,8 @@ module _ {X : Type 0} (t : X → Bool) where
   places_append n (x ∷ xs) ys = by (t x) (let z : suc n + length xs ≡ n + suc (length xs) = omega arith in places_append (suc n) xs ys ∙ ap (λ m. places_from t (suc n) xs ++ places_from t m ys) z)
     where
       by : (b : Bool) → places_from t (suc n) (xs ++ ys) ≡ places_from t (suc n) xs ++ places_from t (n + suc (length xs)) ys
-          → (if b then n ∷ places_from t (suc n) (xs ++ ys) else places_from t (suc n) (xs ++ ys)) ≡ (if b then n ∷ places_from t (suc n) xs else places_from t (suc n) xs) ++ places_from t (n + suc (length xs)) ys
+          → (if b then n ∷ places_from t (suc n) (xs ++ ys) else places_from t (suc n) (xs ++ ys)) ≡
+          (if b then n ∷ places_from t (suc n) xs else places_from t (suc n) xs) ++ places_from t (n + suc (length xs)) ys
       by true ih = ap (λ z. n ∷ z) ih
       by false ih = ih
 
@@ -38,7 +39,8 @@ callees_count (leaps l rest) = callees_count rest
 callees_count (leaps_if c l rest) = callees_count rest
 callees_count (leaps_by o ls l rest) = callees_count rest
 callees_count (nests y body rest) = let a = callees_count body in let b = callees_count rest in let e = length-append (callees body) (callees rest) in omega arith
-callees_count (decides c x y rest) = let a = callees_count x in let b = callees_count y in let d = callees_count rest in let e = length-append (callees x ++ callees y) (callees rest) in let f = length-append (callees x) (callees y) in omega arith
+callees_count (decides c x y rest) = let a = callees_count x in let b = callees_count y in let d = callees_count rest in let e = length-append (callees x ++ callees y)
+    (callees rest) in let f = length-append (callees x) (callees y) in omega arith
 callees_count (halts rest) = callees_count rest
 
 callees_with : (u s : Stmts) → callees (with_rest u s) ≡ callees (with_rest u no_more) ++ callees s
@@ -61,11 +63,14 @@ total_front n x s =
     let a = ap call_total (in_front_is x s) in let b = ap call_total (in_front_is x no_more) in
     let e = total_with n (stmt_in_front x no_more) s in let f = total_with n (stmt_in_front x no_more) no_more in omega arith
 
-pub room_at : (n m : ℕ) (xs : List Stmt) (j : ℕ) (x : Stmt) → j < length xs → x ≡ get_or xs j x → n + call_total (stmts (drop j xs)) ≡ m → m < 2 ^ 32 → n + call_total (stmt_in_front x no_more) < 2 ^ 32
+pub room_at : (n m : ℕ) (xs : List Stmt) (j : ℕ) (x : Stmt) → j < length xs → x ≡ get_or xs j x → n + call_total (stmts (drop j xs)) ≡ m → m < 2 ^ 32
+    → n + call_total (stmt_in_front x no_more) < 2 ^ 32
 room_at n m xs j x lt at e room = let q = ap call_total (stmts_step xs j x lt at) in let f = total_front n x (stmts (drop (j + 1) xs)) in omega arith
 
-pub numbers_next : (t : Option _ → Bool) (out new goal_ : List ℕ) (next next2 m : ℕ) (xs : List Stmt) (j : ℕ) (x : Stmt) → j < length xs → x ≡ get_or xs j x → out ++ places_from t next (callees (stmts (drop j xs))) ≡ goal_ → next + call_total (stmts (drop j xs)) ≡ m
-    → next2 ≡ next + call_total (stmt_in_front x no_more) → new ≡ out ++ places_from t next (callees (stmt_in_front x no_more)) → (new ++ places_from t next2 (callees (stmts (drop (j + 1) xs))) ≡ goal_) × (next2 + call_total (stmts (drop (j + 1) xs)) ≡ m)
+pub numbers_next : (t : Option _ → Bool) (out new goal_ : List ℕ) (next next2 m : ℕ) (xs : List Stmt) (j : ℕ) (x : Stmt) → j < length xs → x ≡ get_or xs j x
+    → out ++ places_from t next (callees (stmts (drop j xs))) ≡ goal_ → next + call_total (stmts (drop j xs)) ≡ m
+    → next2 ≡ next + call_total (stmt_in_front x no_more) → new ≡ out ++ places_from t next (callees (stmt_in_front x no_more))
+    → (new ++ places_from t next2 (callees (stmts (drop (j + 1) xs))) ≡ goal_) × (next2 + call_total (stmts (drop (j + 1) xs)) ≡ m)
 numbers_next t out new goal_ next next2 m xs j x lt at e em en ew =
     let q = stmts_step xs j x lt at in
     let rest = stmts (drop (j + 1) xs) in
@@ -77,7 +82,8 @@ numbers_next t out new goal_ next next2 m xs j x lt at e em en ew =
       omega arith,
     )
 
-pub numbers_end : (t : Option _ → Bool) (out goal_ : List ℕ) (next m : ℕ) (xs : List Stmt) (j : ℕ) → length xs ≤ j → out ++ places_from t next (callees (stmts (drop j xs))) ≡ goal_ → next + call_total (stmts (drop j xs)) ≡ m → (next ≡ m) × (out ≡ goal_)
+pub numbers_end : (t : Option _ → Bool) (out goal_ : List ℕ) (next m : ℕ) (xs : List Stmt) (j : ℕ) → length xs ≤ j → out ++ places_from t next (callees (stmts (drop j xs))) ≡ goal_
+    → next + call_total (stmts (drop j xs)) ≡ m → (next ≡ m) × (out ≡ goal_)
 numbers_end t out goal_ next m xs j le e em =
     let q = stmts_end xs j le in
     let z : next + 0 ≡ m = ap (λ s. next + call_total s) (sym q) ∙ em in
@@ -102,13 +108,15 @@ no_callee _ nc ni = refl
 pub call_place : (n : ℕ) (x : Stmt) (op : Instr) (stack : Vec ℕ Global) (args : ℕ) (to : Option ℕ) → x ≡ CallStmt op stack args to → n + 1 ≡ n + call_total (stmt_in_front x no_more)
 call_place n x op stack args to e = let q = ap call_total (call_is x op stack args to e no_more) in omega arith
 
-pub call_items : (t : Option _ → Bool) (out new : List ℕ) (n : ℕ) (told : Bool) (x : Stmt) (op : Instr) (stack : Vec ℕ Global) (args : ℕ) (to : Option ℕ) → x ≡ CallStmt op stack args to → told ≡ t (sole_callee (in_front op done)) → new ≡ out ++ (if told then n ∷ [] else []) → new ≡ out ++ places_from t n (callees (stmt_in_front x no_more))
+pub call_items : (t : Option _ → Bool) (out new : List ℕ) (n : ℕ) (told : Bool) (x : Stmt) (op : Instr) (stack : Vec ℕ Global) (args : ℕ) (to : Option ℕ) → x ≡ CallStmt op stack args to
+    → told ≡ t (sole_callee (in_front op done)) → new ≡ out ++ (if told then n ∷ [] else []) → new ≡ out ++ places_from t n (callees (stmt_in_front x no_more))
 call_items t out new n told x op stack args to e q is = is ∙ ap (λ b. out ++ (if b then n ∷ [] else [])) q ∙ ap (λ s. out ++ places_from t n (callees s)) (sym (call_is x op stack args to e no_more))
 
 pub nest_room : (n : ℕ) (x : Stmt) (y : Shape) (body : Stmts) → stmt_in_front x no_more ≡ nests y body no_more → n + call_total (stmt_in_front x no_more) < 2 ^ 32 → n + call_total body < 2 ^ 32
 nest_room n x y body e h = let q = ap call_total e in omega arith
 
-pub nest_done : (t : Option _ → Bool) (out new : List ℕ) (n m : ℕ) (x : Stmt) (y : Shape) (body : Stmts) → stmt_in_front x no_more ≡ nests y body no_more → m ≡ n + call_total body → new ≡ out ++ places_from t n (callees body)
+pub nest_done : (t : Option _ → Bool) (out new : List ℕ) (n m : ℕ) (x : Stmt) (y : Shape) (body : Stmts) → stmt_in_front x no_more ≡ nests y body no_more → m ≡ n + call_total body
+    → new ≡ out ++ places_from t n (callees body)
     → (m ≡ n + call_total (stmt_in_front x no_more)) × (new ≡ out ++ places_from t n (callees (stmt_in_front x no_more)))
 nest_done t out new n m x y body e em is =
     let q = ap call_total e in
@@ -117,10 +125,12 @@ nest_done t out new n m x y body e em is =
 pub if_room : (n : ℕ) (x : Stmt) (o : Operand) (a b : Stmts) → stmt_in_front x no_more ≡ decides o a b no_more → n + call_total (stmt_in_front x no_more) < 2 ^ 32 → n + call_total a < 2 ^ 32
 if_room n x o a b e h = let q = ap call_total e in omega arith
 
-pub else_room : (n m : ℕ) (x : Stmt) (o : Operand) (a b : Stmts) → stmt_in_front x no_more ≡ decides o a b no_more → n + call_total (stmt_in_front x no_more) < 2 ^ 32 → m ≡ n + call_total a → m + call_total b < 2 ^ 32
+pub else_room : (n m : ℕ) (x : Stmt) (o : Operand) (a b : Stmts) → stmt_in_front x no_more ≡ decides o a b no_more → n + call_total (stmt_in_front x no_more) < 2 ^ 32
+    → m ≡ n + call_total a → m + call_total b < 2 ^ 32
 else_room n m x o a b e h em = let q = ap call_total e in omega arith
 
-pub if_done : (t : Option _ → Bool) (out mid new : List ℕ) (n m l : ℕ) (x : Stmt) (o : Operand) (a b : Stmts) → stmt_in_front x no_more ≡ decides o a b no_more → m ≡ n + call_total a → l ≡ m + call_total b → mid ≡ out ++ places_from t n (callees a) → new ≡ mid ++ places_from t m (callees b)
+pub if_done : (t : Option _ → Bool) (out mid new : List ℕ) (n m l : ℕ) (x : Stmt) (o : Operand) (a b : Stmts) → stmt_in_front x no_more ≡ decides o a b no_more → m ≡ n + call_total a
+    → l ≡ m + call_total b → mid ≡ out ++ places_from t n (callees a) → new ≡ mid ++ places_from t m (callees b)
     → (l ≡ n + call_total (stmt_in_front x no_more)) × (new ≡ out ++ places_from t n (callees (stmt_in_front x no_more)))
 if_done t out mid new n m l x o a b e em el im is =
     let q = ap call_total e in
@@ -130,7 +140,8 @@ if_done t out mid new n m l x o a b e em el im is =
           ∙ ap (λ k. out ++ k) (sym (places_append t n (callees a) (callees b))) ∙ ap (λ cs. out ++ places_from t n cs) (sym (append-nil (callees a ++ callees b)) ∙ ap callees (sym e)),
     )
 
-none_of : (x : Stmt) → ((op : Instr) (stack : Vec ℕ Global) (args : ℕ) (to : Option ℕ) → x ≡ CallStmt op stack args to → ⊥) → ((v : Vec Stmt Global) → x ≡ Block v → ⊥) → ((v : Vec Stmt Global) → x ≡ Loop v → ⊥) → ((o : Operand) (v w : Vec Stmt Global) → x ≡ If o v w → ⊥) → (call_total (stmt_in_front x no_more) ≡ 0) × (callees (stmt_in_front x no_more) ≡ [])
+none_of : (x : Stmt) → ((op : Instr) (stack : Vec ℕ Global) (args : ℕ) (to : Option ℕ) → x ≡ CallStmt op stack args to → ⊥) → ((v : Vec Stmt Global) → x ≡ Block v → ⊥)
+    → ((v : Vec Stmt Global) → x ≡ Loop v → ⊥) → ((o : Operand) (v w : Vec Stmt Global) → x ≡ If o v w → ⊥) → (call_total (stmt_in_front x no_more) ≡ 0) × (callees (stmt_in_front x no_more) ≡ [])
 unfolding stmt_in_front
 none_of (PlainStmt op args to) nc nb nl ni = (refl, refl)
 none_of (Move to from) nc nb nl ni = (refl, refl)
@@ -143,8 +154,11 @@ none_of (Loop' a z) nc nb nl ni = absurd (nl _ (sym (roll-out-Stmt (Loop' a z)) 
 none_of (If' c a z e f) nc nb nl ni = absurd (ni c _ _ (sym (roll-out-Stmt (If' c a z e f)) ∙ ap roll-Stmt (outs-If' c a z e f) ∙ rolls-If c _ _))
 none_of UnreachableStmt nc nb nl ni = (refl, refl)
 
-pub none_place : (n : ℕ) (x : Stmt) → ((op : Instr) (stack : Vec ℕ Global) (args : ℕ) (to : Option ℕ) → x ≡ CallStmt op stack args to → ⊥) → ((v : Vec Stmt Global) → x ≡ Block v → ⊥) → ((v : Vec Stmt Global) → x ≡ Loop v → ⊥) → ((o : Operand) (v w : Vec Stmt Global) → x ≡ If o v w → ⊥) → n ≡ n + call_total (stmt_in_front x no_more)
+pub none_place : (n : ℕ) (x : Stmt) → ((op : Instr) (stack : Vec ℕ Global) (args : ℕ) (to : Option ℕ) → x ≡ CallStmt op stack args to → ⊥) → ((v : Vec Stmt Global) → x ≡ Block v → ⊥)
+    → ((v : Vec Stmt Global) → x ≡ Loop v → ⊥) → ((o : Operand) (v w : Vec Stmt Global) → x ≡ If o v w → ⊥) → n ≡ n + call_total (stmt_in_front x no_more)
 none_place n x nc nb nl ni = let q = (none_of x nc nb nl ni).0 in omega arith
 
-pub none_items : (t : Option _ → Bool) (out : List ℕ) (n : ℕ) (x : Stmt) → ((op : Instr) (stack : Vec ℕ Global) (args : ℕ) (to : Option ℕ) → x ≡ CallStmt op stack args to → ⊥) → ((v : Vec Stmt Global) → x ≡ Block v → ⊥) → ((v : Vec Stmt Global) → x ≡ Loop v → ⊥) → ((o : Operand) (v w : Vec Stmt Global) → x ≡ If o v w → ⊥) → out ≡ out ++ places_from t n (callees (stmt_in_front x no_more))
+pub none_items : (t : Option _ → Bool) (out : List ℕ) (n : ℕ) (x : Stmt) → ((op : Instr) (stack : Vec ℕ Global) (args : ℕ) (to : Option ℕ) → x ≡ CallStmt op stack args to → ⊥)
+    → ((v : Vec Stmt Global) → x ≡ Block v → ⊥) → ((v : Vec Stmt Global) → x ≡ Loop v → ⊥) → ((o : Operand) (v w : Vec Stmt Global) → x ≡ If o v w → ⊥)
+    → out ≡ out ++ places_from t n (callees (stmt_in_front x no_more))
 none_items t out n x nc nb nl ni = sym (ap (λ cs. out ++ places_from t n cs) (none_of x nc nb nl ni).1 ∙ append-nil out)

@@ -1,3 +1,5 @@
+//! The places of the calls that get a number.
+
 ghost use Rattle.std.specs.Prelude.{◌≡◌, ◌+◌, ◌++◌, ◌<◌, ◌^◌, ◌∷◌, [], IfOk, OnOk, if◌then◌else◌};
 ghost use Rattle.std.specs.Prelude.{slice_get};
 ghost use Rattle.wa_types.specs.Pausing.{is_told, places_from};

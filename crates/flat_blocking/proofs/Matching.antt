@@ -176,7 +176,8 @@ module _ (nb : State → Turn State Note) (lean_at : State → List ℕ) where
       past : (a a' b : State) (k : ℕ) (es : List Note) → na a ≡ goes k es a' → (mt : Match k es a a' b) → (i n : ℕ) → Alike a' mt.after_it i n → Alike a b (suc k + i) (mt.n1 + (suc mt.j + n))
       past a a' b k es e mt i n al =
           let one = one_on na k i es a a' al.es al.xs al.st e al.first in
-          let two = quiet_on b mt.mid mt.n1 mt.l1 (suc mt.j + n) (mt.fs ++ al.fs) (seen_at mt.mid ++ (map seen_note mt.fs ++ al.xs)) al.st mt.before (one_on nb mt.j n mt.fs mt.mid mt.after_it al.fs al.xs al.st mt.acts al.second) in
+          let two = quiet_on b mt.mid mt.n1 mt.l1 (suc mt.j + n) (mt.fs ++ al.fs) (seen_at mt.mid ++ (map seen_note mt.fs ++ al.xs)) al.st mt.before
+          (one_on nb mt.j n mt.fs mt.mid mt.after_it al.fs al.xs al.st mt.acts al.second) in
           let same : seen_at mt.mid ++ (map seen_note mt.fs ++ al.xs) ≡ seen_at a ++ (map seen_note es ++ al.xs) =
           ap (λ ys. ys ++ (map seen_note mt.fs ++ al.xs)) mt.sees ∙ ap (λ ys. seen_at a ++ (ys ++ al.xs)) (seen_alike mt.fs es mt.alike) in
           record {
@@ -238,7 +239,8 @@ module _ (nb : State → Turn State Note) (lean_at : State → List ℕ) where
               let few = got.1 in
               (got.0, omega arith, subst (Alike a' mt.after_it got.0) z (through a' mt.after_it mt.to mt.n2 mt.l2 got.0 (m - mt.n2) mt.behind got.2))
 
-          by_turn : (fuel n : ℕ) (a b : State) → R a b → n ≤ suc fuel → ((n' : ℕ) (a' b' : State) → R a' b' → n' ≤ fuel → (i : ℕ) × (i ≤ lean n' b') × Alike a' b' i n') → (o : Turn State Note) → na a ≡ o
+          by_turn : (fuel n : ℕ) (a b : State) → R a b → n ≤ suc fuel → ((n' : ℕ) (a' b' : State) → R a' b' → n' ≤ fuel → (i : ℕ) × (i ≤ lean n' b') × Alike a' b' i n')
+              → (o : Turn State Note) → na a ≡ o
               → (i : ℕ) × (i ≤ lean n b) × Alike a b i n
           by_turn fuel n a b r le ih stops e = (0, omega arith, none_yet a b n (f.store a b r) (none_made nb n b (f.stop a b r e)))
           by_turn fuel n a b r le ih (goes k es a') e =

@@ -109,7 +109,8 @@ module _ (first : ℕ → ℕ) (p : Module) (plan : Plan) where
       let none : sum [] ≡ 0 = refl in
       let cost : turn_cost (blocking p plan s) ≡ suc k = ap turn_cost e in omega arith
 
-  pub acts_count : (task : Task) (l : Left) (mid after : Configuration) (j lean : ℕ) → Counted first mid (suc j) lean → step p mid ≡ steps j after → lean ≤ sum (lean_next first p plan (runs task mid l))
+  pub acts_count : (task : Task) (l : Left) (mid after : Configuration) (j lean : ℕ) → Counted first mid (suc j) lean → step p mid ≡ steps j after
+      → lean ≤ sum (lean_next first p plan (runs task mid l))
   acts_count task l mid after j _ (whole lo) e = counts_whole (runs task mid l) (runs task after l) j [] (loud_is (first mid.here.func) mid.here.code lo) (ap (by_step p plan task l) e)
   acts_count task l mid after j _ nothing e = omega arith
 

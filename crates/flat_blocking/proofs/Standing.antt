@@ -119,7 +119,8 @@ module _ (m p : Module) (which : List Bool) (w : Flattened m p which) (plan : Pl
       let on = answers_go_on m p which w s import d to vs so ask et in
       let fits : Fits m outs (resumed d s vs) = answers_fit m outs d s vs so (subst (λ ts. CallersFit m outs ts (d.here ∷ d.under)) (sym et) wf.waits) in
       let x : Note = call_note import args to.store (stack_at p (inside task to)) (pause_of a.ticks) in
-      subst (λ (st : Store). Makes k j (tested m k import args (inside task d) l a None) (goes j (x ∷ note (answered a.value) st ∷ []) (runs task (resumed to st vs) l))) (sym (ap (λ st. poked st a.pokes) ask.same_store))
+      subst (λ (st : Store). Makes k j (tested m k import args (inside task d) l a None) (goes j (x ∷ note (answered a.value) st ∷ []) (runs task (resumed to st vs) l)))
+      (sym (ap (λ st. poked st a.pokes) ask.same_store))
       (record {
         es = call_note import args d.store (stack_at m (inside task d)) (pause_of a.ticks) ∷ note (answered a.value) s ∷ [];
         fs = x ∷ note (answered a.value) s ∷ [];
@@ -139,7 +140,8 @@ module _ (m p : Module) (which : List Bool) (w : Flattened m p which) (plan : Pl
       made k j _ _ (on_to (poked s a.pokes) l l.entries) (on_to (poked s a.pokes) l l.entries) refl (on_same (poked s a.pokes) l l.entries refl (poked_fits s a so) lo)
 
   tested_both : (k j import : ℕ) (args : List Value) (wa wb : Asker) (l : Left) (a : Answer) → Askers import wa wb → LeftTyped l
-      → (o : Option End) → fault_of (func_type_at m import).results (length (store_at wa).memory) plan (in_start wa) import a ≡ o → Makes k j (tested m k import args wa l a o) (tested p j import args wb l a o)
+      → (o : Option End) → fault_of (func_type_at m import).results (length (store_at wa).memory) plan (in_start wa) import a ≡ o
+      → Makes k j (tested m k import args wa l a o) (tested p j import args wb l a o)
   tested_both k j import args wa wb l a r lo (Some how) e = made k j _ _ (halts (store_at wa)) (halts (store_at wb)) refl (b_halts (stores_same import wa wb r))
   tested_both k j import args wa wb l a r lo None e = went_on k j import args wa wb l a r lo (answer_fits import (length (store_at wa).memory) (in_start wa) a e)
 
@@ -215,7 +217,8 @@ module _ (m p : Module) (which : List Bool) (w : Flattened m p which) (plan : Pl
         rel = b_runs (results_of m x) (calls_fit m s args x f w.valid so is et) on.both lo;
       }
 
-  entered_both : (s : Store) (l : Left) (e : Entry) → StoreFits m s → LeftTyped l → EntryTyped e → Makes (length e.args) (length e.args) (enters e s l (defined_at m e.func)) (enters e s l (defined_at p e.func))
+  entered_both : (s : Store) (l : Left) (e : Entry) → StoreFits m s → LeftTyped l → EntryTyped e
+      → Makes (length e.args) (length e.args) (enters e s l (defined_at m e.func)) (enters e s l (defined_at p e.func))
   entered_both s l e so lo typed =
       let f = typed.0.0 in
       let is = typed.0.1 in
@@ -223,7 +226,8 @@ module _ (m p : Module) (which : List Bool) (w : Flattened m p which) (plan : Pl
       subst (λ o. Makes (length e.args) (length e.args) (enters e s l o) (enters e s l (defined_at p e.func))) (sym is)
       (subst (λ o. Makes (length e.args) (length e.args) (enters e s l (Some f)) (enters e s l o)) (sym t.1) (begun_both (an_entry e) (length e.args) s e.args e.func f l so lo is typed.1 t.0 t.1))
 
-  between_match : (s : Store) (l : Left) → StoreFits m s → LeftTyped l → (k : ℕ) (es : List Note) (a' : State) → na (between s l) ≡ goes k es a' → Match nb lean_at na Both k es (between s l) a' (between s l)
+  between_match : (s : Store) (l : Left) → StoreFits m s → LeftTyped l → (k : ℕ) (es : List Note) (a' : State) → na (between s l) ≡ goes k es a'
+      → Match nb lean_at na Both k es (between s l) a' (between s l)
   between_match s l so lo k es a' = by l.entries refl lo
     where
       by : (xs : List Entry) → l.entries ≡ xs → All EntryTyped xs → enter_next m s l l.entries ≡ goes k es a' → Match nb lean_at na Both k es (between s l) a' (between s l)
@@ -235,18 +239,21 @@ module _ (m p : Module) (which : List Bool) (w : Flattened m p which) (plan : Pl
           subst (λ ys. Makes (length x.args) (length x.args) (enter_next m s l ys) (enter_next p s l ys)) (sym ex) mk in
           matched (between s l) (between s l) (between s l) (length x.args) (length x.args) 0 0 k es a' q_none mk2 refl refl (omega arith) (omega arith) e
 
-  begins_match : (x : ℕ) (s : Store) (l : Left) → StoreFits m s → x < length (func_sorts m) → (func_type_at m x).params ≡ [] → LeftTyped l → (k : ℕ) (es : List Note) (a' : State) → na (begins x s l) ≡ goes k es a'
+  begins_match : (x : ℕ) (s : Store) (l : Left) → StoreFits m s → x < length (func_sorts m) → (func_type_at m x).params ≡ [] → LeftTyped l → (k : ℕ) (es : List Note) (a' : State)
+      → na (begins x s l) ≡ goes k es a'
       → Match nb lean_at na Both k es (begins x s l) a' (begins x s l)
   begins_match x s l so lt none lo k es a' e = by (defined_at m x) refl
     where
-      by_import : (b : Bool) → nat_lt x (func_imports m) ≡ b → defined_at p x ≡ None → (if b then asked m plan 0 x [] (outermost s) l l.outcomes else stops) ≡ na (begins x s l) → Match nb lean_at na Both k es (begins x s l) a' (begins x s l)
+      by_import : (b : Bool) → nat_lt x (func_imports m) ≡ b → defined_at p x ≡ None → (if b then asked m plan 0 x [] (outermost s) l l.outcomes else stops) ≡ na (begins x s l)
+          → Match nb lean_at na Both k es (begins x s l) a' (begins x s l)
       by_import false eb ep ea = let z : stops ≡ goes k es a' = ea ∙ e in cc
       by_import true eb ep ea =
           let second : nb (begins x s l) ≡ asked p plan 0 x [] (outermost s) l l.outcomes =
           ap (start_called p plan x s l) ep ∙ ap (λ n. if nat_lt x n then asked p plan 0 x [] (outermost s) l l.outcomes else stops) w.imports
           ∙ ap (λ b. if b then asked p plan 0 x [] (outermost s) l l.outcomes else stops) eb in
           let mk : Makes 0 0 (na (begins x s l)) (nb (begins x s l)) =
-          subst (λ o. Makes 0 0 o (nb (begins x s l))) ea (subst (λ o. Makes 0 0 (asked m plan 0 x [] (outermost s) l l.outcomes) o) (sym second) (asked_both 0 0 x [] (outermost s) (outermost s) l lt (both_outermost so) lo l.outcomes)) in
+          subst (λ o. Makes 0 0 o (nb (begins x s l))) ea (subst (λ o. Makes 0 0 (asked m plan 0 x [] (outermost s) l l.outcomes) o) (sym second)
+          (asked_both 0 0 x [] (outermost s) (outermost s) l lt (both_outermost so) lo l.outcomes)) in
           matched (begins x s l) (begins x s l) (begins x s l) 0 0 0 0 k es a' q_none mk refl refl (omega arith) (omega arith) e
 
       by : (o : Option Func) → defined_at m x ≡ o → Match nb lean_at na Both k es (begins x s l) a' (begins x s l)
@@ -287,7 +294,8 @@ module _ (m p : Module) (which : List Bool) (w : Flattened m p which) (plan : Pl
 
   -- a reduction that goes nowhere in the module
   ends_match : (task : Task) (l : Left) (c f : Configuration) (k0 k : ℕ) (es : List Note) (a' : State) (end : (j : ℕ) → (at : Configuration) → Type 0) → (fe : FlatEnds m p which c f k0 end)
-      → is_loud (first_of m fe.at.here.func) fe.at.here.code ≡ true → Makes k0 fe.j (na (runs task c l)) (nb (runs task fe.at l)) → na (runs task c l) ≡ goes k es a' → Match nb lean_at na Both k es (runs task c l) a' (runs task f l)
+      → is_loud (first_of m fe.at.here.func) fe.at.here.code ≡ true → Makes k0 fe.j (na (runs task c l)) (nb (runs task fe.at l)) → na (runs task c l) ≡ goes k es a'
+      → Match nb lean_at na Both k es (runs task c l) a' (runs task f l)
   ends_match task l c f k0 k es a' end fe loud mk e =
       matched (runs task c l) (runs task f l) (runs task fe.at l) k0 fe.j fe.n fe.l k es a' (lifted (first_of m) p plan task l f fe.at fe.n fe.l fe.before) mk
       (ap (map touched) (same_touch c fe.at fe.act)) loud fe.least fe.most e
@@ -296,9 +304,11 @@ module _ (m p : Module) (which : List Bool) (w : Flattened m p which) (plan : Pl
   back_both the_start k j vs s l so lo = made k j _ _ (on_to s l l.entries) (on_to s l l.entries) refl (on_same s l l.entries refl so lo)
   back_both (an_entry e) k j vs s l so lo = made k j _ _ (on_to s (next_entry l) l.entries) (on_to s (next_entry l) l.entries) refl (on_same s (next_entry l) l.entries refl so lo)
 
-  runs_match : (task : Task) (l : Left) (outs : List ValType) (c f : Configuration) → LeftTyped l → (o : Next) → step m c ≡ o → NextFits m outs o → FlatNext m p which c f o → (k : ℕ) (es : List Note) (a' : State)
+  runs_match : (task : Task) (l : Left) (outs : List ValType) (c f : Configuration) → LeftTyped l → (o : Next) → step m c ≡ o → NextFits m outs o → FlatNext m p which c f o
+      → (k : ℕ) (es : List Note) (a' : State)
       → na (runs task c l) ≡ goes k es a' → Match nb lean_at na Both k es (runs task c l) a' (runs task f l)
-  runs_match task l outs c f lo (steps k0 d) eo fits fs k es a' e = same_turn k0 k [] es (runs task d l) a' (runs task c l) (runs task f l) (sym (ap (by_step m plan task l) eo) ∙ e) (steps_match task l outs c f k0 d lo fits fs)
+  runs_match task l outs c f lo (steps k0 d) eo fits fs k es a' e = same_turn k0 k [] es (runs task d l) a' (runs task c l) (runs task f l) (sym (ap (by_step m plan task l) eo) ∙ e)
+      (steps_match task l outs c f k0 d lo fits fs)
   runs_match task l outs c f lo (asks k0 import args d) eo fits fe k es a' e =
       let to = fe.ends.0 in
       let acts = fe.ends.1 in
@@ -351,7 +361,8 @@ module _ (m p : Module) (which : List Bool) (w : Flattened m p which) (plan : Pl
   between_stops s l so lo (x ∷ xs) ex all e =
       absurd (goes_on (entered_both s (record { number = l.number; entries = xs; outcomes = l.outcomes }) x so (All-tail EntryTyped x xs all) (All-head EntryTyped x xs all)) e)
 
-  begins_stops : (x : ℕ) (s : Store) (l : Left) → StoreFits m s → x < length (func_sorts m) → (func_type_at m x).params ≡ [] → LeftTyped l → (o : Option Func) → defined_at m x ≡ o → start_called m plan x s l o ≡ stops
+  begins_stops : (x : ℕ) (s : Store) (l : Left) → StoreFits m s → x < length (func_sorts m) → (func_type_at m x).params ≡ [] → LeftTyped l → (o : Option Func) → defined_at m x ≡ o
+      → start_called m plan x s l o ≡ stops
       → start_called p plan x s l (defined_at p x) ≡ stops
   begins_stops x s l so lt none lo (Some f) is e = let z : goes 0 [] (runs the_start (entered s [] [] x f) l) ≡ stops = e in cc
   begins_stops x s l so lt none lo None is e =

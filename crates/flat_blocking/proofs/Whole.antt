@@ -106,10 +106,12 @@ module _ (m : Module) (which : List Bool) (plan : Plan) (os : List Outcome) (v :
 
   pub flat_follows : (n : ℕ) → (i : ℕ) × (i ≤ LeanCost m p plan os n) × StandAlike m p plan os i n
   flat_follows n =
-      let got = follows (blocking (Base p) plan) (lean_next first (Base p) plan) (blocking (Base m) plan) B (both_follow (Base m) (Base p) which w plan) n n (start_of m plan os).last (start_of p plan os).last both_start (omega arith) in
+      let got = follows (blocking (Base p) plan) (lean_next first (Base p) plan) (blocking (Base m) plan) B (both_follow (Base m) (Base p) which w plan) n n (start_of m plan os).last
+      (start_of p plan os).last both_start (omega arith) in
       (got.0, subst (λ k. got.0 ≤ k) (same_first n) got.1, stand_alike got.0 n got.2)
 
   pub flat_reaches : (i : ℕ) → (n : ℕ) × (n ≤ 16 * i) × StandAlike m p plan os i n
   flat_reaches i =
-      let got = reaches (blocking (Base p) plan) (lean_next first (Base p) plan) (blocking (Base m) plan) B (both_follow (Base m) (Base p) which w plan) i i (start_of m plan os).last (start_of p plan os).last both_start (omega arith) in
+      let got = reaches (blocking (Base p) plan) (lean_next first (Base p) plan) (blocking (Base m) plan) B (both_follow (Base m) (Base p) which w plan) i i (start_of m plan os).last
+      (start_of p plan os).last both_start (omega arith) in
       (got.0, got.1, stand_alike i got.0 got.2)

@@ -1,4 +1,3 @@
 pub mod BodyLemmas
-pub mod ConstructLemmas
 pub mod NestLemmas
 pub mod StartLemmas

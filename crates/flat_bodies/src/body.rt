@@ -8,11 +8,12 @@ ghost use Rattle.wasm_tree.specs.Kinds.{is_leaf};
 ghost use Rattle.wasm_validate.specs.Walk.{Stays, TypedAt};
 ghost use Rattle.flat_instrs.specs.Emitting.{flat_at, Put, Ready, SmallTypes};
 
-use crate::constructs::{close, open, put_block, put_if, put_loop, restart};
+use flat_constructs::{close, open, put_block, put_if, put_loop, restart};
 use flat_instrs::{
     Position, basic_result, pop_slot, put_basic, put_br_if, put_call, put_call_indirect, put_carry,
-    put_get, put_last, put_set, put_tee, top_slot,
+    put_get, put_set, put_tee, top_slot,
 };
+use flat_jumps::put_last;
 use flat_names::Names;
 use std::alloc::AllocError;
 use wa_model::Stmt;

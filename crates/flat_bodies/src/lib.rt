@@ -2,8 +2,6 @@
 #![tactic(auto)]
 
 mod body;
-mod constructs;
 mod start;
 
-pub use constructs::label_local;
 pub use start::flat_body;

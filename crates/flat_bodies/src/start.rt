@@ -6,7 +6,7 @@ ghost use Rattle.wasm_validate.specs.Walk.{TypedAt};
 ghost use Rattle.flat_instrs.specs.Emitting.{flat_at, Ready, SmallTypes};
 
 use crate::body::body_stmts;
-use crate::constructs::label_local;
+use flat_constructs::label_local;
 use flat_instrs::Position;
 use flat_names::Names;
 use std::alloc::{AllocError, Global};

@@ -1,17 +1,13 @@
 -- The module in which the told functions are flat is what the links ask for.
-use Rattle.std.proofs.Common.{◌≡◌, ℕ, suc, ◌+◌, ◌≤◌, List, [], Option, Some, None, Bool, true, inl, inr, refl, sym, ap, ◌∙◌, subst, arith, ⊎_elim}
+use Rattle.std.proofs.Common.{◌≡◌, ℕ, ◌≤◌, List, Bool, inl, inr, refl, arith}
 use Rattle.std.specs.Prelude.{slice_get}
-use Rattle.wa_types.specs.Base.{Base}
-use Rattle.wa_types.specs.Modules.{defined_at, func_type_at}
+use Rattle.wa_types.specs.Modules.{defined_at}
 use Rattle.wa_types.specs.Pausing.{is_told}
-use Rattle.wa_types.specs.Syntax.{Func, Module}
-use Rattle.wa_types.specs.declared.values.Value.{Value}
+use Rattle.wa_types.specs.Syntax.{Module}
 use Rattle.wa_model.specs.Configuration.{Configuration}
-use Rattle.wa_model.specs.Fitting.{StoreFits, types_of, results_of}
 use Rattle.wa_model.specs.Step.{Next, steps, asks, returns, traps, stuck, step}
-use Rattle.wa_model.specs.Store.{Store}
-use Rattle.flat_laws.specs.FlatModule.{Flattened, IsPlaced, flat_module}
-use Rattle.flat_laws.proofs.FlatModules.{valid_is_flattened, is_there}
+use Rattle.flat_laws.specs.FlatModule.{Flattened}
+use Rattle.flat_laws.proofs.FlatModules.{is_there}
 use Rattle.flat_runs.specs.Beside.{Asked, Beside, beside, beside_same, Still, first_of, stands, loudly, softly}
 use Rattle.flat_runs.specs.Reducing.{Acts, FlatNext}
 use Rattle.flat_runs.proofs.Reductions.{answers_go_on, calls_begin, still_goes, stretch_goes}
@@ -57,7 +53,7 @@ module _ (m : Module) (which : List Bool) (flat : Module) (fl : Flattened m flat
     most = h.most;
     both = h.both;
   }
-  next_beside c f (asks k i args d) h = let le = lean_less flat (first_of m) f h.at h.n h.l h.before in let least = h.least in record {
+  next_beside c f (asks k i args d) h = let le = lean_less flat (first_of m) f h.at h.n h.l h.before in let least = h.least in let most = h.most in record {
     n = h.n;
     at = h.at;
     before = still_quiet flat (first_of m) f h.at h.n h.l h.before;
@@ -65,9 +61,9 @@ module _ (m : Module) (which : List Bool) (flat : Module) (fl : Flattened m flat
     j = h.j;
     there = h.ends;
     least = omega arith;
-    most = h.most;
+    most = omega arith;
   }
-  next_beside c f (returns k vs s) h = let le = lean_less flat (first_of m) f h.at h.n h.l h.before in let least = h.least in record {
+  next_beside c f (returns k vs s) h = let le = lean_less flat (first_of m) f h.at h.n h.l h.before in let least = h.least in let most = h.most in record {
     n = h.n;
     at = h.at;
     before = still_quiet flat (first_of m) f h.at h.n h.l h.before;
@@ -75,9 +71,9 @@ module _ (m : Module) (which : List Bool) (flat : Module) (fl : Flattened m flat
     j = h.j;
     there = h.ends;
     least = omega arith;
-    most = h.most;
+    most = omega arith;
   }
-  next_beside c f (traps k t s) h = let le = lean_less flat (first_of m) f h.at h.n h.l h.before in let least = h.least in record {
+  next_beside c f (traps k t s) h = let le = lean_less flat (first_of m) f h.at h.n h.l h.before in let least = h.least in let most = h.most in record {
     n = h.n;
     at = h.at;
     before = still_quiet flat (first_of m) f h.at h.n h.l h.before;
@@ -85,7 +81,7 @@ module _ (m : Module) (which : List Bool) (flat : Module) (fl : Flattened m flat
     j = h.j;
     there = h.ends;
     least = omega arith;
-    most = h.most;
+    most = omega arith;
   }
   next_beside c f stuck h = tt
 

@@ -1,7 +1,6 @@
 -- The statements of a flat body have calls where the pruned body has them, and the places of numbered ones are told by a test.
-use Rattle.std.proofs.Common.{◌≡◌, ℕ, zero, suc, ◌+◌, ◌-◌, ◌<◌, ◌≤◌, List, [], ◌∷◌, ◌++◌, length, map, take, drop, reverse, Option, Some, None, Bool, true, false, refl, sym, ap, ◌∙◌, subst, arith, length-append, ne_eqb, eq-eqb}
+use Rattle.std.proofs.Common.{◌≡◌, ℕ, zero, suc, ◌+◌, ◌-◌, ◌<◌, List, [], ◌∷◌, ◌++◌, length, drop, Option, Some, None, Bool, true, false, refl, sym, ap, ◌∙◌, subst, arith, length-append, ne_eqb, eq-eqb}
 use Rattle.std.specs.Prelude.{slice_get, nat_eq, ◌||◌, if◌then◌else◌}
-use Rattle.std.specs.List.{list_any}
 use Rattle.wa_types.specs.declared.values.ValType.{ValType}
 use Rattle.wa_types.specs.Syntax.{Plain, basic, local_get, local_set, local_tee, br, br_if, br_table, return, unreachable, call, call_indirect, Code, done, plain, nest, branch, Func, Module}
 use Rattle.wa_types.specs.Typing.{Around, listed, sig, label}
@@ -10,9 +9,9 @@ use Rattle.wa_types.specs.Modules.{around}
 use Rattle.wa_types.specs.Pausing.{Callee, direct, indirect, callee, callee_onto, calls_of, calls_in, places_from}
 use Rattle.wa_model.specs.Flat.{Stmts, no_more, computes, copies, calls, leaps, leaps_if, leaps_by, nests, decides, halts, code_of}
 use Rattle.flat_laws.specs.Flatten.{Names, names, carry_to, carry_all, arrive, flat, flat_plain, flattened}
-use Rattle.flat_fits.proofs.Calls.{calls_stay, calls_all, calls_calls, calls_computes, calls_slots}
+use Rattle.flat_fits.proofs.Calls.{calls_stay, calls_all, calls_calls, calls_computes}
 use Rattle.guard_form.specs.Functions.{Calls}
-use Rattle.guard_form.specs.Grouping.{CallNumbered, StmtsNumbered, is_place}
+use Rattle.guard_form.specs.Grouping.{StmtsNumbered, is_place}
 use Rattle.guard_form.specs.Pieces.{call_to, call_total}
 
 -- The instruction of a call is one, and that of a computation is none.

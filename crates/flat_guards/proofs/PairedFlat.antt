@@ -1,8 +1,7 @@
 -- The flat module and the emitted one are paired.
-use Rattle.std.proofs.Common.{◌≡◌, ℕ, zero, suc, ◌+◌, ◌-◌, ◌<◌, ◌≤◌, List, [], ◌∷◌, ◌++◌, drop, map, length, Option, Some, None, Bool, true, false, refl, sym, ap, ◌∙◌, subst, arith, append-nil, length-append}
+use Rattle.std.proofs.Common.{◌≡◌, ℕ, zero, suc, ◌+◌, ◌-◌, ◌<◌, List, [], ◌∷◌, ◌++◌, drop, map, length, Option, Some, None, Bool, true, false, refl, sym, ap, ◌∙◌, subst, arith, append-nil, length-append}
 use Rattle.std.specs.Prelude.{slice_get, ◌||◌, nat_lt, if◌then◌else◌}
 use Rattle.std.proofs.lemmas.List.{length-map, map-append}
-use Rattle.std.proofs.lemmas.Option.{slice_get_within}
 use Rattle.wa_types.specs.Base.{Base}
 use Rattle.wa_types.specs.Frames.{Pair, SlotPairs, ResultPairs}
 use Rattle.wa_types.specs.Modules.{declared_locals, defined_at, func_imports, func_sorts, func_type_at, imported, imported_func, imported_global, locals_of, type_at}
@@ -27,7 +26,7 @@ use Rattle.wa_model.proofs.FittingOpenings.{openings_fit}
 use Rattle.wa_model.proofs.GrownSteps.{each_got, front}
 use Rattle.range_laws.specs.Ranges.{CodesIn}
 use Rattle.stack_laws.proofs.SpotRuns.{listed_typed}
-use Rattle.flat_laws.specs.FlatModule.{Flattened, IsPlaced, extra_types, flat_func, flat_module}
+use Rattle.flat_laws.specs.FlatModule.{Flattened, IsPlaced, extra_types, flat_module}
 use Rattle.flat_laws.specs.Flatten.{flattened}
 use Rattle.flat_laws.proofs.FlatModules.{is_flat, sorts_stay, valid_is_flattened, valid_stays}
 use Rattle.guard_form.specs.Functions.{Calls, MayCall, PiecesCall, Role, RoleCalls, as_is, flat_code, size_of, with_guards, written_code}
@@ -40,7 +39,7 @@ use Rattle.headline_laws.specs.World.{setting}
 use Rattle.flat_links.specs.Core.{Core, CoreFits, table_in, world_of}
 use Rattle.flat_links.proofs.Spaces.{grown_func_type}
 use Rattle.flat_guards.specs.CoreOf.{core_of}
-use Rattle.flat_guards.specs.Emitted.{Emitted, Guarded, Stays, WrittenAs, flat_of, guarded_of, role_at}
+use Rattle.flat_guards.specs.Emitted.{Emitted, Guarded, Stays, WrittenAs, guarded_of, role_at}
 use Rattle.flat_guards.proofs.NumberedStmts.{flat_numbered, got_first, got_second}
 
 -- ---- lists
@@ -56,7 +55,7 @@ there (x ∷ xs) (suc i) lt = there xs i (omega arith)
 
 -- ---- the original with its memory
 
-types_are : (m : Module) → (with_runtime m).types ≡ (Base m).types ++ runtime_types
+pub types_are : (m : Module) → (with_runtime m).types ≡ (Base m).types ++ runtime_types
 unfolding Base with_runtime
 types_are m = refl
 

@@ -1,14 +1,13 @@
 -- The written module of one whose functions may pause, for the policy that saves all: each function that may pause is its flat
 -- function with guards and frames, every other one stays, and the runtime's parts stand behind.
-use Rattle.std.specs.Prelude.{◌≡◌, ℕ, suc, ◌+◌, ◌<◌, ◌++◌, List, [], ◌∷◌, length, map, drop, Option, Some, None, Bool, true, false, All, Contains, slice_get, if◌then◌else◌}
+use Rattle.std.specs.Prelude.{◌≡◌, ℕ, suc, ◌+◌, ◌^◌, ◌<◌, ◌++◌, List, [], ◌∷◌, length, map, drop, Option, Some, None, Bool, true, false, All, Contains, slice_get, if◌then◌else◌}
 use Rattle.wa_types.specs.Base.{Base}
-use Rattle.wa_types.specs.Frames.{Place, SlotPairs, Saved}
-use Rattle.wa_types.specs.Modules.{declared_locals, func_imports, locals_of}
-use Rattle.wa_types.specs.Pausing.{Settings, Callee, Numbered, has_number, is_told, save_all}
+use Rattle.wa_types.specs.Frames.{Place, Saved}
+use Rattle.wa_types.specs.Modules.{declared_locals, defined_at, func_imports, locals_of}
+use Rattle.wa_types.specs.Pausing.{Settings, Numbered, is_told, save_all}
 use Rattle.wa_types.specs.Points.{func_call_points}
 use Rattle.wa_types.specs.Runtime.{global_space, with_runtime}
-use Rattle.wa_types.specs.Syntax.{Code, done, Func, Module}
-use Rattle.wa_types.specs.Validity.{Valid}
+use Rattle.wa_types.specs.Syntax.{done, Func, Module}
 use Rattle.wa_types.specs.declared.values.ValType.{ValType}
 use Rattle.wa_types.specs.declared.values.ValType.TheVariants.{I32, I64}
 use Rattle.wa_model.specs.Flat.{FlatFunc}
@@ -95,4 +94,6 @@ module _ (m : Module) (s : Settings) (which : List Bool) (keep : (func local : �
     pub runtime : drop (length m.funcs) p.funcs ≡ drop (length m.funcs) (with_runtime m).funcs
     pub sorts : map (λ (f : Func). f.sort) p.funcs ≡ map (λ (f : Func). f.sort) (with_runtime m).funcs
     pub written : (j : ℕ) (f g : Func) → slice_get m.funcs j ≡ Some f → slice_get p.funcs j ≡ Some g → WrittenAs (is_told (slice_get which (func_imports m + j))) (func_imports m + j) f g
-    pub keeps : (j : ℕ) (f : Func) → slice_get m.funcs j ≡ Some f → is_told (slice_get which (func_imports m + j)) ≡ true → KeepsEnough (func_imports m + j) f
+    pub keeps : (x : ℕ) (f : Func) → defined_at m x ≡ Some f → is_told (slice_get which x) ≡ true → KeepsEnough x f
+    -- numbers are written as an i32
+    pub few : (x : ℕ) (f : Func) → defined_at m x ≡ Some f → is_told (slice_get which x) ≡ true → length (Numbered m s which f) < 2 ^ 32

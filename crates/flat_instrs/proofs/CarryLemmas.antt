@@ -57,5 +57,3 @@ module _ (locals : List (Option ℕ)) (from : ℕ) (old : List Stmt) (all : List
 
   pub carries_end : (now : List Stmt) (i : ℕ) (k : Stmts) → length all ≤ i → ((k : Stmts) → onto_stmts now (all_carried locals (drop i all) from k) ≡ onto_stmts old (all_carried locals all from k)) → onto_stmts now k ≡ onto_stmts old (all_carried locals all from k)
   carries_end now i k le before = sym (ap (λ z. onto_stmts now (all_carried locals z from k)) (drop_all i all le)) ∙ before k
-
-pub ruleset moving = (carries_step, carries_end)

@@ -1,7 +1,6 @@
 pub mod BasicLemmas
 pub mod CallLemmas
 pub mod CarryLemmas
-pub mod JumpLemmas
 pub mod LeafLemmas
 pub mod OntoLemmas
 pub mod PositionLemmas

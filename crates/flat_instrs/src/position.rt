@@ -1,6 +1,6 @@
-ghost use Rattle.std.specs.Prelude.{◌≡◌, ◌<◌, ◌++◌, ◌∷◌, [], All, drop, length, reverse, slice_get, IfOk, OnOk};
+ghost use Rattle.std.specs.Prelude.{◌≡◌, ◌<◌, ◌++◌, ◌∷◌, [], drop, length, reverse, slice_get, IfOk, OnOk};
 ghost use Rattle.flat_laws.specs.Flatten.{top};
-ghost use Rattle.flat_instrs.specs.Emitting.{all_carried, all_of, carried_to, first_or, onto_stmts, HoldsBelow};
+ghost use Rattle.flat_instrs.specs.Emitting.{all_of, carried_to, first_or, onto_stmts, HoldsBelow};
 ghost use Rattle.wa_model.specs.Flat.{Stmts};
 
 use flat_names::Names;
@@ -80,21 +80,4 @@ pub fn put_carry(
             Ok(())
         }
     }
-}
-
-/// Puts those of a branch to one of these labels.
-#[tactic(auto, using(crate::proofs::CarryLemmas::moving))]
-pub fn put_carries(
-    out: &mut Vec<Stmt>,
-    labels: &[Option<u32>],
-    targets: &[u32],
-    from: u32,
-) -> Result<(), AllocError>
-    requires { All (λ l. l < length labels.now) targets.now }
-    ensures { OnOk result ((rest : Stmts) → onto_stmts out.new.items rest ≡ onto_stmts out.old.items (all_carried (reverse labels.now) targets.now from rest)) }
-{
-    for label in targets {
-        put_carry(out, labels, *label, from)?;
-    }
-    Ok(())
 }

@@ -1,13 +1,12 @@
 -- What the headline asks of flattening, from the relation.
-use Rattle.std.proofs.Common.{Bool, ◌≡◌, ℕ, suc, ◌+◌, ◌*◌, ◌^◌, ◌<◌, ◌≤◌, List, [], ◌∷◌, length, Option, Some, None, All, refl, sym, ap, ◌∙◌, subst, arith, ⊎_elim}
+use Rattle.std.proofs.Common.{Bool, ◌≡◌, ℕ, ◌*◌, ◌^◌, ◌<◌, List, [], ◌∷◌, length, Some, None, refl, sym, ap, ◌∙◌, subst, arith, ⊎_elim}
 use Rattle.std.specs.Option.{option_to_list}
 use Rattle.std.proofs.lemmas.List.{length-map}
 use Rattle.wa_types.specs.Memory.{page_size}
-use Rattle.wa_types.specs.Modules.{defined_at, func_imports, func_type_at, global_type}
-use Rattle.wa_types.specs.Syntax.{Func, Module}
+use Rattle.wa_types.specs.Modules.{defined_at, func_type_at}
+use Rattle.wa_types.specs.Syntax.{Func}
 use Rattle.wa_types.specs.declared.values.ValType.{ValType}
 use Rattle.wa_types.specs.declared.values.Value.{Value}
-use Rattle.wa_types.specs.declared.values.Trap.{Trap}
 use Rattle.wa_types.specs.Typing.{type_of}
 use Rattle.wa_model.specs.Blocking.{answers, fault_of, poked, resumed}
 use Rattle.wa_model.specs.Configuration.{Configuration}
@@ -22,7 +21,7 @@ use Rattle.wa_model.proofs.FittingNames.{results_are}
 use Rattle.wa_model.proofs.FittingRuns.{answers_fit, calls_fit}
 use Rattle.wa_model.proofs.FittingSteps.{steps_fit}
 use Rattle.wa_model.proofs.GrownSteps.{entered_named, defined_below}
-use Rattle.range_laws.specs.Ranges.{ConfigurationIn, NextIn, StoreIn}
+use Rattle.range_laws.specs.Ranges.{ConfigurationIn, NextIn}
 use Rattle.range_laws.proofs.Host.{fault_pokes, optional_in, poked_store_in, store_lower, store_whole}
 use Rattle.range_laws.proofs.Steps.{step_in}
 use Rattle.range_laws.proofs.Stretches.{answers_in_range, calls_in_range}

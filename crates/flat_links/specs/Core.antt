@@ -1,10 +1,10 @@
 -- A rewriting by way of flat code: the original, its flat module, and the written one; and the world of the headline that they make.
-use Rattle.std.specs.Prelude.{◌≡◌, ℕ, ◌+◌, List, [], length, map, Option, Bool}
+use Rattle.std.specs.Prelude.{◌≡◌, ℕ, ◌+◌, List, [], length, Option, Bool}
 use Rattle.wa_types.specs.Base.{Base}
 use Rattle.wa_types.specs.Modules.{func_sorts}
 use Rattle.wa_types.specs.Pausing.{Callee, Settings}
 use Rattle.wa_types.specs.Runtime.{func_space, global_space, runtime_types, runtime_funcs}
-use Rattle.wa_types.specs.Syntax.{Func, Module}
+use Rattle.wa_types.specs.Syntax.{Module}
 use Rattle.wa_types.specs.Validity.{Valid}
 use Rattle.wa_model.specs.Growth.{grown_module}
 use Rattle.wa_model.specs.Instantiation.{Opening, fails_as, opens, opening}

@@ -60,18 +60,26 @@ all_below l m xs le h = All-from_get_or (λ x. x < m) xs 0 (λ i lt. let q = All
 code_labels : (locals l m : ℕ) (s : Stmts) → StmtsFit locals l s → l + depth_of (code_of s) < m → LabelsBelow m (code_of s)
 unfolding depth_of followed_by code_of
 code_labels locals l m no_more h lt = tt
-code_labels locals l m (computes (plain (basic b) done) args to rest) h lt = let e = depth_all args (plain (basic b) (set_to to (code_of rest))) in let e2 = depth_to to (code_of rest) in labels_all m args _ (tt, labels_to m to _ (code_labels locals l m rest h.4 (omega arith)))
-code_labels locals l m (computes (plain (local_get x) done) args to rest) h lt = let e = depth_all args (plain (local_get x) (set_to to (code_of rest))) in let e2 = depth_to to (code_of rest) in labels_all m args _ (tt, labels_to m to _ (code_labels locals l m rest h.4 (omega arith)))
-code_labels locals l m (computes (plain (local_set x) done) args to rest) h lt = let e = depth_all args (plain (local_set x) (set_to to (code_of rest))) in let e2 = depth_to to (code_of rest) in labels_all m args _ (tt, labels_to m to _ (code_labels locals l m rest h.4 (omega arith)))
-code_labels locals l m (computes (plain (local_tee x) done) args to rest) h lt = let e = depth_all args (plain (local_tee x) (set_to to (code_of rest))) in let e2 = depth_to to (code_of rest) in labels_all m args _ (tt, labels_to m to _ (code_labels locals l m rest h.4 (omega arith)))
+code_labels locals l m (computes (plain (basic b) done) args to rest) h lt = let e = depth_all args (plain (basic b) (set_to to (code_of rest))) in let e2 = depth_to to
+    (code_of rest) in labels_all m args _ (tt, labels_to m to _ (code_labels locals l m rest h.4 (omega arith)))
+code_labels locals l m (computes (plain (local_get x) done) args to rest) h lt = let e = depth_all args (plain (local_get x) (set_to to (code_of rest))) in let e2 = depth_to to
+    (code_of rest) in labels_all m args _ (tt, labels_to m to _ (code_labels locals l m rest h.4 (omega arith)))
+code_labels locals l m (computes (plain (local_set x) done) args to rest) h lt = let e = depth_all args (plain (local_set x) (set_to to (code_of rest))) in let e2 = depth_to to
+    (code_of rest) in labels_all m args _ (tt, labels_to m to _ (code_labels locals l m rest h.4 (omega arith)))
+code_labels locals l m (computes (plain (local_tee x) done) args to rest) h lt = let e = depth_all args (plain (local_tee x) (set_to to (code_of rest))) in let e2 = depth_to to
+    (code_of rest) in labels_all m args _ (tt, labels_to m to _ (code_labels locals l m rest h.4 (omega arith)))
 code_labels locals l m (computes _ args to rest) h lt = absurd h.0
 code_labels locals l m (copies to from rest) h lt = let e = depth_got from (plain (local_set to) (code_of rest)) in labels_got m from _ (tt, code_labels locals l m rest h.2 (omega arith))
-code_labels locals l m (calls (plain (call x) done) stack args to rest) h lt = let e = depth_slots (last_of args stack) (plain (call x) (set_to to (code_of rest))) in let e2 = depth_to to (code_of rest) in labels_slots m (last_of args stack) _ (tt, labels_to m to _ (code_labels locals l m rest h.5 (omega arith)))
-code_labels locals l m (calls (plain (call_indirect x) done) stack args to rest) h lt = let e = depth_slots (last_of args stack) (plain (call_indirect x) (set_to to (code_of rest))) in let e2 = depth_to to (code_of rest) in labels_slots m (last_of args stack) _ (tt, labels_to m to _ (code_labels locals l m rest h.5 (omega arith)))
+code_labels locals l m (calls (plain (call x) done) stack args to rest) h lt = let e = depth_slots (last_of args stack)
+    (plain (call x) (set_to to (code_of rest))) in let e2 = depth_to to (code_of rest) in labels_slots m (last_of args stack) _ (tt, labels_to m to _ (code_labels locals l m rest h.5 (omega arith)))
+code_labels locals l m (calls (plain (call_indirect x) done) stack args to rest) h lt = let e = depth_slots (last_of args stack)
+    (plain (call_indirect x) (set_to to (code_of rest))) in let e2 = depth_to to (code_of rest) in labels_slots m (last_of args stack) _
+    (tt, labels_to m to _ (code_labels locals l m rest h.5 (omega arith)))
 code_labels locals l m (calls _ stack args to rest) h lt = absurd h.0
 code_labels locals l m (leaps x rest) h lt = let q = h.0 in (omega arith, code_labels locals l m rest h.1 (omega arith))
 code_labels locals l m (leaps_if o x rest) h lt = let q = h.1 in let e = depth_got o (plain (br_if x) (code_of rest)) in labels_got m o _ (omega arith, code_labels locals l m rest h.2 (omega arith))
-code_labels locals l m (leaps_by o xs x rest) h lt = let q = h.2 in let e = depth_got o (plain (br_table xs x) (code_of rest)) in labels_got m o _ ((all_below l m xs (omega arith) h.1, omega arith), code_labels locals l m rest h.3 (omega arith))
+code_labels locals l m (leaps_by o xs x rest) h lt = let q = h.2 in let e = depth_got o (plain (br_table xs x) (code_of rest)) in labels_got m o _
+    ((all_below l m xs (omega arith) h.1, omega arith), code_labels locals l m rest h.3 (omega arith))
 code_labels locals l m (nests y body rest) h lt = (code_labels locals (suc l) m body h.0 (omega arith), code_labels locals l m rest h.1 (omega arith))
 code_labels locals l m (decides o a b rest) h lt =
     let e = depth_got o (branch None (code_of a) (code_of b) (code_of rest)) in

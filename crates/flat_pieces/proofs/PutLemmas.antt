@@ -104,4 +104,5 @@ pub set_told : (to : Option ℕ) (x : ℕ) → to ≡ Some x → (rest : Code) �
 set_told to x e rest = set_is x rest ∙ ap (λ z. set_to z rest) (sym e)
 
 pub one_const : (l0 l1 : List Instr) (n : ℕ) → l0 ≡ [] → l1 ≡ l0 ++ ConstInstr (V.I32 n) ∷ [] → code l1 ≡ plain (basic (const (V.I32 n))) done
-one_const l0 l1 n e f = sym (onto_done l1) ∙ put_one l0 l1 (ConstInstr (V.I32 n)) (plain (basic (const (V.I32 n)))) f (const_is (V.I32 n)) done ∙ ap (λ xs. onto xs (plain (basic (const (V.I32 n))) done)) e ∙ onto_none (plain (basic (const (V.I32 n))) done)
+one_const l0 l1 n e f = sym (onto_done l1) ∙ put_one l0 l1 (ConstInstr (V.I32 n)) (plain (basic (const (V.I32 n)))) f (const_is (V.I32 n)) done
+    ∙ ap (λ xs. onto xs (plain (basic (const (V.I32 n))) done)) e ∙ onto_none (plain (basic (const (V.I32 n))) done)

@@ -20,16 +20,20 @@ labels_front : (m : ℕ) (x : Instr) (rest : Code) → LabelsBelow m (in_front x
 labels_front m x rest h = elim (kind x) [
   | is_block r v e ↦ let q = subst (LabelsBelow m) (ap (λ y. in_front y rest) e ∙ in_block r v rest) h in (subst (LabelsBelow m) (sym (ap (λ y. in_front y done) e ∙ in_block r v done)) (q.0, tt), q.1)
   | is_loop r v e ↦ let q = subst (LabelsBelow m) (ap (λ y. in_front y rest) e ∙ in_loop r v rest) h in (subst (LabelsBelow m) (sym (ap (λ y. in_front y done) e ∙ in_loop r v done)) (q.0, tt), q.1)
-  | is_if r v w e ↦ let q = subst (LabelsBelow m) (ap (λ y. in_front y rest) e ∙ in_if r v w rest) h in (subst (LabelsBelow m) (sym (ap (λ y. in_front y done) e ∙ in_if r v w done)) (q.0, q.1, tt), q.2)
+  | is_if r v w e ↦ let q = subst (LabelsBelow m) (ap (λ y. in_front y rest) e ∙ in_if r v w rest) h in
+      (subst (LabelsBelow m) (sym (ap (λ y. in_front y done) e ∙ in_if r v w done)) (q.0, q.1, tt), q.2)
   | is_plain p e ↦ let q = subst (LabelsBelow m) (e rest) h in (subst (LabelsBelow m) (sym (e done)) (q.0, tt), q.1)
 ]
 
 depth_front : (x : Instr) (rest : Code) → (depth_of (in_front x done) ≤ depth_of (in_front x rest)) × (depth_of rest ≤ depth_of (in_front x rest))
 unfolding depth_of
 depth_front x rest = elim (kind x) [
-  | is_block r v e ↦ let a = ap (λ y. depth_of (in_front y rest)) e ∙ ap depth_of (in_block r v rest) in let b = ap (λ y. depth_of (in_front y done)) e ∙ ap depth_of (in_block r v done) in (omega arith, omega arith)
-  | is_loop r v e ↦ let a = ap (λ y. depth_of (in_front y rest)) e ∙ ap depth_of (in_loop r v rest) in let b = ap (λ y. depth_of (in_front y done)) e ∙ ap depth_of (in_loop r v done) in (omega arith, omega arith)
-  | is_if r v w e ↦ let a = ap (λ y. depth_of (in_front y rest)) e ∙ ap depth_of (in_if r v w rest) in let b = ap (λ y. depth_of (in_front y done)) e ∙ ap depth_of (in_if r v w done) in (omega arith, omega arith)
+  | is_block r v e ↦ let a = ap (λ y. depth_of (in_front y rest)) e ∙ ap depth_of (in_block r v rest) in let b = ap (λ y. depth_of (in_front y done)) e
+      ∙ ap depth_of (in_block r v done) in (omega arith, omega arith)
+  | is_loop r v e ↦ let a = ap (λ y. depth_of (in_front y rest)) e ∙ ap depth_of (in_loop r v rest) in let b = ap (λ y. depth_of (in_front y done)) e
+      ∙ ap depth_of (in_loop r v done) in (omega arith, omega arith)
+  | is_if r v w e ↦ let a = ap (λ y. depth_of (in_front y rest)) e ∙ ap depth_of (in_if r v w rest) in let b = ap (λ y. depth_of (in_front y done)) e
+      ∙ ap depth_of (in_if r v w done) in (omega arith, omega arith)
   | is_plain p e ↦ let a = ap depth_of (e rest) in let b = ap depth_of (e done) in (omega arith, omega arith)
 ]
 
@@ -38,7 +42,11 @@ unfolding code onto
 one_of d n [] i x z lt h = absurd (omega arith)
 one_of d n (y ∷ ys) zero x z lt h = record { few = h.few; labels = (labels_front (2 ^ 31) y (code ys) h.labels).0; shallow = let q = (depth_front y (code ys)).0 in let s = h.shallow in omega arith }
 one_of d n (y ∷ ys) (suc i) x z lt h =
-    one_of d n ys i x z (omega arith) (record { few = h.few; labels = (labels_front (2 ^ 31) y (code ys) h.labels).1; shallow = let q = (depth_front y (code ys)).1 in let s = h.shallow in omega arith })
+    one_of d n ys i x z (omega arith) (record {
+      few = h.few;
+      labels = (labels_front (2 ^ 31) y (code ys) h.labels).1;
+      shallow = let q = (depth_front y (code ys)).1 in let s = h.shallow in omega arith;
+    })
 
 pub raisable_at : (d n : ℕ) (xs : List Instr) (i : ℕ) (x : Instr) → i < length xs → x ≡ get_or xs i x → Raisable d n (code xs) → Raisable d n (in_front x done)
 raisable_at d n xs i x lt at h = subst (λ y. Raisable d n (in_front y done)) (sym at) (one_of d n xs i x x lt h)
@@ -102,19 +110,22 @@ pub raised_block : (d n : ℕ) (r : Option ValType) (v w : Vec Instr Global) (x 
     → in_front (Block r w) (raised d n rest) ≡ raised d n (in_front x rest)
 raised_block d n r v w x e q rest =
     let z : d + 1 ≡ suc d = omega arith in
-    in_block r w (raised d n rest) ∙ ap (λ b. nest a_block r b (raised d n rest)) (q ∙ ap (λ j. raised j n (code v.items)) z) ∙ sym (ap (λ y. raised d n (in_front y rest)) e ∙ ap (raised d n) (in_block r v rest))
+    in_block r w (raised d n rest) ∙ ap (λ b. nest a_block r b (raised d n rest)) (q ∙ ap (λ j. raised j n (code v.items)) z)
+    ∙ sym (ap (λ y. raised d n (in_front y rest)) e ∙ ap (raised d n) (in_block r v rest))
 
 pub raised_loop : (d n : ℕ) (r : Option ValType) (v w : Vec Instr Global) (x : Instr) → x ≡ Loop r v → code w.items ≡ raised (d + 1) n (code v.items) → (rest : Code)
     → in_front (Loop r w) (raised d n rest) ≡ raised d n (in_front x rest)
 raised_loop d n r v w x e q rest =
     let z : d + 1 ≡ suc d = omega arith in
-    in_loop r w (raised d n rest) ∙ ap (λ b. nest a_loop r b (raised d n rest)) (q ∙ ap (λ j. raised j n (code v.items)) z) ∙ sym (ap (λ y. raised d n (in_front y rest)) e ∙ ap (raised d n) (in_loop r v rest))
+    in_loop r w (raised d n rest) ∙ ap (λ b. nest a_loop r b (raised d n rest)) (q ∙ ap (λ j. raised j n (code v.items)) z)
+    ∙ sym (ap (λ y. raised d n (in_front y rest)) e ∙ ap (raised d n) (in_loop r v rest))
 
 pub raised_if : (d n : ℕ) (r : Option ValType) (v w v2 w2 : Vec Instr Global) (x : Instr) → x ≡ If r v w → code v2.items ≡ raised (d + 1) n (code v.items)
     → code w2.items ≡ raised (d + 1) n (code w.items) → (rest : Code) → in_front (If r v2 w2) (raised d n rest) ≡ raised d n (in_front x rest)
 raised_if d n r v w v2 w2 x e q q2 rest =
     let z : d + 1 ≡ suc d = omega arith in
-    in_if r v2 w2 (raised d n rest) ∙ ap (λ b. branch r b (code w2.items) (raised d n rest)) (q ∙ ap (λ j. raised j n (code v.items)) z) ∙ ap (λ b. branch r (raised (suc d) n (code v.items)) b (raised d n rest)) (q2 ∙ ap (λ j. raised j n (code w.items)) z)
+    in_if r v2 w2 (raised d n rest) ∙ ap (λ b. branch r b (code w2.items) (raised d n rest)) (q ∙ ap (λ j. raised j n (code v.items)) z)
+    ∙ ap (λ b. branch r (raised (suc d) n (code v.items)) b (raised d n rest)) (q2 ∙ ap (λ j. raised j n (code w.items)) z)
     ∙ sym (ap (λ y. raised d n (in_front y rest)) e ∙ ap (raised d n) (in_if r v w rest))
 
 same_raised : (d n : ℕ) (x : Instr) → is_leaf x ≡ true → ((l : ℕ) → x ≡ Br l → ⊥) → ((l : ℕ) → x ≡ BrIf l → ⊥) → ((v : Vec ℕ Global) (l : ℕ) → x ≡ BrTable v l → ⊥) → (rest : Code)

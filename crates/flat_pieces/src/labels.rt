@@ -1,3 +1,5 @@
+//! Code with the labels raised that leave it.
+
 ghost use Rattle.std.specs.Prelude.{◌≡◌, ◌≤◌, ◌<◌, ◌^◌, ◌+◌, All, map, IfOk, OnOk};
 ghost use Rattle.wa_types.specs.Syntax.{Code, done};
 ghost use Rattle.wa_types.specs.View.{code, in_front, onto};

@@ -1,3 +1,5 @@
+//! Single instructions of flat and guarded code, put behind others.
+
 ghost use Rattle.std.specs.Prelude.{◌≡◌, ◌+◌, suc, true, OnOk};
 ghost use Rattle.wa_types.specs.declared.values.Value.TheVariants as V;
 ghost use Rattle.wa_types.specs.Syntax.{const, num, global_get, basic, local_get, local_set, br_if, done, plain, branch};

@@ -9,5 +9,5 @@ mod ResultMoves
 mod SameSteps
 pub mod Shapes
 pub mod Slots
-mod Stretches
+pub mod Stretches
 pub mod WaitingCalls

@@ -1,3 +1,5 @@
+//! Blocks, loops and ifs, guarded where they hold a numbered call.
+
 ghost use Rattle.std.specs.Prelude.{◌≡◌, ◌<◌, ◌+◌, suc, ◌||◌, IfOk, OnOk};
 ghost use Rattle.wa_types.specs.Syntax.{a_block, a_loop};
 ghost use Rattle.wa_types.specs.View.{code};

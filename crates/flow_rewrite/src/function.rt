@@ -1,3 +1,5 @@
+//! A whole function with guards.
+
 ghost use Rattle.std.specs.Prelude.{◌≡◌, ◌≤◌, ◌<◌, ◌^◌, ◌∷◌, [], ◌++◌, false, IfOk, if◌then◌else◌};
 ghost use Rattle.wa_types.specs.declared.values.ValType.TheVariants.{I32, I64};
 ghost use Rattle.wa_types.specs.Syntax.{done};

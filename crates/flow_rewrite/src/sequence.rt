@@ -1,3 +1,5 @@
+//! What is written of a sequence so far, and how it ends.
+
 ghost use Rattle.std.specs.Prelude.{◌≡◌, IfOk, OnOk, if◌then◌else◌};
 ghost use Rattle.wa_types.specs.View.{code};
 ghost use Rattle.wa_model.specs.Flat.{no_more};

@@ -1,3 +1,5 @@
+//! The walk over statements.
+
 ghost use Rattle.std.specs.Prelude.{◌≡◌, IfOk, OnOk};
 ghost use Rattle.wa_model.specs.Flat.{no_more};
 ghost use Rattle.wa_model.specs.FlatView.{stmt_in_front, stmts};

@@ -95,7 +95,8 @@ all_calls s = calls_of (code_of s)
 pub computes_calls : (op : Code) (args : List Operand) (to : Option ℕ) (rest : Stmts) → CallsNothing op → all_calls (computes op args to rest) ≡ all_calls rest
 unfolding code_of
 computes_calls op args to rest h =
-    calls_all_got args (followed_by op (set_to to (code_of rest))) ∙ calls_then op (set_to to (code_of rest)) ∙ ap (λ xs. xs ++ calls_of (set_to to (code_of rest))) h.listed ∙ calls_set to (code_of rest)
+    calls_all_got args (followed_by op (set_to to (code_of rest))) ∙ calls_then op (set_to to (code_of rest)) ∙ ap (λ xs. xs ++ calls_of (set_to to (code_of rest))) h.listed
+    ∙ calls_set to (code_of rest)
 
 pub copies_calls : (to : ℕ) (from : Operand) (rest : Stmts) → all_calls (copies to from rest) ≡ all_calls rest
 unfolding code_of calls_of
@@ -104,7 +105,8 @@ copies_calls to from rest = calls_got from (plain (local_set to) (code_of rest))
 pub call_calls : (op : Code) (stack : List ℕ) (args : ℕ) (to : Option ℕ) (rest : Stmts) (h : OneCall op) → all_calls (calls op stack args to rest) ≡ h.to ∷ all_calls rest
 unfolding code_of
 call_calls op stack args to rest h =
-    calls_slots (last_of args stack) (followed_by op (set_to to (code_of rest))) ∙ ap (λ c. calls_of (followed_by c (set_to to (code_of rest)))) h.is ∙ calls_then (plain (call_to h.to) done) (set_to to (code_of rest))
+    calls_slots (last_of args stack) (followed_by op (set_to to (code_of rest))) ∙ ap (λ c. calls_of (followed_by c (set_to to (code_of rest)))) h.is
+    ∙ calls_then (plain (call_to h.to) done) (set_to to (code_of rest))
     ∙ ap (λ xs. xs ++ calls_of (set_to to (code_of rest))) (calls_call h.to done ∙ ap (λ xs. h.to ∷ xs) calls_done) ∙ ap (λ xs. h.to ∷ xs) (calls_set to (code_of rest))
 
 pub leaps_calls : (l : ℕ) (rest : Stmts) → all_calls (leaps l rest) ≡ all_calls rest
@@ -217,7 +219,8 @@ module _ (test : Callee → Bool) where
           numbered_by labels (n + call_total body) (before ++ all_calls body) rest after h.1 (omega arith) (q2 ∙ sym (append_assoc before (all_calls body) (all_calls rest ++ after))),
         )
     numbered_by labels n before (decides o a b rest) after h e q =
-        let q2 = q ∙ ap (λ xs. before ++ (xs ++ after)) (decides_calls o a b rest) ∙ ap (λ xs. before ++ xs) (append_assoc (all_calls a ++ all_calls b) (all_calls rest) after ∙ append_assoc (all_calls a) (all_calls b) (all_calls rest ++ after)) in
+        let q2 = q ∙ ap (λ xs. before ++ (xs ++ after)) (decides_calls o a b rest)
+        ∙ ap (λ xs. before ++ xs) (append_assoc (all_calls a ++ all_calls b) (all_calls rest) after ∙ append_assoc (all_calls a) (all_calls b) (all_calls rest ++ after)) in
         let q3 = q2 ∙ sym (append_assoc before (all_calls a) (all_calls b ++ (all_calls rest ++ after))) in
         let ta = total_is locals (suc labels) a h.1 in
         let tb = total_is locals (suc labels) b h.2 in
@@ -225,7 +228,8 @@ module _ (test : Callee → Bool) where
         let l2 = length-append (before ++ all_calls a) (all_calls b) in (
           numbered_by (suc labels) n before a (all_calls b ++ (all_calls rest ++ after)) h.1 e q2,
           numbered_by (suc labels) (n + call_total a) (before ++ all_calls a) b (all_calls rest ++ after) h.2 (omega arith) q3,
-          numbered_by labels (n + call_total a + call_total b) (before ++ all_calls a ++ all_calls b) rest after h.3 (omega arith) (q3 ∙ sym (append_assoc (before ++ all_calls a) (all_calls b) (all_calls rest ++ after))),
+          numbered_by labels (n + call_total a + call_total b) (before ++ all_calls a ++ all_calls b) rest after h.3 (omega arith)
+              (q3 ∙ sym (append_assoc (before ++ all_calls a) (all_calls b) (all_calls rest ++ after))),
         )
     numbered_by labels n before (halts rest) after h e q = numbered_by labels n before rest after h e (q ∙ ap (λ xs. before ++ (xs ++ after)) (halts_calls rest))
 
@@ -238,7 +242,8 @@ told_places : (test : Callee → Bool) (n : ℕ) (xs : List Callee) → length (
 told_places test n [] = refl
 told_places test n (x ∷ xs) = by (test x) (told_places test (suc n) xs)
   where
-    by : (b : Bool) → length (places_from test (suc n) xs) ≡ told test xs → length (if b then n ∷ places_from test (suc n) xs else places_from test (suc n) xs) ≡ (if b then suc (told test xs) else told test xs)
+    by : (b : Bool) → length (places_from test (suc n) xs) ≡ told test xs
+        → length (if b then n ∷ places_from test (suc n) xs else places_from test (suc n) xs) ≡ (if b then suc (told test xs) else told test xs)
     by true ih = ap suc ih
     by false ih = ih
 

@@ -237,7 +237,8 @@ deep_front i d k first (nest_unit s inner body behind rest) =
     let ib = deep_front i (suc d) k inner body in
     let ih = deep_front i d (k + numbers_in body) behind rest in
     let e = deep_then first (flat_units (nest_unit s inner body behind rest)) in
-    deep_guarded i first (nest s None (front i (suc d) k inner body) (front i d (k + numbers_in body) behind rest)) (deep (followed_by first (flat_units (nest_unit s inner body behind rest))) + 2) (omega arith) (omega arith)
+    deep_guarded i first (nest s None (front i (suc d) k inner body) (front i d (k + numbers_in body) behind rest))
+    (deep (followed_by first (flat_units (nest_unit s inner body behind rest))) + 2) (omega arith) (omega arith)
 deep_front i d k first (if_unit c fa a fb b behind rest) =
     let na = front i (suc d) k fa a in
     let nb = front i (suc d) (k + numbers_in a) fb b in

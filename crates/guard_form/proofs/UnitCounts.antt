@@ -148,7 +148,8 @@ module _ (ps : List ℕ) where
       m = n + call_total body
 
       by : (b : Bool) → holds_call ps n body ≡ b → Counted n body → Counted (n + call_total body) rest
-          → Come (if b then nest_unit s (first_piece ps n body) (units ps n body) (first_piece ps (n + call_total body) rest) (units ps (n + call_total body) rest) else units ps (n + call_total body) rest)
+          → Come (if b then nest_unit s (first_piece ps n body) (units ps n body) (first_piece ps (n + call_total body) rest) (units ps (n + call_total body) rest) else units ps
+          (n + call_total body) rest)
           (numbered_calls ps n body + numbered_calls ps (n + call_total body) rest)
           (numbered_calls ps n body + numbered_calls ps (n + call_total body) rest + (one_if b + holding_constructs ps n body + holding_constructs ps (n + call_total body) rest))
       by true e ib ih = let a = ib.0 in let a2 = ib.1 in let c = ih.0 in let c2 = ih.1 in (omega arith, omega arith)
@@ -157,7 +158,8 @@ module _ (ps : List ℕ) where
       by (holds_call ps n a || holds_call ps (n + call_total a) b) refl (counted n a) (counted (n + call_total a) b) (counted (n + call_total a + call_total b) rest)
     where
       by : (h : Bool) → (holds_call ps n a || holds_call ps (n + call_total a) b) ≡ h → Counted n a → Counted (n + call_total a) b → Counted (n + call_total a + call_total b) rest
-          → Come (if h then if_unit c (first_piece ps n a) (units ps n a) (first_piece ps (n + call_total a) b) (units ps (n + call_total a) b) (first_piece ps (n + call_total a + call_total b) rest) (units ps (n + call_total a + call_total b) rest) else units ps (n + call_total a + call_total b) rest)
+          → Come (if h then if_unit c (first_piece ps n a) (units ps n a) (first_piece ps (n + call_total a) b) (units ps (n + call_total a) b)
+          (first_piece ps (n + call_total a + call_total b) rest) (units ps (n + call_total a + call_total b) rest) else units ps (n + call_total a + call_total b) rest)
           (numbered_calls ps n a + numbered_calls ps (n + call_total a) b + numbered_calls ps (n + call_total a + call_total b) rest)
           (numbered_calls ps n a + numbered_calls ps (n + call_total a) b + numbered_calls ps (n + call_total a + call_total b) rest
           + (one_if h + holding_constructs ps n a + holding_constructs ps (n + call_total a) b + holding_constructs ps (n + call_total a + call_total b) rest))

@@ -45,7 +45,8 @@ holding_constructs ps n (leaps_if c l rest) = holding_constructs ps n rest
 holding_constructs ps n (leaps_by index labels last rest) = holding_constructs ps n rest
 holding_constructs ps n (nests s body rest) = one_if (holds_call ps n body) + holding_constructs ps n body + holding_constructs ps (n + call_total body) rest
 holding_constructs ps n (decides c a b rest) =
-    one_if (holds_call ps n a || holds_call ps (n + call_total a) b) + holding_constructs ps n a + holding_constructs ps (n + call_total a) b + holding_constructs ps (n + call_total a + call_total b) rest
+    one_if (holds_call ps n a || holds_call ps (n + call_total a) b) + holding_constructs ps n a + holding_constructs ps (n + call_total a) b + holding_constructs ps
+    (n + call_total a + call_total b) rest
 holding_constructs ps n (halts rest) = holding_constructs ps n rest
 
 abbrev pub plain_reads : ℕ → Plain → ℕ

@@ -77,4 +77,5 @@ reads_law m x f st places l valid at below apart =
     let ids : GuardIndices = record { state = st; index = length g.locals } in
     let c = around (flat_module m []) (flat_func m x f) in
     let named = typed_named c _ (flat_func m x f).body _ _ (flat_is_typed m [] x f valid at) in
-    written_reads ids (restore_code l done) (save_code l done) (result_got g.result) places g.body (unread st _ (code_of g.body) below named.0) (restore_unread st l apart) (save_unread st l apart) (result_unread st g.result)
+    written_reads ids (restore_code l done) (save_code l done) (result_got g.result) places g.body (unread st _ (code_of g.body) below named.0) (restore_unread st l apart)
+    (save_unread st l apart) (result_unread st g.result)

@@ -72,7 +72,7 @@ module _ (w : World) (ft : WorldFits w) (sl : StoreLaws w) (L : ℕ → Configur
     (a : Answer) (os : List Outcome) (ticks : ℕ) (eo : l.outcomes ≡ given a ∷ os) (ef : Rattle.headline_laws.proofs.Asks.fault w ft sl L W G law n top (an_entry e) c b l is_top lk lf al k i args d is cd a ≡ None) (et : pause_of a.ticks ≡ Some ticks)
     (came : (c2 : Configuration) (l2 : Left) (cost : ℕ) (es : List Note) → Leads (pr w) (busy (is_running (an_entry e)) b l) cost es (busy (is_running (an_entry e)) c2 l2) → AllLocalsFit w.written (c2.here ∷ c2.under))
     (unwinds_so : (s2 : Store) (x2 : ℕ) (args2 : List Value) (c2 : Configuration) (l2 : Left) (cost : ℕ) (es : List Note)
-        → Leads (pr w) (busy (is_running (an_entry e)) b l) cost es (calling (unwinds e i a) s2 x2 args2 (give_zero c2) l2) → AllLocalsFit w.written (c2.here ∷ c2.under)) where
+    → Leads (pr w) (busy (is_running (an_entry e)) b l) cost es (calling (unwinds e i a) s2 x2 args2 (give_zero c2) l2) → AllLocalsFit w.written (c2.here ∷ c2.under)) where
   abbrev lo : Left
   lo = with_outcomes l os
 

@@ -1,3 +1,5 @@
+//! What a frame keeps, and where.
+
 use wa_types::ValType;
 
 /// A local that a frame keeps, and where it stands in the frame.

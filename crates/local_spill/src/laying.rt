@@ -1,3 +1,5 @@
+//! Frames laid out: each local directly behind the one before.
+
 ghost use Rattle.std.specs.Prelude.{◌≡◌, ◌+◌, ◌≤◌, length, IfOk};
 ghost use Rattle.wa_types.specs.Frames.{width};
 ghost use Rattle.local_spill.specs.Laying.{in_a_row, row_size, SizedAsSaved};

@@ -1,3 +1,5 @@
+//! Code that reads and moves the location, where the next frame goes.
+
 ghost use Rattle.std.specs.Prelude.{OnOk};
 ghost use Rattle.local_spill.specs.Putting.{Puts};
 ghost use Rattle.local_spill.specs.Spilling.{location_of, location_raised, location_taken};

@@ -1,3 +1,5 @@
+//! Code that stores and loads what a frame keeps.
+
 ghost use Rattle.std.specs.Prelude.{◌≡◌, OnOk};
 ghost use Rattle.wa_types.specs.Syntax.{Code, local_get, local_set, plain};
 ghost use Rattle.wa_types.specs.View.{in_front};

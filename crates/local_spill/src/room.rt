@@ -1,3 +1,5 @@
+//! Code that tests whether a frame fits.
+
 ghost use Rattle.std.specs.Prelude.{OnOk};
 ghost use Rattle.local_spill.specs.Putting.{Puts};
 ghost use Rattle.local_spill.specs.Spilling.{room_tested};

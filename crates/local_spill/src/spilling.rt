@@ -1,3 +1,5 @@
+//! The code in front of a function's body and behind it.
+
 ghost use Rattle.std.specs.Prelude.{◌≡◌, ◌≤◌, ◌-◌, IfOk, OnOk, slice_get};
 ghost use Rattle.wa_types.specs.Syntax.{Code};
 ghost use Rattle.wa_types.specs.View.{code, onto};

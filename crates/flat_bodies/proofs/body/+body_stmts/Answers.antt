@@ -3,7 +3,7 @@ use Rattle.flat_instrs.specs.Emitting.{first_or, flat_at}
 use Rattle.flat_instrs.proofs.LeafLemmas.{top_slot_is}
 use Rattle.flat_bodies.proofs.BodyLemmas.{walked_first, one_typed, one_room, one_inside, last_stmts, walked_next, end_stmts, goes_on, small_still, one_fewer, arm_ready, restarted, same_labels}
 use Rattle.flat_bodies.proofs.NestLemmas.{block_opens, loop_opens, if_opens, block_is, loop_is, if_is, if_some, inner, if_held, if_inside, if_first, if_second, if_room, if_fewer, if_done, nest_inside, nest_fewer, nest_body, nest_room, asks_of, opened, one_label, closed, base_within, block_done, loop_done}
-use Rattle.flat_bodies.proofs.ConstructLemmas.{on_ok}
+use Rattle.flat_constructs.proofs.ConstructLemmas.{on_ok}
 use Rattle.wasm_tree.proofs.PruneLemmas.{leaf_other}
 use Rattle.wasm_validate.specs.Walk.{Walk, Stays}
 use Rattle.wa_types.specs.View.{code}

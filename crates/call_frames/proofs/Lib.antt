@@ -1,0 +1,4 @@
+pub mod FieldRows
+pub mod RestoredParts
+pub mod SavedParts
+pub mod TestsTold

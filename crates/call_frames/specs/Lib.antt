@@ -1,0 +1,3 @@
+pub mod ByCall
+pub mod CallTests
+pub mod FrameParts

@@ -1,0 +1,26 @@
+//! Laws of the code. Each is the contract of a function that does nothing.
+
+ghost use Rattle.call_frames.specs.ByCall.{OverflowsByCall, RestoresByCall, SavesByCall};
+ghost use Rattle.call_frames.specs.CallTests.{CallsTell, EitherTells, ElsewhereTells, SizesTell};
+
+/// At each call exactly its frame is put at the location, and nothing else changes; or, where that doesn't fit, the code traps
+/// before any byte has changed.
+pub fn frames_are_saved_by_call()
+    ensures saves { SavesByCall }
+    ensures overflows { OverflowsByCall }
+{}
+
+/// What the frame below the location holds at its call comes back into the locals, and the location goes below it. No other byte
+/// changes.
+pub fn frames_are_restored_by_call()
+    ensures { RestoresByCall }
+{}
+
+/// A comparison of the index tells one call; tests joined by `or` tell the calls of both, and one turned by `eqz` all others; and
+/// with a test for each class the size of the call's frame is told.
+pub fn tests_tell()
+    ensures one { CallsTell }
+    ensures either { EitherTells }
+    ensures elsewhere { ElsewhereTells }
+    ensures sizes { SizesTell }
+{}

@@ -1,0 +1,74 @@
+-- What a pause costs in a guarded function of the emitted module, and that the module behaves like its original.
+use Rattle.std.proofs.Common.{◌≡◌, ℕ, suc, ◌+◌, ◌*◌, ◌≤◌, List, [], ◌∷◌, length, Bool, true, false, Some, refl, ap, subst, arith, length-append}
+use Rattle.std.specs.Prelude.{if◌then◌else◌}
+use Rattle.wa_types.specs.Base.{Base}
+use Rattle.wa_types.specs.Bounds.{Weight}
+use Rattle.wa_types.specs.Frames.{Pair, Place, Saved, SlotPairs, named_places, slot_places}
+use Rattle.wa_types.specs.Modules.{defined_at, locals_of}
+use Rattle.wa_types.specs.Pausing.{Numbered, Settings, save_all}
+use Rattle.wa_types.specs.Runtime.{global_space}
+use Rattle.wa_types.specs.Syntax.{Func, Module}
+use Rattle.wa_types.specs.Validity.{Valid}
+use Rattle.wa_types.specs.declared.values.ValType.{ValType}
+use Rattle.wa_model.specs.Flat.{FlatFunc}
+use Rattle.flat_laws.specs.Flatten.{flattened}
+use Rattle.flat_laws.proofs.RuntimeModules.{base_flattened, base_slots}
+use Rattle.frame_laws.specs.Layout.{gap, kept, kept_count}
+use Rattle.guard_form.specs.Bounds.{passing}
+use Rattle.guard_form.specs.Pieces.{first_piece, units}
+use Rattle.guard_sizes.specs.Rewritten.{KeepsFew}
+use Rattle.guard_sizes.proofs.Sizes.{small_law}
+use Rattle.range_laws.proofs.BlockingRuns.{base_codes, well_formed_in}
+use Rattle.flat_guards.specs.Emitted.{Emitted, fields_of, guarded_of, layout_of}
+use Rattle.flat_guards.specs.Laws.{EmittedBehaves}
+use Rattle.flat_guards.proofs.Behaving.{says}
+use Rattle.flat_guards.proofs.PairedFlat.{base_locals}
+use Rattle.flat_guards.proofs.StackAgain.{stacks_stand}
+use Rattle.flat_guards.proofs.Standing.{pause_cost}
+use Rattle.flat_guards.proofs.WrittenLocals.{index_of}
+use Rattle.slot_laws.proofs.Closed.{one_list}
+
+kept_few : (keep : ℕ → Bool) (qs : List Place) → kept_count (fields_of keep qs) ≤ length qs
+kept_few keep [] = omega arith
+kept_few keep (q ∷ qs) = by (keep q.local) (kept_few keep qs)
+  where
+    by : (b : Bool) → kept_count (fields_of keep qs) ≤ length qs → kept_count ((if b then kept q.local q.ty else gap q.ty) ∷ fields_of keep qs) ≤ suc (length qs)
+    by true ih = omega arith
+    by false ih = omega arith
+
+named_count : (x : ℕ) (ts : List ValType) → length (named_places (λ y. true) x ts) ≡ length ts
+named_count x [] = refl
+named_count x (t ∷ ts) = ap suc (named_count (suc x) ts)
+
+slot_count : (x : ℕ) (ps : List Pair) → length (slot_places (λ p. true) x ps) ≡ length ps
+slot_count x [] = refl
+slot_count x (p ∷ ps) = ap suc (slot_count (suc x) ps)
+
+module _ (m : Module) (s : Settings) (which : List Bool) (keep : (func local : ℕ) → Bool) (valid : Valid m) where
+  keeps_few : (x : ℕ) (f : Func) → defined_at m x ≡ Some f → KeepsFew m f (layout_of m s which keep x f)
+  keeps_few x f is =
+      let k = kept_few (keep x) (Saved (Base m) save_all f 0) in
+      let l = length-append (named_places (λ y. true) 0 (locals_of (Base m) f)) (slot_places (λ p. true) (length (locals_of (Base m) f)) (SlotPairs (Base m) f)) in
+      let n = named_count 0 (locals_of (Base m) f) in
+      let c = slot_count (length (locals_of (Base m) f)) (SlotPairs (Base m) f) in
+      let o = ap length (base_locals m f) in
+      let q = ap length (base_slots m valid x f is) in
+      omega arith
+
+  pub costs : (x : ℕ) (f : Func) → defined_at m x ≡ Some f → pause_cost (global_space m) (guarded_of m s which keep x f) (layout_of m s which keep x f) ≤ 112 * (Weight m f + 4)
+  costs x f is =
+      let q = index_of m x f is in
+      let ps = Numbered m s which f in
+      let small = small_law m q.0 x f (global_space m) ps (layout_of m s which keep x f) valid q.2 (keeps_few x f is) in
+      let cost = small.cost in
+      let same : passing (first_piece ps 0 (flattened (Base m) x f).body) (units ps 0 (flattened (Base m) x f).body) ≡ passing (first_piece ps 0 (flattened m x f).body) (units ps 0 (flattened m x f).body) =
+      ap (λ (z : FlatFunc). passing (first_piece ps 0 z.body) (units ps 0 z.body)) (base_flattened m valid x f is) in
+      omega arith
+
+-- THE EMITTED MODULE BEHAVES like its original
+pub emitted_behave : EmittedBehaves
+emitted_behave m s told keep p valid written_valid written_codes policy tells0 em0 wf which tells plan os n cmp pauses =
+    let em = subst (λ w. Emitted m s w keep p) (one_list m s told which tells0 tells) em0 in
+    let codes = well_formed_in m wf in
+    says m s which keep p valid written_valid codes written_codes tells em plan cmp.fits
+    (stacks_stand m s which keep plan p valid tells em cmp.fits (base_codes m codes) policy (costs m s which keep valid)) os n cmp pauses

@@ -1,0 +1,4 @@
+pub mod Cut
+pub mod Closed
+pub mod Told
+pub mod Steps

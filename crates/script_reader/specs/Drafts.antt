@@ -1,0 +1,150 @@
+-- What is known of a script while its lines are read: the program that is being told, and those told before it.
+use Rattle.std.specs.Prelude.{ℕ, suc, ◌+◌, nat_le, ◌||◌, if◌then◌else◌, List, [], ◌∷◌, ◌++◌, Option, Some, None, Bool, true, false, Result, Ok, Err}
+use Rattle.std.specs.Option.{unwrap_or, is_some}
+use Rattle.wa_model.specs.Outside.{AnswerLine}
+use Rattle.wa_model.specs.Script.{GlobalText, BindText, EntryText, ShowText, DetachText, ProgramText, Script, ScriptFault, breaks, too_many}
+use Rattle.wa_model.specs.ScriptLines.{Statement, begins_program, lists_imports, ignores_imports, saves, has_area, has_steps, sets_global, binds, enters, answers, shows, detaches, or_else}
+use Rattle.wa_model.specs.ScriptLines.{line_says}
+use Rattle.wa_model.specs.ScriptText.{AreaText, default_steps, most_programs, has_bad_list, with_programs}
+
+-- A program, as far as it is told.
+pub record Draft : Type 0 where
+  pub line : ℕ
+  pub path : List ℕ
+  pub list : Option (List ℕ)
+  pub ignore_imports : Bool
+  pub policy_live : Option Bool
+  pub area : Option AreaText
+  pub steps : Option ℕ
+  pub globals : List GlobalText
+  pub binds : List BindText
+  pub entries : List EntryText
+  pub answers : List AnswerLine
+  pub shows : List ShowText
+
+-- a program of which its line alone is told
+abbrev pub begun : (line : ℕ) → (path : List ℕ) → Draft
+begun line path = record {
+  line = line;
+  path = path;
+  list = None;
+  ignore_imports = false;
+  policy_live = None;
+  area = None;
+  steps = None;
+  globals = [];
+  binds = [];
+  entries = [];
+  answers = [];
+  shows = [];
+}
+
+-- a statement more of a program
+abbrev pub more_told : (line : ℕ) → Statement → Draft → Draft
+more_told line (lists_imports list) d = record d { list = or_else d.list (Some list) }
+more_told line ignores_imports d = record d { ignore_imports = true }
+more_told line (saves live) d = record d { policy_live = or_else d.policy_live (Some live) }
+more_told line (has_area at len) d = record d { area = or_else d.area (Some (record { line = line; area = record { at = at; len = len } })) }
+more_told line (has_steps n) d = record d { steps = or_else d.steps (Some n) }
+more_told line (sets_global name value) d = record d { globals = d.globals ++ record { line = line; name = name; value = value } ∷ [] }
+more_told line (binds import device) d = record d { binds = d.binds ++ record { import = import; device = device } ∷ [] }
+more_told line (enters name args) d = record d { entries = d.entries ++ record { line = line; name = name; args = args } ∷ [] }
+more_told line (answers answer) d = record d { answers = d.answers ++ answer ∷ [] }
+more_told line (shows at len) d = record d { shows = d.shows ++ record { line = line; at = at; len = len } ∷ [] }
+more_told line _ d = d
+
+-- the program has a line of this kind, of which it may have one
+abbrev pub repeats : Statement → Draft → Bool
+repeats (lists_imports list) d = is_some d.list || d.ignore_imports
+repeats ignores_imports d = is_some d.list || d.ignore_imports
+repeats (saves live) d = is_some d.policy_live
+repeats (has_area at len) d = is_some d.area
+repeats (has_steps n) d = is_some d.steps
+repeats _ d = false
+
+-- what a statement breaks in a program
+abbrev pub fault_in : (line : ℕ) → Statement → Draft → Option ScriptFault
+fault_in line s d = if repeats s d then Some (breaks line 6) else (if has_bad_list s then Some (breaks line 8) else None)
+
+-- a program that is told, where it has an area
+abbrev pub told_with : Draft → AreaText → ProgramText
+told_with d a = record {
+  line = d.line;
+  path = d.path;
+  list = d.list;
+  ignore_imports = d.ignore_imports;
+  policy_live = unwrap_or d.policy_live false;
+  area = a.area;
+  area_line = a.line;
+  steps = unwrap_or d.steps default_steps;
+  globals = d.globals;
+  binds = d.binds;
+  entries = d.entries;
+  answers = d.answers;
+  shows = d.shows;
+}
+
+abbrev pub one_more : List ProgramText → Draft → Option AreaText → Result (List ProgramText) ScriptFault
+one_more programs d None = Err (breaks d.line 7)
+one_more programs d (Some a) = Ok (programs ++ told_with d a ∷ [])
+
+-- a program behind those before it, none of which lacks its area
+abbrev pub closed : Result (List ProgramText) ScriptFault → Draft → Result (List ProgramText) ScriptFault
+closed (Ok programs) d = one_more programs d d.area
+closed (Err f) d = Err f
+
+abbrev pub closed_last : Result (List ProgramText) ScriptFault → Option Draft → Result (List ProgramText) ScriptFault
+closed_last programs None = programs
+closed_last programs (Some d) = closed programs d
+
+-- The programs before the one that is being told, how many were begun, that one, and the devices that are taken out.
+pub record Reading : Type 0 where
+  pub programs : Result (List ProgramText) ScriptFault
+  pub count : ℕ
+  pub current : Option Draft
+  pub detached : List DetachText
+
+abbrev pub nothing_read : Reading
+nothing_read = record { programs = Ok []; count = 0; current = None; detached = [] }
+
+abbrev pub or_fault : {A : Type 0} → Option ScriptFault → A → Result A ScriptFault
+or_fault (Some f) x = Err f
+or_fault None x = Ok x
+
+-- one more program begins
+abbrev pub with_program : (line : ℕ) → (path : List ℕ) → Reading → Result Reading ScriptFault
+with_program line path r =
+    if nat_le most_programs r.count then Err (too_many (suc most_programs))
+    else Ok (record { programs = closed_last r.programs r.current; count = r.count + 1; current = Some (begun line path); detached = r.detached })
+
+-- a statement on the program that is being told
+abbrev pub on_program : (line : ℕ) → Statement → Option Draft → Result Draft ScriptFault
+on_program line s None = Err (breaks line 5)
+on_program line s (Some d) = or_fault (fault_in line s d) (more_told line s d)
+
+abbrev pub with_current : Reading → Result Draft ScriptFault → Result Reading ScriptFault
+with_current r (Ok d) = Ok (record r { current = Some d })
+with_current r (Err f) = Err f
+
+abbrev pub with_statement : (line : ℕ) → Statement → Reading → Result Reading ScriptFault
+with_statement line (begins_program path) r = with_program line path r
+with_statement line (detaches device before) r = Ok (record r { detached = r.detached ++ record { device = device; before = before } ∷ [] })
+with_statement line s r = with_current r (on_program line s r.current)
+
+abbrev pub with_line : (line : ℕ) → Result (Option Statement) ℕ → Reading → Result Reading ScriptFault
+with_line line (Err rule) r = Err (breaks line rule)
+with_line line (Ok None) r = Ok r
+with_line line (Ok (Some s)) r = with_statement line s r
+
+-- the script, once all lines are read
+abbrev pub ended : Reading → Result Script ScriptFault
+ended r = with_programs r.detached (closed_last r.programs r.current)
+
+abbrev pub and_then : Result Reading ScriptFault → (Reading → Result Script ScriptFault) → Result Script ScriptFault
+and_then (Ok r) rest = rest r
+and_then (Err f) rest = Err f
+
+-- what is read in the end, where these lines are left, the first of which has this number
+abbrev pub read_on : (line : ℕ) → List (List ℕ) → Reading → Result Script ScriptFault
+read_on line [] r = ended r
+read_on line (l ∷ ls) r = and_then (with_line line (line_says l) r) (read_on (suc line) ls)

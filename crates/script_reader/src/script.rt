@@ -1,0 +1,60 @@
+use wa_model::{AnswerLine, Area, Detach};
+use wa_types::{Name, Value};
+
+/// The value of the imported globals of a joined name, told at this line.
+#[derive(Debug, Drop)]
+pub struct GlobalText {
+    pub line: u32,
+    pub name: Name,
+    pub value: Value,
+}
+
+/// The device to which the function imports of a joined name are bound.
+#[derive(Debug, Drop)]
+pub struct BindText {
+    pub import: Name,
+    pub device: Name,
+}
+
+/// One more entry call, told at this line.
+#[derive(Debug, Drop)]
+pub struct EntryText {
+    pub line: u32,
+    pub name: Name,
+    pub args: Vec<Value>,
+}
+
+/// The memory that is shown after the end: its first byte and its length.
+#[derive(Debug, Drop)]
+pub struct ShowText {
+    pub line: u32,
+    pub at: u32,
+    pub len: u32,
+}
+
+/// A program: the line at which it begins, the path of its module, its list of imports where it has one, whether none is
+/// listed, whether live locals alone are saved, its area and the line of it, its number of steps, and its lines of each
+/// kind in order.
+#[derive(Debug, Drop)]
+pub struct ProgramText {
+    pub line: u32,
+    pub path: Name,
+    pub list: Option<Name>,
+    pub ignore_imports: bool,
+    pub policy_live: bool,
+    pub area: Area,
+    pub area_line: u32,
+    pub steps: u64,
+    pub globals: Vec<GlobalText>,
+    pub binds: Vec<BindText>,
+    pub entries: Vec<EntryText>,
+    pub answers: Vec<AnswerLine>,
+    pub shows: Vec<ShowText>,
+}
+
+/// The programs of a script, and the devices that are taken out.
+#[derive(Debug, Drop)]
+pub struct Script {
+    pub programs: Vec<ProgramText>,
+    pub detaches: Vec<Detach>,
+}
