@@ -7,7 +7,6 @@ use Rattle.wa_types.specs.Syntax.{Module}
 use Rattle.wa_types.specs.Encoding.{Enc}
 use Rattle.wa_types.specs.Pausing.{Settings}
 use Rattle.rewrite_form.specs.Emitted.{asyncified}
-use Rattle.norm_laws.proofs.Norms.{norm_valid}
 use Rattle.wa_types.specs.declared.bounds.LimitKind.TheVariants.{File, Functions, Parameters, Body, Locals, Output, Script, Programs}
 use Rattle.wa_types.specs.ModuleBounds.{source_bounds}
 use Rattle.wasm_reader.specs.declared.read_fault.ReadFault.{ReadFault}
@@ -15,7 +14,6 @@ use Rattle.wasm_reader.specs.declared.read_fault.ReadFault.TheVariants.{Memory, 
 use Rattle.wasm_reader.specs.Answers.{IsAccepted, IsRefused}
 use Rattle.source_modules.specs.Sources.{IsFree, IsValidSource, IsRewritable, IsSource, Cause, malformed, float, deep, limit, reserved, invalid, rewritten_locals, long_output, IsRefusedFor, IsRewritten}
 use Rattle.asyncify_app.specs.Transforms.{HoldsSource, IsTransformed, IsCutShort, IsCount}
-use Rattle.source_modules.proofs.FreeNames.{parts_of_sources, quiet_sources}
 
 -- a front one byte past the limit that is within it is whole
 whole_front : (bytes : List ℕ) → length (take 8388609 bytes) ≤ 8388608 → take 8388609 bytes ≡ bytes
@@ -84,18 +82,13 @@ transformed_at : (s : Settings) (input output bytes text : List ℕ) (functions 
 transformed_at s input output bytes text functions instrumented a b e w c =
     let m : Module = w.0 in
     let which : List Bool = w.1 in
-    let v = w.2.rewritable.accepted.valid in
-    let free = w.2.rewritable.accepted.unreserved.free in
-    let parts = parts_of_sources m s which v free w.2.rewritable.tells in
     record {
       «module» = m;
       which = which;
       source = source_of s bytes (bytes_of a input) m which e w.2;
       written = subst (λ (bs : List ℕ). ChangesOnly output bs a b) w.5 c;
       prepared = w.6;
-      valid = norm_valid (asyncified m s which) parts.valid_rewritten;
-      parts = parts;
-      rewritten = λ q. quiet_sources m s which v free w.2.rewritable.tells q;
+      rewritten = w.7;
     }
 
 -- after the save

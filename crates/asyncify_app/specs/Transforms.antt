@@ -9,11 +9,8 @@ use Rattle.wa_types.specs.Encoding.{Enc}
 use Rattle.wa_types.specs.Norm.{Norm}
 use Rattle.wa_types.specs.Pausing.{Settings}
 use Rattle.wa_types.specs.ModuleBounds.{prepared_bounds}
-use Rattle.wa_types.specs.Validity.{Valid}
 use Rattle.wasm_reader.specs.Answers.{IsAccepted}
-use Rattle.wa_model.specs.Quiet.{NeverPauses}
 use Rattle.rewrite_form.specs.Emitted.{asyncified}
-use Rattle.rewrite_form.specs.Rewritten.{RewritesButRuns}
 use Rattle.wa_model.specs.Rewrites.{Rewrites}
 use Rattle.wa_model.specs.Transcript.{refusal_line, read_fault, write_fault, line_end}
 use Rattle.printing.specs.Refused.{status_of, Prints, PrintsMemory}
@@ -26,17 +23,14 @@ done_line functions instrumented bytes =
     codes "ok functions " ++ decimal functions ++ codes " instrumented " ++ decimal instrumented ++ codes " bytes " ++ decimal bytes ++ line_end
 
 -- OUT holds the bytes of the module of IN, rewritten by these settings. They spell a valid module without a float, which passes
--- no bound of a prepared module; under the host's protocol it behaves like the original. The other files are as before.
+-- no bound of a prepared module, and under the host's protocol behaves like the original. The other files are as before.
 pub record IsTransformed (s : Settings) (input output : List ℕ) (old new : Files) : Type 0 where
   pub «module» : Module
   pub which : List Bool
   pub source : IsSource s (bytes_of old input) «module» which
   pub written : ChangesOnly output (Enc (asyncified «module» s which)) old new
   pub prepared : IsAccepted prepared_bounds (Enc (asyncified «module» s which)) (Norm (asyncified «module» s which))
-  pub valid : Valid (Norm (asyncified «module» s which))
-  -- each part of a rewriting but the runs, and, where nothing may pause, all of it
-  pub parts : RewritesButRuns «module» s (asyncified «module» s which)
-  pub rewritten : NeverPauses «module» s → Rewrites «module» s (Norm (asyncified «module» s which))
+  pub rewritten : Rewrites «module» s (Norm (asyncified «module» s which))
 
 -- OUT is as before, or holds some first bytes of what it would hold; the other files are as before.
 pub record IsCutShort (s : Settings) (input output : List ℕ) (old new : Files) : Type 0 where

@@ -7,20 +7,18 @@ use Rattle.std.proofs.lemmas.Bool.{or_parts, lt-ltb, le-ltb, ltb-true, ltb-false
 use Rattle.std.proofs.lemmas.List.Elements.{All-nil, All-cons}
 use Rattle.std.proofs.lemmas.Slice.Eq.{bytes_eq-Decides}
 use Rattle.wa_types.specs.declared.syntax.Export.{Export}
-use Rattle.wa_types.specs.Syntax.{Func, Module}
-use Rattle.wa_types.specs.Pausing.{Settings, is_told, TellsMayPause}
-use Rattle.wa_types.specs.Modules.{func_imports}
+use Rattle.wa_types.specs.Syntax.{Module}
+use Rattle.wa_types.specs.Pausing.{Settings, save_all, TellsMayPause}
+use Rattle.wa_types.specs.Sizes.{StrictSizeRule}
 use Rattle.wa_types.specs.Validity.{Valid}
-use Rattle.wa_types.specs.Runtime.{runtime_names, with_runtime}
+use Rattle.wa_types.specs.Runtime.{runtime_names}
 use Rattle.wa_model.specs.Rewrites.{Rewrites}
-use Rattle.wa_model.specs.Quiet.{FreeOfNames, NeverPauses}
-use Rattle.rewrite_form.specs.Emitted.{emitted_funcs, asyncified}
-use Rattle.rewrite_form.specs.Rewritten.{RewritesButRuns}
-use Rattle.rewrite_form.proofs.Emitted.{not_told}
-use Rattle.rewrite_form.proofs.EmittedRewritten.{rewritten_law}
+use Rattle.wa_model.specs.Quiet.{FreeOfNames}
+use Rattle.rewrite_form.specs.Emitted.{asyncified}
+use Rattle.rewrite_form.specs.Sizes.{FewWritten}
+use Rattle.rewrite_runs.proofs.Asyncified.{asyncified_law}
 use Rattle.wa_types.specs.Norm.{Norm}
 use Rattle.norm_laws.proofs.Norms.{norm_rewritten}
-use Rattle.wa_model.proofs.QuietRewritten.{quiet_rewritten}
 use Rattle.asyncify_runtime.specs.Reserved.{is_runtime_name, reserved_import, reserved_export, first_reserved, reserved_at}
 
 not_named : (name : List ℕ) (names : List (List ℕ)) → list_any (λ own. bytes_eq name own) names ≡ false → Contains names name → ⊥
@@ -64,28 +62,7 @@ second_none None None e = refl
 pub unreserved_is_free : (m : Module) → reserved_at m ≡ None → FreeOfNames m
 unreserved_is_free m e = each_free m.exports (none_found (λ (x : Export). is_runtime_name x.name) m.exports (second_none (reserved_import m.imports) (reserved_export m.exports) e))
 
-module _ (m : Module) (s : Settings) (which : List Bool) where
-  -- where none is told the module only has the runtime's parts
-  none_written : (x : ℕ) (fs : List Func) → ((y : ℕ) → is_told (slice_get which y) ≡ false) → emitted_funcs m s which x fs ≡ fs
-  none_written x [] n = refl
-  none_written x (f ∷ fs) n = ap (λ (g : Func). g ∷ emitted_funcs m s which (suc x) fs) (not_told m s which x f (n x)) ∙ ap (λ gs. f ∷ gs) (none_written (suc x) fs n)
-
-  unwritten : ((y : ℕ) → is_told (slice_get which y) ≡ false) → asyncified m s which ≡ with_runtime m
-  unwritten n = ap (λ (fs : List Func). with_runtime (record m { funcs = fs })) (none_written (func_imports m) m.funcs n)
-
-  none_told : TellsMayPause m s which → NeverPauses m s → (y : ℕ) → is_told (slice_get which y) ≡ false
-  none_told t q y = by (slice_get which y) refl
-    where
-      by : (o : Option Bool) → slice_get which y ≡ o → is_told o ≡ false
-      by None e = refl
-      by (Some false) e = refl
-      by (Some true) e = absurd (q y ((t.each y).0 e))
-
-  -- What the bytes of a source of which nothing may pause spell, as it is written, is that module, rewritten.
-  pub quiet_sources : Valid m → reserved_at m ≡ None → TellsMayPause m s which → NeverPauses m s → Rewrites m s (Norm (asyncified m s which))
-  quiet_sources v free t q =
-      subst (λ (p : Module). Rewrites m s (Norm p)) (sym (unwritten (none_told t q))) (norm_rewritten m s (with_runtime m) (quiet_rewritten m s v (unreserved_is_free m free) q))
-
-  -- of any source it has each part of a rewriting but its runs
-  pub parts_of_sources : Valid m → reserved_at m ≡ None → TellsMayPause m s which → RewritesButRuns m s (asyncified m s which)
-  parts_of_sources v free t = rewritten_law m s which v (unreserved_is_free m free) t
+-- What the bytes of a source spell, as it is written, is that module, rewritten.
+pub sources_rewritten : (m : Module) (s : Settings) (which : List Bool) → Valid m → reserved_at m ≡ None → StrictSizeRule m → FewWritten m which → s.policy ≡ save_all → TellsMayPause m s which
+    → Rewrites m s (Norm (asyncified m s which))
+sources_rewritten m s which v free strict few policy t = norm_rewritten m s (asyncified m s which) (asyncified_law m s which v (unreserved_is_free m free) strict few policy t)

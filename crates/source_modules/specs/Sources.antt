@@ -14,6 +14,7 @@ use Rattle.wa_types.specs.Norm.{Norm}
 use Rattle.wa_types.specs.Pausing.{Settings, TellsMayPause}
 use Rattle.wa_types.specs.Syntax.{Func, Module}
 use Rattle.wa_types.specs.Validity.{Valid}
+use Rattle.wa_model.specs.Rewrites.{Rewrites}
 use Rattle.wa_model.specs.Transcript as T
 use Rattle.wa_model.specs.Transcript.{Refusal}
 use Rattle.wasm_reader.specs.declared.read_fault.ReadFault.TheVariants.{Malformed, Float, Deep, Limit}
@@ -103,8 +104,9 @@ refusal_for (rewritten_locals found) = T.limit Locals found
 refusal_for (long_output found) = T.limit Output found
 
 -- The bytes are an accepted source of so many functions, so many of which may pause; the text is its module, rewritten, and
--- spells one that is within the bounds of a prepared module.
+-- spells one that is within the bounds of a prepared module, and is the source's, rewritten.
 abbrev pub IsRewritten : Settings → List ℕ → (functions instrumented : ℕ) → List ℕ → Type 0
 IsRewritten s bytes functions instrumented text =
     (m : Module) × (which : List Bool) × IsSource s bytes m which × (functions ≡ length m.funcs) × (instrumented ≡ count_by (λ b. b) which)
     × (text ≡ Enc (asyncified m s which)) × IsAccepted prepared_bounds (Enc (asyncified m s which)) (Norm (asyncified m s which))
+    × Rewrites m s (Norm (asyncified m s which))

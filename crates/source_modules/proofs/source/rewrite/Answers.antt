@@ -6,11 +6,12 @@ use Rattle.wa_types.specs.Marks.{first_above}
 use Rattle.wa_types.specs.Modules.{func_imports}
 use Rattle.wa_types.specs.Syntax.{Module}
 use Rattle.wa_types.specs.View.{module_of}
-use Rattle.call_graph.specs.Settings.{settings_of}
+use Rattle.call_graph.specs.Settings.{policy_of, settings_of}
 use Rattle.wasm_encode.specs.Modules.{FewLocals}
 use Rattle.rewrite_form.specs.Emitted.{asyncified}
 use Rattle.source_modules.specs.Sources.{rewritten_counts, IsRewritable}
-use Rattle.source_modules.proofs.Accepted.{strict, first_passes, none_passes, source_few, source_short, source_prepared}
+use Rattle.source_modules.proofs.Accepted.{strict, first_passes, none_passes, few_written, source_few, source_short, source_prepared}
+use Rattle.source_modules.proofs.FreeNames.{sources_rewritten}
 use Rattle.source_modules.proofs.source.rewrite.Goals as goal
 
 pub asyncify_module-requires-clause-sizes : goal.asyncify_module-requires-clause-sizes
@@ -59,6 +60,7 @@ returns-in-Ok-encode-clause-done c =
       count,
       c.in-Ok-encode.ensures.ok ∙ ap Enc is,
       source_prepared c.args.bytes.now m c.in_ok-valid.ensures.source s which few (λ i. omega (arith, c.type_inv.bytes i)) short,
+      sources_rewritten m s which c.in_ok-valid.ensures.source.valid e.free (strict c.args.bytes.now m c.in_ok-valid.ensures.source) (few_written m which few) (ap policy_of c.requires) e.tells,
     )
 
 pub returns-in-Err-TooLong-clause-refused : goal.returns-in-Err-TooLong-clause-refused
