@@ -34,7 +34,7 @@ pub fn refusal_kind(refusal: Refusal) -> RefusalKind
         Refusal::Invalid { func, rule, at } => RefusalKind::Invalid { func, rule, at },
         Refusal::RewrittenLocals { found } => RefusalKind::Limit {
             what: LimitKind::Locals,
-            found,
+            found: u64::from(found),
         },
         Refusal::Output { found } => RefusalKind::Limit {
             what: LimitKind::Output,

@@ -1,6 +1,6 @@
 -- What an accepted source is: few locals, and not too many bytes when it is rewritten.
 use Rattle.std.proofs.Common.{◌≡◌, ℕ, zero, suc, ◌+◌, ◌-◌, ◌*◌, ◌≤◌, ◌<◌, ◌^◌, inl, inr, List, [], ◌∷◌, drop, length, Bool, true, false, Option, Some, None, refl, sym, ap, ◌∙◌, subst, arith}
-use Rattle.std.specs.Prelude.{slice_get, slice_index_or, nat_lt, if◌then◌else◌}
+use Rattle.std.specs.Prelude.{Err, slice_get, slice_index_or, nat_lt, if◌then◌else◌}
 use Rattle.std.proofs.lemmas.Bool.{le-ltb, lt-ltb, ltb-false}
 use Rattle.std.proofs.lemmas.List.Elements.{All-from_get_or}
 use Rattle.wa_types.specs.declared.syntax.Module.{Module as ModuleValue}
@@ -32,9 +32,12 @@ use Rattle.emitted_bytes.proofs.EmittedLength.{emitted_few, emitted_short}
 use Rattle.prepared_modules.proofs.Numbers.{functions_counted}
 use Rattle.prepared_modules.proofs.Prepared.{emitted_prepared}
 use Rattle.asyncify_runtime.specs.Reserved.{reserved_at}
+use Rattle.module_rewrite.specs.declared.fault.RewriteFault.{RewriteFault}
+use Rattle.module_rewrite.specs.declared.fault.RewriteFault.TheVariants.{Memory as rewrite_memory, Locals as rewrite_locals, Reserved as rewrite_reserved}
+use Rattle.module_rewrite.specs.Whole.{Asyncifies}
 use Rattle.source_modules.specs.declared.source.SourceFault.{SourceFault}
 use Rattle.source_modules.specs.Sources.{IsValidSource, told_counts, rewritten_counts}
-use Rattle.source_modules.specs.Refusals.{IsFaultOf, IsOfRead}
+use Rattle.source_modules.specs.Refusals.{IsFaultOf, IsOfRead, IsOfRewrite, IsUnreserved}
 
 -- ---- locals
 
@@ -67,17 +70,25 @@ first_passes m func count x (true ∷ ws) (f ∷ fs) h = elim h [
     past false e n = n
 first_passes m func count x (false ∷ ws) (f ∷ fs) h = first_passes m func count (suc x) ws fs h
 
+-- a number that isn't found is low, and none is found behind it
+low_first : (c : ℕ) (o : Option ℕ) (b : Bool) → nat_lt 50000 c ≡ b → (if b then Some c else o) ≡ None → c ≤ 50000
+low_first c o true e n = cc
+low_first c o false e n = ltb-false 50000 c e
+
+none_behind : (c : ℕ) (o : Option ℕ) (b : Bool) → (if b then Some c else o) ≡ None → o ≡ None
+none_behind c o true n = cc
+none_behind c o false n = n
+
 -- where none is above the bound
 few_told : (m : Module) (ws : List Bool) (fs : List Func) (i : ℕ) (f : Func) → first_above 50000 (told_counts m ws fs) ≡ None → slice_get fs i ≡ Some f → is_told (slice_get ws i) ≡ true → Count m f ≤ 50000
 few_told m [] fs i f n e t = cc
 few_told m (w ∷ ws) [] i f n e t = cc
-few_told m (true ∷ ws) (g ∷ fs) i f n e t = within (nat_lt 50000 (Count m g)) refl n i e t
-  where
-    within : (b : Bool) → nat_lt 50000 (Count m g) ≡ b → (if b then Some (Count m g) else first_above 50000 (told_counts m ws fs)) ≡ None
-        → (i : ℕ) → slice_get (g ∷ fs) i ≡ Some f → is_told (slice_get (true ∷ ws) i) ≡ true → Count m f ≤ 50000
-    within true b n i e t = cc
-    within false b n zero e t = let same : g ≡ f = cc in let c = ap (Count m) same in let l = ltb-false 50000 (Count m g) b in omega (arith, l, c)
-    within false b n (suc i) e t = few_told m ws fs i f n e t
+few_told m (true ∷ ws) (g ∷ fs) zero f n e t =
+    let same : g ≡ f = cc in
+    let c = ap (Count m) same in
+    let l = low_first (Count m g) (first_above 50000 (told_counts m ws fs)) (nat_lt 50000 (Count m g)) refl n in omega (arith, l, c)
+few_told m (true ∷ ws) (g ∷ fs) (suc i) f n e t =
+    few_told m ws fs i f (none_behind (Count m g) (first_above 50000 (told_counts m ws fs)) (nat_lt 50000 (Count m g)) n) e t
 few_told m (false ∷ ws) (g ∷ fs) zero f n e t = cc
 few_told m (false ∷ ws) (g ∷ fs) (suc i) f n e t = few_told m ws fs i f n e t
 
@@ -138,3 +149,15 @@ read_refused s bytes (Malformed at) r h e = subst (IsFaultOf s bytes) (sym e) h
 read_refused s bytes (Float at) r h e = subst (IsFaultOf s bytes) (sym e) h
 read_refused s bytes (Deep at) r h e = subst (IsFaultOf s bytes) (sym e) h
 read_refused s bytes (Limit what n) r h e = subst (IsFaultOf s bytes) (sym e) h
+
+-- what rewriting refuses
+pub rewrite_refused : (s : Settings) (bytes : List ℕ) (m : Module) (fault : RewriteFault) (r : SourceFault) → IsValidSource bytes m → Asyncifies m s (Err fault) → IsOfRewrite fault r → IsFaultOf s bytes r
+rewrite_refused s bytes m rewrite_memory r src h e = subst (IsFaultOf s bytes) (sym e) tt
+rewrite_refused s bytes m (rewrite_locals func count) r src h e =
+    subst (IsFaultOf s bytes) (sym e) (m, h.which, src, h.tells, first_passes m func count (func_imports m) (drop (func_imports m) h.which) m.funcs h.first)
+rewrite_refused s bytes m (rewrite_reserved at) r src h e = absurd e
+
+pub none_reserved : (s : Settings) (bytes : List ℕ) (m : Module) (fault : RewriteFault) → IsValidSource bytes m → Asyncifies m s (Err fault) → IsUnreserved fault
+none_reserved s bytes m rewrite_memory src h = tt
+none_reserved s bytes m (rewrite_locals func count) src h = tt
+none_reserved s bytes m (rewrite_reserved at) src h = let bad = sym src.unreserved.free ∙ h in cc

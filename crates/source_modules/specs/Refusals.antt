@@ -2,6 +2,8 @@
 use Rattle.std.specs.Prelude.{◌≡◌, List, ℕ, Option}
 use Rattle.wasm_reader.specs.declared.read_fault.ReadFault.{ReadFault}
 use Rattle.wasm_reader.specs.declared.read_fault.ReadFault.TheVariants.{Memory as read_memory, Malformed as read_malformed, Float as read_float, Deep as read_deep, Limit as read_limit}
+use Rattle.module_rewrite.specs.declared.fault.RewriteFault.{RewriteFault}
+use Rattle.module_rewrite.specs.declared.fault.RewriteFault.TheVariants.{Memory as rewrite_memory, Locals as rewrite_locals, Reserved as rewrite_reserved}
 use Rattle.source_modules.specs.declared.refusals.Refusal.{Refusal}
 use Rattle.source_modules.specs.declared.refusals.Refusal.TheVariants.{Malformed, Float, Deep, Limit, Reserved, Invalid, RewrittenLocals, Output}
 use Rattle.source_modules.specs.declared.source.SourceFault.{SourceFault}
@@ -32,3 +34,14 @@ IsOfRead (read_malformed at) fault = fault ≡ Refused (Malformed at)
 IsOfRead (read_float at) fault = fault ≡ Refused (Float at)
 IsOfRead (read_deep at) fault = fault ≡ Refused (Deep at)
 IsOfRead (read_limit what found) fault = fault ≡ Refused (Limit what found)
+
+-- the fault of a source that wasn't rewritten
+abbrev pub IsOfRewrite : RewriteFault → SourceFault → Type 0
+IsOfRewrite rewrite_memory fault = fault ≡ Memory
+IsOfRewrite (rewrite_locals func count) fault = fault ≡ Refused (RewrittenLocals count)
+IsOfRewrite (rewrite_reserved at) fault = ⊥
+
+-- no name is reserved
+abbrev pub IsUnreserved : RewriteFault → Type 0
+IsUnreserved (rewrite_reserved at) = ⊥
+IsUnreserved _ = Unit {0}

@@ -41,7 +41,7 @@ pub enum Refusal {
     /// The first function that may pause and has too many parameters and locals when it is rewritten; how many.
     #[error("limit locals passed with {found}")]
     RewrittenLocals {
-        found: u64,
+        found: u32,
     },
     /// What would be written is too long; its length.
     #[error("limit output passed with {found}")]

@@ -3,12 +3,11 @@ ghost use Rattle.std.specs.Prelude.{◌≡◌, count_by, IfOk, Some};
 ghost use Rattle.std.specs.Result.{IfErr};
 ghost use Rattle.call_graph.specs.Settings.{settings_of};
 ghost use Rattle.call_graph.specs.declared.settings.Policy.TheVariants.{All};
-ghost use Rattle.wa_types.specs.Pausing.{Settings as PlainSettings};
 ghost use Rattle.wa_types.specs.View.{module_of};
 ghost use Rattle.wasm_reader.specs.Answers.{IsAccepted};
 ghost use Rattle.asyncify_runtime.specs.Reserved.{reserved_at};
 ghost use Rattle.source_modules.specs.declared.source.SourceFault.TheVariants.{Memory};
-ghost use Rattle.source_modules.specs.Refusals.{IsFaultOf, IsOfRead};
+ghost use Rattle.source_modules.specs.Refusals.{IsFaultOf, IsOfRead, IsOfRewrite, IsUnreserved};
 ghost use Rattle.source_modules.specs.Sources.{IsRewritten, IsValidSource, reserved_name};
 
 use crate::refusals::Refusal;
@@ -57,16 +56,10 @@ pub fn rewrite(alloc: Global, bytes: &[u8], settings: &Settings) -> Result<Writt
     ensures done { IfOk result (λ r. IsRewritten (settings_of settings.now) bytes.now r.functions r.instrumented r.text.items) }
     ensures refused { IfErr result (λ fault. IsFaultOf (settings_of settings.now) bytes.now fault) }
 {
-    let valid = source(alloc, bytes)?;
+    let valid = source(alloc, bytes, settings)?;
     let rewritten = match asyncify_module(alloc, &valid, settings) {
         Ok(rewritten) => rewritten,
-        Err(RewriteFault::Memory) => return Err(SourceFault::Memory),
-        Err(RewriteFault::Locals { count, .. }) => {
-            return Err(SourceFault::Refused(Refusal::RewrittenLocals {
-                found: u64::from(count),
-            }));
-        }
-        Err(RewriteFault::Reserved(_)) => unreachable!(),
+        Err(fault) => return Err(rewrite_fault(fault)),
     };
     let functions = valid.module().funcs.len();
     let instrumented = told_count(&rewritten.instrumented);
@@ -84,9 +77,9 @@ pub fn rewrite(alloc: Global, bytes: &[u8], settings: &Settings) -> Result<Writt
 }
 
 // The module that these bytes spell, where it is a valid source.
-fn source(alloc: Global, bytes: &[u8]) -> Result<Valid, SourceFault>
+fn source(alloc: Global, bytes: &[u8], _settings: &Settings) -> Result<Valid, SourceFault>
     ensures source { IfOk result (λ r. IsValidSource bytes.now (module_of r)) }
-    ensures refused { (s : PlainSettings) → IfErr result (λ fault. IsFaultOf s bytes.now fault) }
+    ensures refused { IfErr result (λ fault. IsFaultOf (settings_of _settings.now) bytes.now fault) }
 {
     let module = match read(alloc, bytes, &Bounds::source()) {
         Ok(module) => module,
@@ -102,6 +95,20 @@ fn source(alloc: Global, bytes: &[u8]) -> Result<Valid, SourceFault>
         Err(ValidateFault::Invalid { func, rule, at }) => {
             Err(SourceFault::Refused(Refusal::Invalid { func, rule, at }))
         }
+    }
+}
+
+// Why a valid source isn't rewritten; it has no reserved name.
+fn rewrite_fault(fault: RewriteFault) -> SourceFault
+    requires { IsUnreserved fault }
+    ensures { IsOfRewrite fault result }
+{
+    match fault {
+        RewriteFault::Memory => SourceFault::Memory,
+        RewriteFault::Locals { count, .. } => {
+            SourceFault::Refused(Refusal::RewrittenLocals { found: count })
+        }
+        RewriteFault::Reserved(_) => unreachable!(),
     }
 }
 

@@ -1,5 +1,6 @@
 -- A source keeps the size rule, reserves nothing, and grows to a length that a u64 tells.
-use Rattle.std.proofs.Common.{ℕ, List, ◌≡◌, ◌∙◌, None, ap, arith, drop, length, rules, subst, sym}
+use Rattle.std.proofs.Common.{ℕ, List, ◌≡◌, ◌≤◌, ◌∙◌, None, ap, arith, drop, length, rules, subst, sym}
+use Rattle.std.specs.Prelude.{count_by}
 use Rattle.std.proofs.lemmas.List.{length-map}
 use Rattle.wa_types.specs.Encoding.{Enc}
 use Rattle.wa_types.specs.Marks.{first_above}
@@ -10,21 +11,20 @@ use Rattle.call_graph.specs.Settings.{policy_of, settings_of}
 use Rattle.wasm_encode.specs.Modules.{FewLocals}
 use Rattle.rewrite_form.specs.Emitted.{asyncified}
 use Rattle.source_modules.specs.Sources.{rewritten_counts, IsRewritable}
-use Rattle.source_modules.proofs.Accepted.{strict, first_passes, none_passes, few_written, source_few, source_short, source_prepared}
+use Rattle.source_modules.proofs.Accepted.{strict, few_written, none_passes, none_reserved, rewrite_refused, source_few, source_short, source_prepared}
 use Rattle.source_modules.proofs.FreeNames.{sources_rewritten}
 use Rattle.source_modules.proofs.source.rewrite.Goals as goal
 
 pub asyncify_module-requires-clause-sizes : goal.asyncify_module-requires-clause-sizes
 asyncify_module-requires-clause-sizes c = strict c.args.bytes.now (module_of c.in_ok-valid.valid) c.in_ok-valid.ensures.source
 
-pub unreachable-requires : goal.unreachable-requires
-unreachable-requires c = let free = c.in_ok-valid.ensures.source.unreserved.free in let bad = sym free ∙ c.in-Err-Reserved.ensures in cc
+pub rewrite_fault-requires : goal.rewrite_fault-requires
+rewrite_fault-requires c =
+    none_reserved (settings_of c.args.settings.now) c.args.bytes.now (module_of c.in_ok-valid.valid) c.in-Err.fault c.in_ok-valid.ensures.source c.in-Err.ensures
 
-pub returns-in-Locals-clause-refused : goal.returns-in-Locals-clause-refused
-returns-in-Locals-clause-refused c =
-    let m : Module = module_of c.in_ok-valid.valid in
-    let e = c.in-Err-Locals.ensures in
-    (m, e.which, c.in_ok-valid.ensures.source, e.tells, first_passes m _ _ _ (drop (func_imports m) e.which) m.funcs e.first)
+pub returns-in-Err-clause-refused : goal.returns-in-Err-clause-refused
+returns-in-Err-clause-refused c =
+    rewrite_refused (settings_of c.args.settings.now) c.args.bytes.now (module_of c.in_ok-valid.valid) c.in-Err.fault c.rewrite_fault.result c.in_ok-valid.ensures.source c.in-Err.ensures c.rewrite_fault.ensures
 
 pub encode-requires-clause-locals : goal.encode-requires-clause-locals
 encode-requires-clause-locals c =
@@ -52,7 +52,7 @@ returns-in-Ok-encode-clause-done c =
     let z = ap (λ (p : Module). length (Enc p)) is in
     let short : length (Enc (asyncified m s which)) ≤ 67108864 = omega (arith, z, c.in-Ok-encode.ensures.short) in
     let functions : c.len-functions.result ≡ length m.funcs = search (rules, length-map) in
-    let count : c.told_count-instrumented.result ≡ _ = rw c.deref-2.ensures.value at c.told_count-instrumented.ensures in (
+    let count : c.told_count-instrumented.result ≡ count_by (λ b. b) which = rw c.deref.ensures.value at c.told_count-instrumented.ensures in (
       m,
       which,
       record { rewritable = record { accepted = c.in_ok-valid.ensures.source; tells = e.tells; few = few }; short = short },
@@ -63,8 +63,8 @@ returns-in-Ok-encode-clause-done c =
       sources_rewritten m s which c.in_ok-valid.ensures.source.valid e.free (strict c.args.bytes.now m c.in_ok-valid.ensures.source) (few_written m which few) (ap policy_of c.requires) e.tells,
     )
 
-pub returns-in-Err-TooLong-clause-refused : goal.returns-in-Err-TooLong-clause-refused
-returns-in-Err-TooLong-clause-refused c =
+pub returns-clause-refused : goal.returns-clause-refused
+returns-clause-refused c =
     let m : Module = module_of c.in_ok-valid.valid in
     let e = c.in-Ok.ensures in
     let which = c.in-Ok.rewritten.instrumented.items in
