@@ -6,7 +6,7 @@
 # Fails where `rt ci` does, where the sum passes 90 minutes, or where the proof of a crate passes 60 seconds that isn't among
 # those that are known to.
 . "$(dirname "$0")/common.sh"
-known="asyncify_app asyncify_cli asyncify_runtime bench_loops call_graph flatten flow_rewrite interp vault_port wa_model wa_types
+known="asyncify_app asyncify_cli asyncify_runtime bench_loops call_graph interp vault_port wa_model wa_types
     wasm_encode wasm_reader wasm_validate"
 mkdir -p "$bench/out"
 log=$bench/out/gate.log

@@ -1,0 +1,14 @@
+#!/usr/bin/env bash
+# Rewrites examples/story.wasm, runs it with Node under examples/host.mjs, each read and sleep a pause, and compares what it prints with what
+# the original prints with imports that answer at once. Without Node it says so, and does nothing.
+cd "$(dirname "$0")" || exit 1
+command -v node >/dev/null || { echo "examples: no node, not run"; exit 0; }
+out=$(mktemp -d)
+trap 'rm -rf "$out"' EXIT
+../asyncify transform --imports env.read,env.sleep story.wasm "$out/story.wasm" || exit 1
+for depth in 0 1 4; do
+    node host.mjs --blocking story.wasm "$depth" > "$out/wanted" || exit 1
+    node host.mjs "$out/story.wasm" "$depth" > "$out/found" 2> "$out/pauses" || { cat "$out/pauses"; exit 1; }
+    cmp "$out/wanted" "$out/found" || { echo "examples: they differ at depth $depth"; exit 1; }
+done
+echo "examples: the same, paused or not"
