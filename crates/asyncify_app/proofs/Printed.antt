@@ -5,10 +5,10 @@ use Rattle.std.proofs.lemmas.List.{append-nil}
 use Rattle.vault_port.specs.Told.{Becomes, WhereTold}
 use Rattle.vault_port.specs.Taken.{Appends, AppendsLess}
 use Rattle.wa_model.specs.Transcript.{refusal_line, read_fault}
-use Rattle.printing.specs.Refused.{status_of, EndsInMemory}
+use Rattle.printing.specs.Refused.{status_of, EndsInMemory, Prints}
 use Rattle.printing.proofs.Printed.{memory_alone}
 use Rattle.asyncify_app.specs.Ends.{IsRefusal}
-use Rattle.asyncify_app.specs.Transforms.{HasCause, RunsOutOfMemory}
+use Rattle.asyncify_app.specs.Transforms.{HasCause, PrintsRefusal, RunsOutOfMemory}
 use Rattle.source_modules.specs.Sources.{Cause, malformed, float, deep, limit, reserved, invalid, rewritten_locals, long_output, IsRefusedFor, refusal_for}
 use Rattle.wa_model.specs.Command.{Command, transform, OnTransform}
 use Rattle.vault_port.specs.Files.{Files, bytes_of}
@@ -43,5 +43,23 @@ pub refused_has_cause : (s : Settings) (files : Option Files) (input : List ℕ)
     → HasCause s files input status
 refused_has_cause s files input status cause e h told = elim e [
   | inl a ↦ (cause, a, told)
+  | inr n ↦ absurd (never_nine h.0 (sym n ∙ h.1))
+]
+
+printed_with : (s : Settings) (files : Option Files) (input : List ℕ) (status : ℕ) (cause : Cause) (faults faults' : ℕ) (old new : Option (List ℕ)) → status ≡ status_of (refusal_for cause)
+    → WhereTold files (λ all. IsRefusedFor s (bytes_of all input) cause) → Becomes old new (Prints (refusal_line None (refusal_for cause)) faults faults')
+    → Becomes old new (PrintsRefusal s files input status faults faults')
+printed_with s files input status cause faults faults' None None e told h = tt
+printed_with s files input status cause faults faults' (Some x) (Some y) e told h = (cause, e, told, h)
+printed_with s files input status cause faults faults' None (Some y) e told h = h
+printed_with s files input status cause faults faults' (Some x) None e told h = h
+
+-- a refusal's line is that of its cause
+pub refusal_printed : (s : Settings) (files : Option Files) (input : List ℕ) (status : ℕ) (cause : Cause) (faults faults' : ℕ) (old new : Option (List ℕ))
+    → (status ≡ status_of (refusal_for cause)) ⊎ (status ≡ 9) → IsRefusal status → WhereTold files (λ all. IsRefusedFor s (bytes_of all input) cause)
+    → (status ≡ status_of (refusal_for cause) → Becomes old new (Prints (refusal_line None (refusal_for cause)) faults faults'))
+    → Becomes old new (PrintsRefusal s files input status faults faults')
+refusal_printed s files input status cause faults faults' old new e h told printed = elim e [
+  | inl a ↦ printed_with s files input status cause faults faults' old new a told (printed a)
   | inr n ↦ absurd (never_nine h.0 (sym n ∙ h.1))
 ]

@@ -1,11 +1,12 @@
 -- What stays of the two files and of the lines, by status.
-use Rattle.std.proofs.Common.{◌≡◌, ◌⊎◌, subst}
-use Rattle.wa_model.specs.Transcript.{Refusal}
-use Rattle.printing.specs.Refused.{status_of}
+use Rattle.std.proofs.Common.{◌≡◌, ◌⊎◌, None, subst}
+use Rattle.vault_port.specs.Told.{Becomes}
+use Rattle.wa_model.specs.Transcript.{Refusal, refusal_line}
+use Rattle.printing.specs.Refused.{status_of, Prints}
 use Rattle.source_modules.specs.Refusals.{cause_of}
 use Rattle.asyncify_app.specs.Refusals.{IsToldRefusal}
 use Rattle.call_graph.specs.Settings.{settings_of}
-use Rattle.asyncify_app.proofs.Printed.{memory_any, refused_has_cause}
+use Rattle.asyncify_app.proofs.Printed.{memory_any, refusal_printed, refused_has_cause}
 use Rattle.asyncify_app.proofs.Transforming.{transformed_is_cut}
 use Rattle.asyncify_app.proofs.command.run_transform.Goals as goal
 
@@ -20,3 +21,13 @@ returns-in-Err-Refused-clause-refused g c = λ h.
     refused_has_cause (settings_of c.args.settings.now) (g.V.Vault.files c.args.vault.now) c.args.input.now c.refuse.result (cause_of c.in-Err-Refused.refusal)
     (subst (λ (r : Refusal). (c.refuse.result ≡ status_of r) ⊎ (c.refuse.result ≡ 9)) c.refusal_kind.ensures c.refuse.ensures.status) h
     (subst (IsToldRefusal (settings_of c.args.settings.now) (g.V.Vault.files c.args.vault.now) c.args.input.now) c.in-Err-Refused.field-0-is c.in-Err-Refused.ensures.refused)
+
+pub returns-in-Err-Refused-clause-prints_refusal : goal.returns-in-Err-Refused-clause-prints_refusal
+returns-in-Err-Refused-clause-prints_refusal g c = λ h.
+    refusal_printed (settings_of c.args.settings.now) (g.V.Vault.files c.args.vault.now) c.args.input.now c.refuse.result (cause_of c.in-Err-Refused.refusal)
+    (g.S.Sink.faults c.args.out.now) (g.S.Sink.faults c.refuse.new.out) (g.S.Sink.taken c.args.out.now) (g.S.Sink.taken c.refuse.new.out)
+    (subst (λ (r : Refusal). (c.refuse.result ≡ status_of r) ⊎ (c.refuse.result ≡ 9)) c.refusal_kind.ensures c.refuse.ensures.status) h
+    (subst (IsToldRefusal (settings_of c.args.settings.now) (g.V.Vault.files c.args.vault.now) c.args.input.now) c.in-Err-Refused.field-0-is c.in-Err-Refused.ensures.refused)
+    (subst (λ (r : Refusal). c.refuse.result ≡ status_of r
+    → Becomes (g.S.Sink.taken c.args.out.now) (g.S.Sink.taken c.refuse.new.out) (Prints (refusal_line None r) (g.S.Sink.faults c.args.out.now) (g.S.Sink.faults c.refuse.new.out)))
+    c.refusal_kind.ensures c.refuse.ensures.printed)
