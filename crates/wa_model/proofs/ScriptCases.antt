@@ -128,9 +128,24 @@ unfolding script_text is_utf8 chars encode digits
 nothing = refl
 
 one_program : script_text (line (codes "program f" ++ 13 ∷ []) (line (codes "area 0 64") (codes "enter run i32:7")))
-    ≡ Ok (record { programs = record {
-        line = 1; path = codes "f"; list = None; ignore_imports = false; policy_live = false; area = record { at = 0; len = 64 }; area_line = 2; steps = 100000000;
-        globals = []; binds = []; entries = record { line = 3; name = codes "run"; args = V.I32 7 ∷ [] } ∷ []; answers = []; shows = [] } ∷ []; detaches = [] })
+    ≡ Ok (record {
+      programs = record {
+        line = 1;
+        path = codes "f";
+        list = None;
+        ignore_imports = false;
+        policy_live = false;
+        area = record { at = 0; len = 64 };
+        area_line = 2;
+        steps = 100000000;
+        globals = [];
+        binds = [];
+        entries = record { line = 3; name = codes "run"; args = V.I32 7 ∷ [] } ∷ [];
+        answers = [];
+        shows = [];
+      } ∷ [];
+      detaches = [];
+    })
 unfolding script_text is_utf8 chars encode digits
 one_program = refl
 

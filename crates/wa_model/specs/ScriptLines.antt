@@ -171,18 +171,18 @@ pub record Spelling : Type 0 where
 abbrev pub keywords : List Spelling
 keywords =
     record { text = codes "program"; keyword = program_word }
-  ∷ record { text = codes "imports"; keyword = imports_word }
-  ∷ record { text = codes "ignore-imports"; keyword = ignore_imports_word }
-  ∷ record { text = codes "save"; keyword = save_word }
-  ∷ record { text = codes "area"; keyword = area_word }
-  ∷ record { text = codes "steps"; keyword = steps_word }
-  ∷ record { text = codes "global"; keyword = global_word }
-  ∷ record { text = codes "device"; keyword = device_word }
-  ∷ record { text = codes "enter"; keyword = enter_word }
-  ∷ record { text = codes "answer"; keyword = answer_word }
-  ∷ record { text = codes "show"; keyword = show_word }
-  ∷ record { text = codes "detach"; keyword = detach_word }
-  ∷ []
+    ∷ record { text = codes "imports"; keyword = imports_word }
+    ∷ record { text = codes "ignore-imports"; keyword = ignore_imports_word }
+    ∷ record { text = codes "save"; keyword = save_word }
+    ∷ record { text = codes "area"; keyword = area_word }
+    ∷ record { text = codes "steps"; keyword = steps_word }
+    ∷ record { text = codes "global"; keyword = global_word }
+    ∷ record { text = codes "device"; keyword = device_word }
+    ∷ record { text = codes "enter"; keyword = enter_word }
+    ∷ record { text = codes "answer"; keyword = answer_word }
+    ∷ record { text = codes "show"; keyword = show_word }
+    ∷ record { text = codes "detach"; keyword = detach_word }
+    ∷ []
 
 abbrev pub keyword_in : List ℕ → Option Keyword
 keyword_in word = option_map (λ (s : Spelling). s.keyword) (find (λ (s : Spelling). bytes_eq s.text word) keywords)
