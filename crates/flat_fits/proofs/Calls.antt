@@ -14,18 +14,18 @@ use Rattle.wa_model.specs.Store.{takes, gives}
 use Rattle.wa_model.specs.Flat.{Stmts, no_more, computes, calls, leaps, leaps_if, leaps_by, followed_by, all_got, set_to, slots_got, last_of, code_of}
 use Rattle.flat_laws.specs.Flatten.{Names, names, slots, top, top_of, carry_to, carry, carry_all, arrive, flat, flat_plain, flattened}
 
-calls_all : (xs : List Operand) (code : Code) → calls_of (all_got xs code) ≡ calls_of code
+pub calls_all : (xs : List Operand) (code : Code) → calls_of (all_got xs code) ≡ calls_of code
 unfolding calls_of
 calls_all [] code = refl
 calls_all (Local x ∷ xs) code = calls_all xs code
 calls_all (Const v ∷ xs) code = calls_all xs code
 
-calls_slots : (xs : List ℕ) (code : Code) → calls_of (slots_got xs code) ≡ calls_of code
+pub calls_slots : (xs : List ℕ) (code : Code) → calls_of (slots_got xs code) ≡ calls_of code
 unfolding calls_of
 calls_slots [] code = refl
 calls_slots (x ∷ xs) code = calls_slots xs code
 
-calls_set : (to : Option ℕ) (code : Code) → calls_of (set_to to code) ≡ calls_of code
+pub calls_set : (to : Option ℕ) (code : Code) → calls_of (set_to to code) ≡ calls_of code
 unfolding calls_of
 calls_set None code = refl
 calls_set (Some x) code = refl
@@ -40,16 +40,16 @@ calls_carries : (n : Names) (ls : List (Option ValType)) (ops : List ValType) (j
 calls_carries n ls ops [] rest = refl
 calls_carries n ls ops (j ∷ js) rest = calls_carry n (length ls - suc j) (slice_get ls j) ops (carry_all n ls ops js rest) ∙ calls_carries n ls ops js rest
 
-calls_arrive : (n : Names) (d : ℕ) (r : Option ValType) (ops : List ValType) (rest : Stmts) → calls_of (code_of (arrive n d r ops rest)) ≡ calls_of (code_of rest)
+pub calls_arrive : (n : Names) (d : ℕ) (r : Option ValType) (ops : List ValType) (rest : Stmts) → calls_of (code_of (arrive n d r ops rest)) ≡ calls_of (code_of rest)
 unfolding calls_of code_of
 calls_arrive n d None ops rest = refl
 calls_arrive n d (Some t) ops rest = refl
 
-calls_computes : (i : Plain) (xs : List Operand) (to : Option ℕ) (rest : Stmts) → calls_of (code_of (computes (plain i done) xs to rest)) ≡ callee_onto (callee i) (calls_of (code_of rest))
+pub calls_computes : (i : Plain) (xs : List Operand) (to : Option ℕ) (rest : Stmts) → calls_of (code_of (computes (plain i done) xs to rest)) ≡ callee_onto (callee i) (calls_of (code_of rest))
 unfolding calls_of code_of followed_by
 calls_computes i xs to rest = calls_all xs (plain i (set_to to (code_of rest))) ∙ ap (callee_onto (callee i)) (calls_set to (code_of rest))
 
-calls_calls : (i : Plain) (xs : List ℕ) (k : ℕ) (to : Option ℕ) (rest : Stmts) → calls_of (code_of (calls (plain i done) xs k to rest)) ≡ callee_onto (callee i) (calls_of (code_of rest))
+pub calls_calls : (i : Plain) (xs : List ℕ) (k : ℕ) (to : Option ℕ) (rest : Stmts) → calls_of (code_of (calls (plain i done) xs k to rest)) ≡ callee_onto (callee i) (calls_of (code_of rest))
 unfolding calls_of code_of followed_by
 calls_calls i xs k to rest = calls_slots (last_of k xs) (plain i (set_to to (code_of rest))) ∙ ap (callee_onto (callee i)) (calls_set to (code_of rest))
 
@@ -73,7 +73,7 @@ module _ (n : Names) (c : Around) where
   calls_plain ls ops behind (call_indirect t) rest more e =
       let u : FuncType = or_empty (slice_get c.types t) in calls_calls (call_indirect t) (reverse (slots n ops)) (suc (length u.params)) (top_of n (length u.results) behind) rest ∙ ap (callee_onto (callee (call_indirect t))) e
 
-  calls_flat : (ls : List (Option ValType)) (code : Code) (ops : List ValType) → calls_of (code_of (flat n c ls code ops)) ≡ calls_of (pruned code)
+  pub calls_flat : (ls : List (Option ValType)) (code : Code) (ops : List ValType) → calls_of (code_of (flat n c ls code ops)) ≡ calls_of (pruned code)
   unfolding flat code_of calls_of pruned
   calls_flat ls done ops = calls_carry n (length ls - 1) (slice_get ls 0) ops no_more
   calls_flat ls (plain i rest) ops = calls_plain ls ops (after (sig c ls i) ops) i (flat n c ls rest (after (sig c ls i) ops)) rest (calls_flat ls rest (after (sig c ls i) ops))

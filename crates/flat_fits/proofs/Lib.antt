@@ -1,5 +1,5 @@
-mod Calls
+pub mod Calls
 mod Heights
 mod Items
 mod Statements
-mod Whole
+pub mod Whole

@@ -112,7 +112,7 @@ module _ (m : Module) where
         by true e = refl
         by false e = let le = ltb-false x n e in func_there (x - n) x (omega arith)
 
-    sorts_are : map (λ (f : Func). f.sort) (flat_module m which).funcs ≡ map (λ (f : Func). f.sort) m.funcs
+    pub sorts_are : map (λ (f : Func). f.sort) (flat_module m which).funcs ≡ map (λ (f : Func). f.sort) m.funcs
     sorts_are = ap (map (λ (f : Func). f.sort)) funcs_are ∙ mixed_sorts n (drop n which) m.funcs
 
     pub sorts_stay : func_sorts (flat_module m which) ≡ func_sorts m

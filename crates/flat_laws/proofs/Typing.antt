@@ -79,7 +79,7 @@ sized_memory : (b : Bool) (ps rs : List ValType) → Sized (with_memory b ps rs)
 sized_memory false ps rs = tt
 sized_memory true ps rs = (refl, refl)
 
-sized : (c : Around) (b : Basic) → Sized (basic_sig c b) (takes b) (gives b)
+pub sized : (c : Around) (b : Basic) → Sized (basic_sig c b) (takes b) (gives b)
 sized c nop = (refl, refl)
 sized c a_drop = (refl, refl)
 sized c select = (refl, refl)
@@ -103,7 +103,7 @@ pub record Exactly (g : Sig) (k l : ℕ) (own mids : List ValType) : Type 0 wher
   pub many : length ins ≡ k
   pub few : length outs ≡ l
 
-exactly : (g : Sig) (k l : ℕ) (own mids : List ValType) → Sized g k l → Takes g own mids → Exactly g k l own mids
+pub exactly : (g : Sig) (k l : ℕ) (own mids : List ValType) → Sized g k l → Takes g own mids → Exactly g k l own mids
 exactly (moves ps rs) k l own mids z h = record { ins = ps; outs = rs; below = h.0; takes_it = ([], sym (append-nil ps), sym (append-nil rs)); own_is = h.1; mids_is = h.2; many = z.0; few = z.1 }
 exactly (leaves ps) k l own mids z h = absurd z
 exactly drops k l own mids z h = record { ins = h.0 ∷ []; outs = []; below = mids; takes_it = (h.0, refl); own_is = h.1; mids_is = refl; many = sym z.0; few = sym z.1 }

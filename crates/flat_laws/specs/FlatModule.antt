@@ -7,6 +7,8 @@ use Rattle.wa_types.specs.Pruned.{pruned}
 use Rattle.wa_types.specs.Modules.{func_imports, func_sorts, type_at, func_type_at, declared_locals, defined_at, around}
 use Rattle.wa_types.specs.Pausing.{is_told}
 use Rattle.wa_types.specs.Frames.{Pair, SlotPairs, ResultPairs}
+use Rattle.wa_types.specs.Base.{Base}
+use Rattle.wa_types.specs.Runtime.{with_runtime}
 use Rattle.wa_types.specs.Validity.{Valid}
 use Rattle.wa_types.specs.Bounds.{code_weight}
 use Rattle.wa_types.specs.Counts.{depth_of}
@@ -66,6 +68,14 @@ pub record Flattened (m p : Module) (which : List Bool) : Type 0 where
 -- A valid module and the one in which the told functions are flat meet all that the laws of runs ask for.
 abbrev pub ValidIsFlattened : Type 0
 ValidIsFlattened = (m : Module) (which : List Bool) → Valid m → Flattened m (flat_module m which) which
+
+-- So do the original with the memory that it is compared with, and the same module with the runtime's parts behind.
+abbrev pub RuntimeIsFlattened : Type 0
+RuntimeIsFlattened = (m : Module) (which : List Bool) → Valid m → Flattened (Base m) (with_runtime (flat_module m which)) which
+
+-- With that memory a function has the same flat one, and the same slots and result locals.
+abbrev pub SameWithMemory : Type 0
+SameWithMemory = (m : Module) (x : ℕ) (f : Func) → Valid m → defined_at m x ≡ Some f → (flattened (Base m) x f ≡ flattened m x f) × (names (Base m) f ≡ names m f)
 
 -- The flat code is that of the pruned code.
 abbrev pub FlatOfPruned : Type 0

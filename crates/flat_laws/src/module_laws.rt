@@ -1,8 +1,11 @@
-ghost use Rattle.flat_laws.specs.FlatModule.{FlatIsShallow, FlatIsSmall, FlatIsTyped, FlatOfPruned, FlatStmtsTyped, StacksAreSlots, ValidIsFlattened, ValidStays};
+ghost use Rattle.flat_laws.specs.FlatModule.{FlatIsShallow, FlatIsSmall, FlatIsTyped, FlatOfPruned, FlatStmtsTyped, RuntimeIsFlattened, SameWithMemory, StacksAreSlots, ValidIsFlattened, ValidStays};
 
-/// A valid module and the one in which some functions are flat meet all that the laws of runs ask for.
+/// A valid module and the one in which some functions are flat meet all that the laws of runs ask for, with the runtime's
+/// parts behind as well.
 pub fn valid_modules_are_flattened()
-    ensures { ValidIsFlattened }
+    ensures own { ValidIsFlattened }
+    ensures runtime { RuntimeIsFlattened }
+    ensures same { SameWithMemory }
 {}
 
 /// Flat code is that of the pruned code, weighs little, and has the slots of the operands at its calls.

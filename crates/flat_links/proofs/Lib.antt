@@ -1,3 +1,4 @@
+pub mod LocalsTyped
 pub mod Owed
 pub mod ProperFlat
 pub mod Spaces

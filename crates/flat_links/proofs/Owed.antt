@@ -1,13 +1,12 @@
 -- What the headline asks of flattening, from the relation.
-use Rattle.std.proofs.Common.{Bool, ◌≡◌, ℕ, suc, ◌+◌, ◌*◌, ◌^◌, ◌<◌, ◌≤◌, List, [], ◌∷◌, length, Option, Some, None, All, refl, sym, ap, ◌∙◌, subst, arith, ⊎_elim}
+use Rattle.std.proofs.Common.{Bool, ◌≡◌, ℕ, ◌*◌, ◌^◌, ◌<◌, List, [], ◌∷◌, length, Some, None, refl, sym, ap, ◌∙◌, subst, arith, ⊎_elim}
 use Rattle.std.specs.Option.{option_to_list}
 use Rattle.std.proofs.lemmas.List.{length-map}
 use Rattle.wa_types.specs.Memory.{page_size}
-use Rattle.wa_types.specs.Modules.{defined_at, func_imports, func_type_at, global_type}
-use Rattle.wa_types.specs.Syntax.{Func, Module}
+use Rattle.wa_types.specs.Modules.{defined_at, func_type_at}
+use Rattle.wa_types.specs.Syntax.{Func}
 use Rattle.wa_types.specs.declared.values.ValType.{ValType}
 use Rattle.wa_types.specs.declared.values.Value.{Value}
-use Rattle.wa_types.specs.declared.values.Trap.{Trap}
 use Rattle.wa_types.specs.Typing.{type_of}
 use Rattle.wa_model.specs.Blocking.{answers, fault_of, poked, resumed}
 use Rattle.wa_model.specs.Configuration.{Configuration}
@@ -22,11 +21,14 @@ use Rattle.wa_model.proofs.FittingNames.{results_are}
 use Rattle.wa_model.proofs.FittingRuns.{answers_fit, calls_fit}
 use Rattle.wa_model.proofs.FittingSteps.{steps_fit}
 use Rattle.wa_model.proofs.GrownSteps.{entered_named, defined_below}
-use Rattle.range_laws.specs.Ranges.{ConfigurationIn, NextIn, StoreIn}
+use Rattle.range_laws.specs.Ranges.{ConfigurationIn, NextIn}
 use Rattle.range_laws.proofs.Host.{fault_pokes, optional_in, poked_store_in, store_lower, store_whole}
 use Rattle.range_laws.proofs.Steps.{step_in}
 use Rattle.range_laws.proofs.Stretches.{answers_in_range, calls_in_range}
 use Rattle.stack_laws.proofs.SpotRuns.{answer_typed, listed_typed, or_else_first, test_passed}
+use Rattle.stack_laws.proofs.SpotSteps.{ConfigurationAtSpots, NextAtSpots, entered_spot, goes_on_behind, steps_spot}
+use Rattle.stack_laws.proofs.StandingStates.{ConfigurationAt, NextAt, WaitingAt}
+use Rattle.stack_laws.proofs.StandingSteps.{body_stands, step_stands, waited_stands}
 use Rattle.guard_runs.specs.Alike.{Paired, sides_of}
 use Rattle.guard_runs.specs.Beside.{Twin, both_import, both_defined}
 use Rattle.headline_laws.specs.FlatLaw.{FlatEnters, FlatLaw, FlatNext, FlatOn}
@@ -55,13 +57,13 @@ module _ (k : Core) (fit : CoreFits k) (B : Configuration → Configuration → 
   }
 
   ok_of : (c f : Configuration) → (l : Linked k B A c f) → FlatOk k fit 0 l.flat_outs f
-  ok_of c f l = record { fits = l.flat_fits; named = l.named; ranges = l.flat_ranges }
+  ok_of c f l = record { fits = l.flat_fits; named = l.named }
 
   -- ---- one reduction
 
   module _ (top : ℕ) (c f : Configuration) (l : Linked k B A c f) (off : StaysOff k.plan.area (length c.store.memory) (next_access c)) where
     abbrev ok : FlatOk k fit top l.flat_outs f
-    ok = record { fits = l.flat_fits; named = l.named; ranges = l.flat_ranges }
+    ok = record { fits = l.flat_fits; named = l.named }
 
     -- where the flat side acts it is proper
     acts_properly : (mid : Configuration) → FlatOk k fit top l.flat_outs mid → mid.store ≡ f.store → SameAccess c mid → StaysOff k.plan.area (length mid.store.memory) (next_access mid)
@@ -72,8 +74,8 @@ module _ (k : Core) (fit : CoreFits k) (B : Configuration → Configuration → 
         (λ same. subst (StaysOff k.plan.area (length mid.store.memory)) (sym same) (subst (λ (s : Store). StaysOff k.plan.area (length s.memory) (next_access c)) st off))
         access
 
-    by_next : (o : Next) → NextBeside (based k) k.flat B A c f o → NextFits (based k) l.outs o → NextIn 0 o → FlatNext (world_of k) Eq LL WW (GoodStore k) top o f
-    by_next (steps j0 d) sb nf ni =
+    by_next : (o : Next) → NextBeside (based k) k.flat B A c f o → NextFits (based k) l.outs o → NextIn 0 o → NextAtSpots (based k) o → NextAt (based k) c.store.table l.root o → FlatNext (world_of k) Eq LL WW (GoodStore k) top o f
+    by_next (steps j0 d) sb nf ni ns na =
         let ok1 = quiet_ok k fit top l.flat_outs f sb.mid sb.n1 ok sb.before in
         let keep = quiet_keeps k fit top f sb.mid sb.n1 sb.before in
         let ok2 = ok_on k fit top l.flat_outs sb.mid sb.after sb.j ok1 sb.acts in
@@ -92,15 +94,14 @@ module _ (k : Core) (fit : CoreFits k) (B : Configuration → Configuration → 
           behind = still_of k fit top l.flat_outs sb.after sb.to sb.n2 ok2 sb.behind;
           least = sb.least;
           most = sb.most;
-          link = record { beside = sb.both; outs = l.outs; fits = nf; flat_outs = l.flat_outs; flat_fits = ok3.fits; named = ok3.named; ranges = ni; flat_ranges = ok3.ranges };
+          link = record { beside = sb.both; outs = l.outs; fits = nf; flat_outs = l.flat_outs; flat_fits = ok3.fits; named = ok3.named; ranges = ni; spots = ns; root = l.root; stands = subst (λ t. ConfigurationAt (based k) t l.root d) (sym na.same) na };
         }
-    by_next (asks j0 i args d) eb nf ni =
+    by_next (asks j0 i args d) eb nf ni ns na =
         let ok1 = quiet_ok k fit top l.flat_outs f eb.at eb.n ok eb.before in
         let keep = quiet_keeps k fit top f eb.at eb.n eb.before in
         let t = eb.there in
         let ff = subst (NextFits k.flat l.flat_outs) t.1 (steps_fit k.flat l.flat_outs eb.at fit.flat_valid ok1.fits) in
         let nn = subst (NextNamed (spaces_of k.flat)) t.1 (steps_same k fit eb.at ok1.named).1 in
-        let fi = subst (NextIn 0) t.1 (step_in 0 k.flat fit.flat_codes eb.at ok1.ranges) in
         record {
           n = eb.n;
           at = eb.at;
@@ -111,9 +112,9 @@ module _ (k : Core) (fit : CoreFits k) (B : Configuration → Configuration → 
           proper = proper_here k fit top l.flat_outs eb.at ok1.fits ok1.named (acts_properly eb.at ok1 keep eb.access);
           to = t.0;
           asks_there = (steps_same k fit eb.at ok1.named).0 ∙ t.1;
-          waits = record { beside = t.2; known = nf.0; outs = l.outs; fits = nf.2; flat_outs = l.flat_outs; flat_fits = ff.2; named = nn.1; ranges = ni.1; flat_ranges = fi.1 };
+          waits = record { beside = t.2; known = nf.0; outs = l.outs; fits = nf.2; flat_outs = l.flat_outs; flat_fits = ff.2; named = nn.1; ranges = ni.1; spots = ns; root = l.root; stands = subst (λ t. WaitingAt (based k) t l.root i d) (sym na.same) na };
         }
-    by_next (returns j0 vs s) eb nf ni =
+    by_next (returns j0 vs s) eb nf ni ns na =
         let ok1 = quiet_ok k fit top l.flat_outs f eb.at eb.n ok eb.before in
         let keep = quiet_keeps k fit top f eb.at eb.n eb.before in
         let nn = subst (NextNamed (spaces_of k.flat)) eb.there (steps_same k fit eb.at ok1.named).1 in
@@ -128,7 +129,7 @@ module _ (k : Core) (fit : CoreFits k) (B : Configuration → Configuration → 
           returns_there = (steps_same k fit eb.at ok1.named).0 ∙ eb.there;
           good = record { fits = nf.0; named = nn; ranges = ni.1 };
         }
-    by_next (traps j0 t s) eb nf ni =
+    by_next (traps j0 t s) eb nf ni ns na =
         let ok1 = quiet_ok k fit top l.flat_outs f eb.at eb.n ok eb.before in
         let keep = quiet_keeps k fit top f eb.at eb.n eb.before in
         record {
@@ -141,24 +142,26 @@ module _ (k : Core) (fit : CoreFits k) (B : Configuration → Configuration → 
           proper = proper_here k fit top l.flat_outs eb.at ok1.fits ok1.named (acts_properly eb.at ok1 keep eb.access);
           traps_there = (steps_same k fit eb.at ok1.named).0 ∙ eb.there;
         }
-    by_next stuck nb nf ni = nf
+    by_next stuck nb nf ni ns na = nf
 
     reduces : FlatNext (world_of k) Eq LL WW (GoodStore k) top (step (based k) c) f
     reduces = by_next (step (based k) c) (law.reduces c f l.beside) (steps_fit (based k) l.outs c (based_valid k fit) l.fits) (step_in 0 (based k) fit.codes c l.ranges)
+        (steps_spot (based k) c (based_valid k fit) l.spots) (step_stands (based k) c.store.table l.root c l.stands)
 
   -- ---- an answer, and a call of the host
 
   -- quiet reductions to where both are linked
-  comes : (top most : ℕ) (c f : Configuration) (outs flat_outs : List ValType) → Fits (based k) outs c → ConfigurationIn 0 c → FlatOk k fit top flat_outs f → ComesBeside (based k) k.flat B A c f most
+  comes : (top most : ℕ) (c f : Configuration) (outs flat_outs : List ValType) → Fits (based k) outs c → ConfigurationIn 0 c → ConfigurationAtSpots (based k) c → (root : ℕ) → ConfigurationAt (based k) c.store.table root c
+      → FlatOk k fit top flat_outs f → ComesBeside (based k) k.flat B A c f most
       → FlatOn (world_of k) Eq LL WW (GoodStore k) top most c f
-  comes top most c f outs flat_outs fits ranges ok cb =
+  comes top most c f outs flat_outs fits ranges spots root stands ok cb =
       let ok2 = quiet_ok k fit top flat_outs f cb.to cb.n ok cb.goes in
       record {
         n = cb.n;
         few = cb.few;
         to = cb.to;
         goes = still_of k fit top flat_outs f cb.to cb.n ok cb.goes;
-        link = record { beside = cb.both; outs = outs; fits = fits; flat_outs = flat_outs; flat_fits = ok2.fits; named = ok2.named; ranges = ranges; flat_ranges = ok2.ranges };
+        link = record { beside = cb.both; outs = outs; fits = fits; flat_outs = flat_outs; flat_fits = ok2.fits; named = ok2.named; ranges = ranges; spots = spots; root = root; stands = stands };
       }
 
   good_poked : (i : ℕ) (s : Store) (start : Bool) (a : Answer) → GoodStore k s → AnswerFits a → fault_of (func_type_at (based k) i).results (length s.memory) k.plan start i a ≡ None → GoodStore k (poked s a.pokes)
@@ -187,10 +190,12 @@ module _ (k : Core) (fit : CoreFits k) (B : Configuration → Configuration → 
       comes top 4 (resumed d s2 vs) (resumed f s2 vs) l.outs l.flat_outs
       (answers_fit (based k) l.outs d s2 vs g2.fits (subst (λ ts. CallersFit (based k) l.outs ts (d.here ∷ d.under)) (sym typed) l.fits.waits))
       (answers_in_range 0 0 d s2 vs l.ranges g2.ranges vin)
+      (record { store = g2.fits; here = goes_on_behind (based k) i d.here vs l.spots.waits.0 typed; under = l.spots.waits.1 })
+      l.root
+      (let w = l.stands.stack in let few = l.stands.few in record { same = refl; here = waited_stands (based k) w.0 d.here.func d.here.code d.here.labels w.2; under = w.3; few = omega arith })
       (record {
         fits = answers_fit k.flat l.flat_outs f s2 vs (flat_store s2 g2.fits) (subst (λ ts. CallersFit k.flat l.flat_outs ts (f.here ∷ f.under)) (sym flat_typed) l.flat_fits.waits);
         named = record { store = sn; here = record { func = named.here.func; code = named.here.code; labels = named.here.labels }; under = named.under };
-        ranges = answers_in_range 0 0 f s2 vs l.flat_ranges g2.ranges vin;
       })
       (law.answers s2 i d f vs l.beside g2.fits typed)
 
@@ -233,10 +238,12 @@ module _ (k : Core) (fit : CoreFits k) (B : Configuration → Configuration → 
           on = comes x 16 (entered s [] args x h) (entered s [] args x eb.func) (results_of (based k) x) (results_of k.flat x)
               (calls_fit (based k) s args x h (based_valid k fit) g.fits there typed)
               (calls_in_range (based k) 0 s args x h fit.codes g.ranges lawful.ranges there)
+              (entered_spot (based k) (based_valid k fit) s g.fits [] args x h there typed tt)
+              x
+              (record { same = refl; here = body_stands (based k) x h there; under = refl; few = omega arith })
               (record {
                 fits = calls_fit k.flat s args x eb.func fit.flat_valid (flat_store s g.fits) eb.defined flat_typed;
                 named = entered_named k.flat [] [] [] [] (names_there k fit) s [] args x eb.func g.named tt eb.defined;
-                ranges = calls_in_range k.flat 0 s args x eb.func fit.flat_codes g.ranges lawful.ranges eb.defined;
               })
               eb.comes;
         }

@@ -1,18 +1,15 @@
 -- Flat configurations are proper, and quiet stretches of the flat module are what the headline asks for.
-use Rattle.std.proofs.Common.{◌≡◌, ℕ, suc, ◌+◌, ◌<◌, ◌≤◌, List, [], length, Option, Some, None, refl, sym, ap, ◌∙◌, subst, arith, take, ⊎_elim}
-use Rattle.wa_types.specs.Modules.{func_type_at, type_at}
+use Rattle.std.proofs.Common.{◌≡◌, ℕ, suc, ◌<◌, ◌≤◌, List, length, refl, sym, ◌∙◌, subst}
 use Rattle.wa_types.specs.Syntax.{Plain, basic, local_get, local_set, local_tee, br, br_if, br_table, return, unreachable, call, call_indirect, Code, done, plain, nest, branch}
 use Rattle.wa_types.specs.declared.values.ValType.{ValType}
 use Rattle.wa_types.specs.declared.values.Value.{Value}
 use Rattle.wa_model.specs.Configuration.{Configuration}
 use Rattle.wa_model.specs.Fitting.{Fits, NextFits}
 use Rattle.wa_model.specs.Growth.{CodeNamed, ConfigNamed, PlainNamed, NextNamed, Spaces, spaces_of}
-use Rattle.wa_model.specs.Step.{Next, steps, param_count, step}
+use Rattle.wa_model.specs.Step.{steps, param_count, step}
 use Rattle.wa_model.specs.Store.{Store}
 use Rattle.wa_model.specs.Untouched.{StaysOff, next_access}
 use Rattle.wa_model.proofs.FittingSteps.{steps_fit}
-use Rattle.range_laws.specs.Ranges.{ConfigurationIn, NextIn}
-use Rattle.range_laws.proofs.Steps.{step_in}
 use Rattle.guard_runs.specs.Alike.{Setting, sides_of}
 use Rattle.guard_runs.specs.Beside.{Proper, ProperCode, ProperPlain}
 use Rattle.guard_runs.specs.Proper as P
@@ -22,7 +19,7 @@ use Rattle.headline_laws.specs.World.{setting}
 use Rattle.flat_links.specs.Beside as B
 use Rattle.flat_links.specs.Beside.{QuietGoes}
 use Rattle.flat_links.specs.Core.{Core, CoreFits, world_of}
-use Rattle.flat_links.proofs.Spaces.{p2, n, spaces_are, steps_same, grown_type, grown_func_type, funcs_are, types_are}
+use Rattle.flat_links.proofs.Spaces.{n, spaces_are, steps_same, grown_type, grown_func_type, funcs_are, types_are}
 
 module _ (k : Core) (fit : CoreFits k) (top : ℕ) where
   abbrev pub v : Setting
@@ -66,14 +63,12 @@ module _ (k : Core) (fit : CoreFits k) (top : ℕ) where
   pub record FlatOk (outs : List ValType) (c : Configuration) : Type 0 where
     pub fits : Fits k.flat outs c
     pub named : ConfigNamed (spaces_of k.flat) c
-    pub ranges : ConfigurationIn 0 c
 
   -- a reduction keeps it
   pub ok_on : (outs : List ValType) (c d : Configuration) (j : ℕ) → FlatOk outs c → step k.flat c ≡ steps j d → FlatOk outs d
   ok_on outs c d j ok e = record {
     fits = subst (NextFits k.flat outs) e (steps_fit k.flat outs c fit.flat_valid ok.fits);
     named = subst (NextNamed (spaces_of k.flat)) e (steps_same k fit c ok.named).1;
-    ranges = subst (NextIn 0) e (step_in 0 k.flat fit.flat_codes c ok.ranges);
   }
 
   pub quiet_ok : (outs : List ValType) (c d : Configuration) (m : ℕ) → FlatOk outs c → QuietGoes k.flat c m d → FlatOk outs d

@@ -1,24 +1,27 @@
 -- Along the written module's run each configuration fits it, and is in range: so locals have their types.
-use Rattle.std.proofs.Common.{◌≡◌, ℕ, ◌+◌, ◌*◌, ◌≤◌, List, [], ◌∷◌, map, length, Option, Some, None, All, refl, sym, ap, ◌∙◌, subst, arith}
-use Rattle.std.proofs.lemmas.List.Elements.{All-head, All-tail, All-weaker}
+use Rattle.std.proofs.Common.{◌≡◌, ℕ, ◌*◌, List, [], ◌∷◌, Some, All, subst, arith}
+use Rattle.std.proofs.lemmas.List.Elements.{All-cons, All-head, All-tail, All-weaker}
 use Rattle.wa_types.specs.Memory.{page_size}
 use Rattle.wa_types.specs.Modules.{all_memories, defined_at, func_type_at, imported, imported_global}
 use Rattle.wa_types.specs.Syntax.{Func, Module}
 use Rattle.wa_types.specs.Validity.{Valid}
 use Rattle.wa_types.specs.declared.values.ValType.{ValType}
-use Rattle.wa_model.specs.Blocking.{Left, Note, Task, all_left, no_store}
+use Rattle.wa_model.specs.Blocking.{Left, Note, all_left}
 use Rattle.wa_model.specs.Configuration.{Activation, Configuration}
 use Rattle.wa_model.specs.Fitting.{CallersFit, Fits, global_types, results_of, types_of}
 use Rattle.wa_model.specs.Instantiation.{Opening, fails_as, opens, opening, least_of}
 use Rattle.wa_model.specs.Laws.{held_start_of}
-use Rattle.wa_model.specs.Machine.{Turn, stops, goes}
+use Rattle.wa_model.specs.Outside.{Answer}
+use Rattle.wa_model.specs.Store.{Store}
+use Rattle.wa_types.specs.declared.values.Value.{Value}
+use Rattle.wa_model.specs.Machine.{Turn, goes}
 use Rattle.wa_model.specs.Plan.{AreaFits, Entry, EntryFits, Outcome, OutcomeFits, Plan}
 use Rattle.wa_model.specs.Plan as L
-use Rattle.wa_model.specs.Protocol.{Held, free, starting, busy, calling, aside, entering, over, exports_of, held_begun, held_started, is_running, protocol}
+use Rattle.wa_model.specs.Protocol.{Held, Phase, give_zero, unwinds, free, starting, busy, calling, aside, entering, over, exports_of, held_begun, held_started, is_running, protocol}
 use Rattle.wa_model.proofs.FittingOpenings.{openings_fit}
 use Rattle.wa_model.proofs.Invariants.{TurnKeeps}
 use Rattle.wa_model.proofs.NamedModules.{valid_instance}
-use Rattle.range_laws.specs.Ranges.{ActivationIn, CodesIn, HeldFrom, NoteIn, OpeningIn, StoreIn}
+use Rattle.range_laws.specs.Ranges.{ActivationIn, CodesIn, HeldFrom, NoteIn, OpeningIn}
 use Rattle.range_laws.proofs.Openings.{openings_in}
 use Rattle.range_laws.proofs.ProtocolRuns.{fits_in, opened_in, turn_in}
 use Rattle.run_laws.specs.Stopping.{ExportsTyped}
@@ -26,7 +29,7 @@ use Rattle.run_laws.specs.FittingStates.{HeldFits}
 use Rattle.run_laws.proofs.ProtocolStopping.{begun_fits, turn_fits}
 use Rattle.run_laws.proofs.Stopping.{start_there}
 use Rattle.stack_laws.proofs.SpotRuns.{listed_typed, start_takes_none}
-use Rattle.headline_laws.specs.FlatLaw.{AllLocalsFit, LocalsFit}
+use Rattle.headline_laws.specs.FlatLaw.{AllLocalsFit}
 use Rattle.headline_laws.specs.World.{World}
 use Rattle.headline_laws.specs.WrittenRuns.{WrittenLaw}
 
@@ -102,12 +105,18 @@ module _ (p : Module) (v : Valid p) (plan : Plan) (plan_fits : L.Fits p plan) (a
       let ranges = All-head ActivationIn a under r in
       (record { found = fit.func; is = fit.func_is; typed = fit.locals_fit; ranges = ranges.locals }, callers_known outs (results_of p a.func) under h.1 (All-tail ActivationIn a under r))
 
-  locals_known : (task : Task) (c : Configuration) (l : Left) → Known (busy (is_running task) c l) → AllLocalsFit p (c.here ∷ c.under)
-  locals_known task c l h =
+  pub locals_known : (ph : Phase) (c : Configuration) (l : Left) → Known (busy ph c l) → AllLocalsFit p (c.here ∷ c.under)
+  locals_known ph c l h =
       let fit : Fits p (h.fits).0 c = (h.fits).1 in
       let ranges = (h.ranges).2.1 in
       let here = fit.here in
       (record { found = here.func; is = here.func_is; typed = here.locals_fit; ranges = ranges.here.locals }, callers_known (h.fits).0 (results_of p c.here.func) c.under fit.under ranges.under)
+
+  waits_known : (e : Entry) (i : ℕ) (a : Answer) (s : Store) (x : ℕ) (args : List Value) (c : Configuration) (l : Left) → Known (calling (unwinds e i a) s x args (give_zero c) l) → AllLocalsFit p (c.here ∷ c.under)
+  waits_known e i a s x args c l h =
+      let waits = (h.fits).3 in
+      let ranges = (h.ranges).2.3 in
+      callers_known waits.0 (results_of p i) (c.here ∷ c.under) waits.1 (All-cons ActivationIn c.here c.under ranges.here ranges.under)
 
   pub known_begins : (os : List Outcome) → All OutcomeFits os → Known (held_start_of p plan os).last
   known_begins os fs = record { fits = begins_fit os; ranges = begins_in os fs }
@@ -121,5 +130,6 @@ pub written_law : (w : World) (v : Valid w.written) (fits : L.Fits w.written w.p
 written_law w v fits area ex codes = record {
   begins = known_begins w.written v w.plan fits area ex codes;
   keeps = known_moves w.written v w.plan fits area ex codes;
-  locals = locals_known w.written v w.plan fits area ex codes;
+  waits = waits_known w.written v w.plan fits area ex codes;
+  locals = λ task c l h. locals_known w.written v w.plan fits area ex codes (is_running task) c l h;
 }

@@ -1,9 +1,10 @@
 -- A rewriting by way of flat code: the original, its flat module, and the written one; and the world of the headline that they make.
-use Rattle.std.specs.Prelude.{◌≡◌, ℕ, ◌+◌, List, [], length, map, Option, Bool}
+use Rattle.std.specs.Prelude.{◌≡◌, ℕ, ◌+◌, List, [], length, Option, Bool}
 use Rattle.wa_types.specs.Base.{Base}
+use Rattle.wa_types.specs.Modules.{func_sorts}
 use Rattle.wa_types.specs.Pausing.{Callee, Settings}
 use Rattle.wa_types.specs.Runtime.{func_space, global_space, runtime_types, runtime_funcs}
-use Rattle.wa_types.specs.Syntax.{Func, Module}
+use Rattle.wa_types.specs.Syntax.{Module}
 use Rattle.wa_types.specs.Validity.{Valid}
 use Rattle.wa_model.specs.Growth.{grown_module}
 use Rattle.wa_model.specs.Instantiation.{Opening, fails_as, opens, opening}
@@ -53,12 +54,11 @@ world_of k = record {
   lay = k.lay;
 }
 
--- What the flat module is: valid, in range, and the original but for functions, which keep their types.
+-- What the flat module is: valid, and the original but for functions, which keep their types.
 pub record CoreFits (k : Core) : Type 0 where
   pub valid : Valid k.original
   pub flat_valid : Valid k.flat
   pub codes : CodesIn (based k)
-  pub flat_codes : CodesIn k.flat
   pub functions_alone : k.flat ≡ record (based k) { funcs = k.flat.funcs }
-  pub sorts : map (λ (f : Func). f.sort) k.flat.funcs ≡ map (λ (f : Func). f.sort) (based k).funcs
+  pub sorts : func_sorts k.flat ≡ func_sorts (based k)
   pub plan : Fits k.original k.plan

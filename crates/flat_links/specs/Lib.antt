@@ -1,3 +1,4 @@
 pub mod Beside
 pub mod Core
 pub mod Links
+pub mod Laws

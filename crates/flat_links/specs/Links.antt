@@ -1,5 +1,5 @@
 -- The links of original and flat configurations in the headline: they stand beside one another, fit their modules, name what is
--- there, and are in range.
+-- there; and the original's is in range, stands in its bodies, where each call leads to the next function inwards.
 use Rattle.std.specs.Prelude.{◌≡◌, ℕ, ◌<◌, List, ◌∷◌, All}
 use Rattle.wa_types.specs.Modules.{func_imports}
 use Rattle.wa_types.specs.declared.values.ValType.{ValType}
@@ -9,6 +9,8 @@ use Rattle.wa_model.specs.Fitting.{Fits, WaitingFits, StoreFits}
 use Rattle.wa_model.specs.Growth.{ConfigNamed, StoreNamed, spaces_of}
 use Rattle.wa_model.specs.Store.{Store}
 use Rattle.range_laws.specs.Ranges.{ConfigurationIn, StoreIn}
+use Rattle.stack_laws.proofs.SpotSteps.{ConfigurationAtSpots, WaitingAtSpots}
+use Rattle.stack_laws.proofs.StandingStates.{ConfigurationAt, WaitingAt}
 use Rattle.guard_frames.specs.Returned.{AllSameFlat}
 use Rattle.guard_runs.specs.Stopped.{AllNumbered, Stopped}
 use Rattle.headline_laws.specs.FlatLaw.{FlatStands, FlatAgain, AllLocalsFit}
@@ -31,7 +33,9 @@ module _ (k : Core) (B : Configuration → Configuration → Type 0) (A : ℕ �
     pub flat_fits : Fits k.flat flat_outs f
     pub named : ConfigNamed (spaces_of k.flat) f
     pub ranges : ConfigurationIn 0 c
-    pub flat_ranges : ConfigurationIn 0 f
+    pub spots : ConfigurationAtSpots (based k) c
+    pub root : ℕ
+    pub stands : ConfigurationAt (based k) c.store.table root c
 
   -- both wait for the answer of an import
   pub record LinkedWaits (i : ℕ) (d f : Configuration) : Type 0 where
@@ -43,7 +47,9 @@ module _ (k : Core) (B : Configuration → Configuration → Type 0) (A : ℕ �
     pub flat_fits : WaitingFits k.flat flat_outs i f
     pub named : ConfigNamed (spaces_of k.flat) f
     pub ranges : ConfigurationIn 0 d
-    pub flat_ranges : ConfigurationIn 0 f
+    pub spots : WaitingAtSpots (based k) i d
+    pub root : ℕ
+    pub stands : WaitingAt (based k) d.store.table root i d
 
   abbrev pub L : ℕ → Configuration → Configuration → Type 0
   L top c f = Linked c f
@@ -55,7 +61,7 @@ module _ (k : Core) (B : Configuration → Configuration → Type 0) (A : ℕ �
   pub record StandsLaw : Type 0 where
     pub numbers : (top i : ℕ) (d f : Configuration) → LinkedWaits i d f → All (StandsNumbered k.original k.settings k.which) (stack_of (based k) d) → AllNumbered (setting (world_of k) top) i (f.here ∷ f.under)
     pub stands : (top i : ℕ) (d f : Configuration) (us' : List Activation) (st : Stopped (setting (world_of k) top) i (f.here ∷ f.under) us') → LinkedWaits i d f
-        → All (StandsNumbered k.original k.settings k.which) (stack_of (based k) d) → FlatStands (world_of k) (λ c d. c ≡ d) L W (GoodStore k) top i d f us' st
+        → All (StandsNumbered k.original k.settings k.which) (stack_of (based k) d) → AllLocalsFit k.written us' → FlatStands (world_of k) (λ c d. c ≡ d) L W (GoodStore k) top i d f us' st
     pub again : (top i : ℕ) (d f : Configuration) (a : Activation) (us : List Activation) → LinkedWaits i d f → All (StandsNumbered k.original k.settings k.which) (stack_of (based k) d)
         → AllSameFlat k.lay (f.here ∷ f.under) (a ∷ us) → (us' : List Activation) → Stopped (setting (world_of k) top) i (a ∷ us) us' → AllLocalsFit k.written us'
         → FlatAgain (world_of k) (λ c d. c ≡ d) L W (GoodStore k) top i d f a us

@@ -11,7 +11,10 @@ use Rattle.wa_types.specs.Syntax.{local_get, br_if, br_table, a_block, a_loop, C
 use Rattle.wa_types.specs.Typing.{Around, listed, jump as jump_sig, may_jump, jumps as jumps_sig, leaves as leaves_sig, Takes}
 use Rattle.wa_types.specs.Modules.{around}
 use Rattle.wa_model.specs.Store.{Store}
-use Rattle.wa_model.specs.Configuration.{Label, block_label, loop_label, Activation, Configuration, running}
+use Rattle.wa_model.specs.Configuration.{Label, block_label, loop_label, Activation, Configuration, running, call_count}
+use Rattle.wa_types.specs.Pausing.{calls_of}
+use Rattle.wa_types.specs.Pruned.{pruned}
+use Rattle.flat_fits.proofs.Calls.{calls_flat}
 use Rattle.wa_model.specs.Step.{Next, steps, traps, stuck, with_number, choose, result_count, leave, jump, finish, arity_of}
 use Rattle.wa_model.specs.declared.flat.Operand.TheVariants.{Local}
 use Rattle.wa_model.specs.Flat.{Stmts, no_more, leaps, leaps_if, leaps_by, nests, decides, halts, code_of}
@@ -29,13 +32,18 @@ use Rattle.flat_runs.proofs.ResultMoves.{Carried, carries, tail_types}
 use Rattle.flat_runs.proofs.PlainSteps.{Ctx, cp, long_ls, again}
 use Rattle.flat_runs.proofs.Leaving.{paid, Jumped, jumps, ends, behind_block}
 
+-- no arm is skipped
+none_skipped : length (calls_of done) ≡ call_count done
+unfolding calls_of pruned
+none_skipped = refl
+
 -- each label that stands has the local of its result
 pub label_has : (n : Names) (c : Around) (lt : List (Option ValType)) (outs low : List ValType) (labels labels' : List Label) (l : ℕ) (r : Option ValType) → Labels n c lt outs low labels labels' → slice_get lt l ≡ Some r → HasResult n (length lt - suc l) r
 label_has n c _ outs low _ _ zero r (outermost has) e = let z : (c.result) ≡ r = cc in subst (HasResult n 0) z has
 label_has n c _ outs low _ _ (suc l) r (outermost has) e = cc
-label_has n c _ _ _ _ _ zero r (in_block {ls = lt} {labels = labels} {labels' = labels'} {r = r2} outs own low la has ain ea g) e =
+label_has n c _ _ _ _ _ zero r (in_block {ls = lt} {labels = labels} {labels' = labels'} {r = r2} outs own low la has ain ea g ms) e =
     let z : r2 ≡ r = cc in let k : length lt ≡ length (r2 ∷ lt) - 1 = omega arith in subst (λ d. HasResult n d r) k (subst (HasResult n (length lt)) z has)
-label_has n c _ _ _ _ _ (suc l) r (in_block {ls = lt} {labels = labels} {labels' = labels'} {r = r2} outs own low la has ain ea g) e =
+label_has n c _ _ _ _ _ (suc l) r (in_block {ls = lt} {labels = labels} {labels' = labels'} {r = r2} outs own low la has ain ea g ms) e =
     let k : length lt - suc l ≡ length (r2 ∷ lt) - suc (suc l) = omega arith in subst (λ d. HasResult n d r) k (label_has n c lt outs low labels labels' l r la e)
 label_has n c _ _ _ _ _ zero r (in_loop {ls = lt} {labels = labels} {labels' = labels'} r2 outs own low la ain ea gb g) e =
     let z : None ≡ r = cc in subst (HasResult n (suc (length lt) - 1)) z tt
@@ -45,7 +53,7 @@ label_has n c _ _ _ _ _ (suc l) r (in_loop {ls = lt} {labels = labels} {labels' 
 -- the last label is the function's own
 pub last_label : (n : Names) (c : Around) (lt : List (Option ValType)) (outs low : List ValType) (labels labels' : List Label) → Labels n c lt outs low labels labels' → (length lt ≡ suc (length labels)) × (slice_get lt (length labels) ≡ Some c.result)
 last_label n c _ _ _ _ _ (outermost has) = (refl, refl)
-last_label n c _ _ _ _ _ (in_block {ls = lt} {labels = labels} {labels' = labels'} outs own low la has ain ea g) = let ih = last_label n c lt outs low labels labels' la in (ap suc ih.0, ih.1)
+last_label n c _ _ _ _ _ (in_block {ls = lt} {labels = labels} {labels' = labels'} outs own low la has ain ea g ms) = let ih = last_label n c lt outs low labels labels' la in (ap suc ih.0, ih.1)
 last_label n c _ _ _ _ _ (in_loop {ls = lt} {labels = labels} {labels' = labels'} r2 outs own low la ain ea gb g) = let ih = last_label n c lt outs low labels labels' la in (ap suc ih.0, ih.1)
 
 -- a branch past all labels leaves the function
@@ -244,7 +252,7 @@ module _ (m p : Module) (which : List Bool) (w : Flattened m p which) (x : Ctx m
       → Quietly m p which (cp x ls extra [] (code_of (nests a_block (flat n (around m x.f) (r ∷ lt) body (types_of ops)) (arrive n (length lt) r (types_of ops) (flat n (around m x.f) lt rest (listed r ++ types_of ops))))) labels') (steps 0 (running x.s x.fn x.under ls ops body (block_label (length ops) (arity_of r) rest done ∷ labels)))
   unfolding code_of
   block_step r body rest has gb g =
-      let la2 = in_block {r = r} {rest = rest} {skipped = done} {skipped' = done} outs own low la has ain refl g in
+      let la2 = in_block {r = r} {rest = rest} {skipped = done} {skipped' = done} outs own low la has ain refl g none_skipped in
       let h : length (own ++ low) ≡ length ops = sym (ap length e) ∙ types_long ops in
       let be = again m p which w x ls extra ops (r ∷ lt) (listed r) [] (own ++ low) (types_of ops) body _ _ l e refl gb la2 in
       subst (λ ts. Quietly m p which (cp x ls extra [] (code_of (nests a_block (flat n (around m x.f) (r ∷ lt) body (types_of ops)) (arrive n (length lt) r ts (flat n (around m x.f) lt rest (listed r ++ ts))))) labels') (steps 0 (running x.s x.fn x.under ls ops body (block_label (length ops) (arity_of r) rest done ∷ labels)))) (sym e)
@@ -278,11 +286,11 @@ module _ (m p : Module) (which : List Bool) (w : Flattened m p which) (x : Ctx m
     chosen_arm v os = steps 0 (choose v (running x.s x.fn x.under ls os a (block_label (length os) (arity_of r) rest b ∷ labels)) (running x.s x.fn x.under ls os b (block_label (length os) (arity_of r) rest done ∷ labels)))
 
     -- an arm begins
-    arm_begins : (os : List Value) (k skipped skipped' : Code) → types_of os ≡ below ++ low → Holds n extra os → Good n (around m x.f) (r ∷ lt) k (listed r) [] (below ++ low)
+    arm_begins : (os : List Value) (k skipped skipped' : Code) → types_of os ≡ below ++ low → Holds n extra os → Good n (around m x.f) (r ∷ lt) k (listed r) [] (below ++ low) → length (calls_of skipped') ≡ call_count skipped
         → Beside m which (running x.s x.fn x.under ls os k (block_label (length os) (arity_of r) rest skipped ∷ labels)) (cp x ls extra [] (arm k) (block_label 0 0 behind skipped' ∷ labels'))
-    arm_begins os k skipped skipped' et h gk =
+    arm_begins os k skipped skipped' et h gk as_many =
         let ain2 : AllIn n (below ++ low) = (subst (λ z. AllIn n (z ++ low)) eo ain).1 in
-        let la2 = in_block {r = r} {rest = rest} {skipped = skipped} {skipped' = skipped'} outs below low la has ain2 refl g in
+        let la2 = in_block {r = r} {rest = rest} {skipped = skipped} {skipped' = skipped'} outs below low la has ain2 refl g as_many in
         let len : length (below ++ low) ≡ length os = sym (ap length et) ∙ types_long os in
         let be = again m p which w x ls extra os (r ∷ lt) (listed r) [] (below ++ low) (below ++ low) k _ _ (locals_of_new extra os refl h) et et gk la2 in
         subst (λ j. Beside m which (running x.s x.fn x.under ls os k (block_label j (arity_of r) rest skipped ∷ labels)) (cp x ls extra [] (arm k) (block_label 0 0 behind skipped' ∷ labels'))) len be
@@ -299,7 +307,7 @@ module _ (m p : Module) (which : List Bool) (w : Flattened m p which) (x : Ctx m
             let h : Holds (names m x.f) extra (V.I32 v ∷ os) = subst (Holds (names m x.f) extra) eq l.holds in
             let got_it = number_got v os extra (branch None (arm a) (arm b) behind) eq refl l.holds in
             subst (λ ts. Quietly m p which (cp x ls extra [] (if_stmts ts) labels') (chosen_arm v os)) (sym (ap (drop 1) typed))
-            (arms v got_it (arm_begins os a b (arm b) et h.2 ga) (arm_begins os b done done et h.2 gb))
+            (arms v got_it (arm_begins os a b (arm b) et h.2 ga (ap length (calls_flat n (around m x.f) (r ∷ lt) b (below ++ low)))) (arm_begins os b done done et h.2 gb none_skipped))
           where
             arms : (v : ℕ) {c' : Configuration} → Still p (first_of m) c' 1 0 (cp x ls extra (V.I32 v ∷ []) (branch None (arm a) (arm b) behind) labels')
                 → Beside m which (running x.s x.fn x.under ls os a (block_label (length os) (arity_of r) rest b ∷ labels)) (cp x ls extra [] (arm a) (block_label 0 0 behind (arm b) ∷ labels'))
@@ -319,8 +327,8 @@ end_step m p which w x ls extra ops l _ _ _ _ _ e ain (outermost has) =
     let l0 : Locals m x.f ls go.new [] = record { typed = l.typed; size = go.long ∙ l.size; holds = tt } in
     paid m p which _ _ (0 + 1) (go.cost + 1) _ (on p (first_of m) go.cost 0 1 1 _ _ _ go.goes (loud p (first_of m) 0 _ _ refl tt tt))
     (ends m p which w x ls go.new ops 0 (0 + 1) (go.cost + 1) [] l0 e go.then_good.1 (omega arith) (omega arith))
-end_step m p which w x ls extra ops l _ _ _ _ _ e ain (in_block {ls = lt} {all = all} {labels = labels} {labels' = labels'} {r = r} {rest = rest} {skipped = skipped} {skipped' = skipped'} outs own low la has ain2 ea g) =
-    let go = to_label m p which w x ls extra ops l (r ∷ lt) (listed r) (listed r) all _ _ e ain (in_block {skipped = skipped} {skipped' = skipped'} outs own low la has ain2 ea g) ops ops extra 0 r all no_more refl e refl l.holds l.holds in
+end_step m p which w x ls extra ops l _ _ _ _ _ e ain (in_block {ls = lt} {all = all} {labels = labels} {labels' = labels'} {r = r} {rest = rest} {skipped = skipped} {skipped' = skipped'} outs own low la has ain2 ea g ms) =
+    let go = to_label m p which w x ls extra ops l (r ∷ lt) (listed r) (listed r) all _ _ e ain (in_block {skipped = skipped} {skipped' = skipped'} outs own low la has ain2 ea g ms) ops ops extra 0 r all no_more refl e refl l.holds l.holds in
     let fc = go.few in
     let z : length (r ∷ lt) - 1 ≡ length lt = omega arith in
     let vs : List Value = take (arity_of r) ops in

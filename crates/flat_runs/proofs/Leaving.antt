@@ -1,5 +1,5 @@
 -- Branches, returns and ends of sequences.
-use Rattle.std.proofs.Common.{◌≡◌, ◌∙◌, ℕ, zero, suc, ◌+◌, ◌-◌, ◌*◌, ◌≤◌, List, [], ◌∷◌, ◌++◌, length, take, Option, Some, None, refl, sym, ap, subst, arith, Bool, true}
+use Rattle.std.proofs.Common.{◌≡◌, ◌∙◌, ℕ, zero, suc, ◌+◌, ◌-◌, ◌*◌, ◌≤◌, List, [], ◌∷◌, ◌++◌, length, take, Option, Some, None, refl, sym, ap, subst, arith, Bool, true, ◌<◌}
 use Rattle.std.specs.Prelude.{slice_get}
 use Rattle.std.proofs.lemmas.List.{append-nil, append_assoc, map-append}
 use Rattle.std.proofs.Math.Seq.{take-length}
@@ -35,7 +35,7 @@ first_type t u ts us e = cc
 -- What the flat code does from here on, where it has paid b, and a in lean cost.
 pub data Paid (m p : Module) (which : List Bool) (c' : Configuration) (a b : ℕ) : Next → Type 0 where
   p_steps : {k : ℕ} {d : Configuration} → (cost lean : ℕ) → (to : Configuration) → Still p (first_of m) c' cost lean to → suc k ≤ a + lean → b + cost ≤ 16 * suc k → Beside m which d to → Paid m p which c' a b (steps k d)
-  p_returns : {k : ℕ} {vs : List Value} {s : Store} → (cost lean j : ℕ) → (at : Configuration) → Still p (first_of m) c' cost lean at → IsQuiet at.here.code → step p at ≡ returns j vs s → suc k ≤ a + lean + suc j → b + cost + suc j ≤ 16 * suc k → Paid m p which c' a b (returns k vs s)
+  p_returns : {k : ℕ} {vs : List Value} {s : Store} → (cost lean j : ℕ) → (at : Configuration) → Still p (first_of m) c' cost lean at → IsQuiet at.here.code → step p at ≡ returns j vs s → suc k ≤ a + lean + suc j → b + cost + suc j < 16 * suc k → Paid m p which c' a b (returns k vs s)
 
 pub paid : (m p : Module) (which : List Bool) (c' d : Configuration) (a b : ℕ) (o : Next) → Still p (first_of m) c' b a d → Paid m p which d a b o → Quietly m p which c' o
 paid m p which c' d a b _ st (p_steps cost lean to go l c be) = it_steps (b + cost) (a + lean) to (on p (first_of m) b a cost lean _ _ _ st go) l c be
@@ -174,14 +174,14 @@ module _ (m p : Module) (which : List Bool) (w : Flattened m p which) where
       let ca2 : Carried (names m x.f) extra 0 (around m x.f).result (take (arity_of (around m x.f).result) ops) = subst (λ q. Carried (names m x.f) extra 0 q (take (arity_of q) ops)) (sym er2) ca in
       record { there = cp x ls extra [] (result_got (result_of (names m x.f) (around m x.f).result)) []; goes = refl; next = λ a b la lb. ends x ls extra ops k a b more (record { typed = lo.typed; size = lo.size; holds = tt }) (subst (λ q. types_of ops ≡ listed q ++ more) (sym er2) ev) ca2 la lb }
   jumps k x ls extra ops _ _ _ front more _ _ (suc l) r (outermost has) er lo ev ef ca = cc
-  jumps k x ls extra ops _ _ _ front more _ _ zero r (in_block {ls = lt} {all = all} {labels = labels} {labels' = labels'} {r = r2} {rest = rest} outs own low la has ain ea g) er lo ev ef ca =
+  jumps k x ls extra ops _ _ _ front more _ _ zero r (in_block {ls = lt} {all = all} {labels = labels} {labels' = labels'} {r = r2} {rest = rest} outs own low la has ain ea g ms) er lo ev ef ca =
       let er2 : r2 ≡ r = cc in
       let z : length (r2 ∷ lt) - 1 ≡ length lt = omega arith in
       let ev2 : types_of ops ≡ listed r2 ++ more = subst (λ q. types_of ops ≡ listed q ++ more) (sym er2) ev in
       let ca2 : Carried (names m x.f) extra (length lt) r2 (take (arity_of r2) ops) = subst (λ d. Carried (names m x.f) extra d r2 (take (arity_of r2) ops)) z (subst (λ q. Carried (names m x.f) extra (length (r2 ∷ lt) - 1) q (take (arity_of q) ops)) (sym er2) ca) in
       let vt : types_of (take (arity_of r2) ops) ≡ listed r2 = ap (λ i. types_of (take i ops)) (arity_is r2) ∙ (split_types (listed r2) more ops ev2).0 in
       record { there = _; goes = refl; next = λ a b la1 lb. behind_block x ls extra (take (arity_of r2) ops) (keep (length all) ops) r2 lt outs own low all rest labels labels' a b k lo.size lo.typed ea vt (kept_types front all (length all) ops ef refl) (holds_keep (names m x.f) (length all) extra ops lo.holds) ca2 g la la1 lb }
-  jumps k x ls extra ops _ _ _ front more _ _ (suc l) r (in_block {ls = lt} {all = all} {labels = labels} {labels' = labels'} {r = r2} {rest = rest} outs own low la has ain ea g) er lo ev ef ca =
+  jumps k x ls extra ops _ _ _ front more _ _ (suc l) r (in_block {ls = lt} {all = all} {labels = labels} {labels' = labels'} {r = r2} {rest = rest} outs own low la has ain ea g ms) er lo ev ef ca =
       let z : length (r2 ∷ lt) - suc (suc l) ≡ length lt - suc l = omega arith in
       jumps k x ls extra ops lt outs low (front ++ own) more labels labels' l r la er lo ev (ef ∙ ap (λ q. front ++ q) ea ∙ sym (append_assoc front own low)) (subst (λ d. Carried (names m x.f) extra d r (take (arity_of r) ops)) z ca)
   jumps k x ls extra ops _ _ _ front more _ _ zero r (in_loop {ls = lt} {all = all} {labels = labels} {labels' = labels'} {body = body} {rest = rest} r2 outs own low la ain ea gb g) er lo ev ef ca =

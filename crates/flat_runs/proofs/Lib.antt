@@ -2,12 +2,12 @@ mod BranchSteps
 mod CallSteps
 mod EachReduction
 mod Follows
-mod Leaving
-mod PlainSteps
-mod Reductions
+pub mod Leaving
+pub mod PlainSteps
+pub mod Reductions
 mod ResultMoves
 mod SameSteps
-mod Shapes
-mod Slots
-mod Stretches
-mod WaitingCalls
+pub mod Shapes
+pub mod Slots
+pub mod Stretches
+pub mod WaitingCalls

@@ -11,9 +11,9 @@ use Rattle.wa_model.specs.Flat.{set_to, code_of}
 use Rattle.wa_model.specs.Step.{result_count}
 use Rattle.wa_model.specs.Fitting.{results_of, types_of}
 
-at_zero : (n : Names) (c : Around) (lt : List (Option ValType)) (outs low : List ValType) (labels labels' : List Label) → Labels n c lt outs low labels labels' → AtZero labels'
+pub at_zero : (n : Names) (c : Around) (lt : List (Option ValType)) (outs low : List ValType) (labels labels' : List Label) → Labels n c lt outs low labels labels' → AtZero labels'
 at_zero n c _ _ _ _ _ (outermost has) = (refl, refl, tt)
-at_zero n c _ _ _ _ _ (in_block {ls = lt} {labels = labels} {labels' = labels'} outs own low la has ain ea g) = (refl, refl, at_zero n c lt outs low labels labels' la)
+at_zero n c _ _ _ _ _ (in_block {ls = lt} {labels = labels} {labels' = labels'} outs own low la has ain ea g ms) = (refl, refl, at_zero n c lt outs low labels labels' la)
 at_zero n c _ _ _ _ _ (in_loop {ls = lt} {labels = labels} {labels' = labels'} r outs own low la ain ea gb g) = (refl, at_zero n c lt outs low labels labels' la)
 
 pub callers_at_calls : (m : Module) (which : List Bool) (g : ℕ) (under under' : List Activation) → Callers m which g under under' → AllAtCalls m which under under'

@@ -4,11 +4,11 @@ use Rattle.wa_types.specs.declared.values.ValType.{ValType}
 use Rattle.wa_types.specs.declared.values.Value.{Value}
 use Rattle.wa_types.specs.Syntax.{Basic, basic, local_get, local_set, Code, done, plain, Func, Module}
 use Rattle.wa_types.specs.Typing.{Around, listed, type_of}
-use Rattle.wa_types.specs.Pausing.{is_told}
+use Rattle.wa_types.specs.Pausing.{is_told, calls_of}
 use Rattle.wa_types.specs.Modules.{defined_at, locals_of, around}
 use Rattle.wa_types.specs.Frames.{SlotPairs, ResultPairs}
 use Rattle.wa_model.specs.Store.{Store, takes, value_at}
-use Rattle.wa_model.specs.Configuration.{Label, block_label, loop_label, Activation, Configuration, running, waiting}
+use Rattle.wa_model.specs.Configuration.{Label, block_label, loop_label, Activation, Configuration, running, waiting, call_count}
 use Rattle.wa_model.specs.Step.{steps, arity_of, result_count, step}
 use Rattle.wa_model.specs.Flat.{Stmts, code_of, set_to, result_got}
 use Rattle.wa_model.specs.Fitting.{types_of, StoreFits, ActFits, results_of}
@@ -56,11 +56,12 @@ Holds n extra [] = Unit {0}
 Holds n extra (v ∷ ops) =
     (place (length ops) (type_of v) n.slots < length n.slots) × (value_at extra (place (length ops) (type_of v) n.slots) ≡ v) × Holds n extra ops
 
--- Labels of the original and of the flat code, the innermost first, over these results and this outer result.
+-- Labels of the original and of the flat code, the innermost first, over these results and this outer result. An arm that is skipped
+-- has as many calls in both.
 pub data Labels (n : Names) (c : Around) : (ls : List (Option ValType)) → (outs low : List ValType) → (labels labels' : List Label) → Type 0 where
   outermost : HasResult n 0 c.result → Labels n c (c.result ∷ []) (listed c.result) [] [] (block_label 0 0 (result_got (result_of n c.result)) done ∷ [])
   in_block : {ls : List (Option ValType)} {all : List ValType} {labels labels' : List Label} {r : Option ValType} {rest skipped skipped' : Code} (outs own low : List ValType)
-      → Labels n c ls outs low labels labels' → HasResult n (length ls) r → AllIn n all → all ≡ own ++ low → Good n c ls rest outs (listed r ++ own) low
+      → Labels n c ls outs low labels labels' → HasResult n (length ls) r → AllIn n all → all ≡ own ++ low → Good n c ls rest outs (listed r ++ own) low → length (calls_of skipped') ≡ call_count skipped
       → Labels n c (r ∷ ls) (listed r) all (block_label (length all) (arity_of r) rest skipped ∷ labels) (block_label 0 0 (code_of (arrive n (length ls) r all (flat n c ls rest (listed r ++ all)))) skipped' ∷ labels')
   in_loop : {ls : List (Option ValType)} {all : List ValType} {labels labels' : List Label} {body rest : Code} (r : Option ValType) (outs own low : List ValType)
       → Labels n c ls outs low labels labels' → AllIn n all → all ≡ own ++ low → Good n c (None ∷ ls) body (listed r) [] all → Good n c ls rest outs (listed r ++ own) low

@@ -1,6 +1,6 @@
 -- One reduction of the original beside the flat code: quiet reductions, one that leaves the store as the original's does, and
 -- quiet ones again.
-use Rattle.std.specs.Prelude.{◌≡◌, ◌≤◌, ℕ, suc, ◌+◌, ◌*◌, None, ◌⊎◌, List, Bool}
+use Rattle.std.specs.Prelude.{◌≡◌, ◌≤◌, ◌<◌, ℕ, suc, ◌+◌, ◌*◌, None, ◌⊎◌, List, Bool}
 use Rattle.wa_types.specs.Syntax.{Module}
 use Rattle.wa_model.specs.Configuration.{Configuration}
 use Rattle.wa_model.specs.Step.{Next, steps, asks, returns, traps, stuck, step}
@@ -50,7 +50,7 @@ pub record FlatEnds (m p : Module) (which : List Bool) (c f : Configuration) (k 
   pub j : ℕ
   pub ends : end j at
   pub least : suc k ≤ l + suc j
-  pub most : n + suc j ≤ 16 * suc k
+  pub most : n + suc j < 16 * suc k
 
 -- What the flat code does, from f, where the original, at c, does this next. Of a stuck one nothing is said.
 abbrev pub FlatNext : (m p : Module) → (which : List Bool) → (c f : Configuration) → Next → Type 0

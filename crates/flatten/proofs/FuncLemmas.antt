@@ -1,5 +1,5 @@
 -- Functions of valid modules, flattened.
-use Rattle.std.proofs.Common.{◌≡◌, ℕ, ◌++◌, List, [], ◌∷◌, reverse, map, length, Option, None, Some, slice_get, refl, ap, sym, ◌∙◌, subst, get_or, nat_lt, if◌then◌else◌, Bool, true, false, replicate, length-append, ◌<◌, ◌≤◌, ◌-◌, ◌+◌, ◌^◌, zero, suc, arith}
+use Rattle.std.proofs.Common.{◌≡◌, ℕ, ◌++◌, List, [], ◌∷◌, map, length, Option, None, Some, slice_get, refl, ap, sym, ◌∙◌, subst, get_or, nat_lt, if◌then◌else◌, Bool, true, false, replicate, length-append, ◌<◌, ◌≤◌, ◌-◌, ◌+◌, ◌^◌, zero, suc, arith}
 use Rattle.std.specs.Option.{option_map}
 use Rattle.std.specs.List.{sum_by}
 use Rattle.std.proofs.lemmas.List.Sums.{sum_by-cons}
@@ -20,28 +20,12 @@ use Rattle.wasm_validate.specs.Walk.{outset, TypedAt, Walk}
 use Rattle.wasm_validate.proofs.ContextLemmas.{sort_there}
 use Rattle.wasm_validate.proofs.FuncLemmas.{func_at, number_fits}
 use Rattle.wasm_validate.proofs.WalkUses.{outset_typed}
-use Rattle.flatten.specs.Emitting.{SmallTypes, all_of, label_locals, result_at, flat_at}
+use Rattle.flat_instrs.specs.Emitting.{SmallTypes, result_at, flat_at}
 use Rattle.wa_types.specs.declared.values.ValType.{ValType}
-use Rattle.flat_laws.specs.Flatten.{Names, slots, names, flattened, result_of}
+use Rattle.flat_laws.specs.Flatten.{Names, names, flattened, result_of}
 use Rattle.wa_model.specs.Flat.{FlatFunc, Stmts}
-use Rattle.flatten.specs.Whole.{names_at}
+use Rattle.flat_survey.specs.Surveying.{names_at}
 use Rattle.wa_types.specs.Frames.{Pair, Count}
-use Rattle.flatten.specs.declared.numbers.TypeAt.{TypeAt}
-use Rattle.flatten.specs.Numbers.{pair_of}
-
-pub begin_held : (n : Names) (w : Walk) (ss : List ℕ) → ss ≡ [] → w.own ≡ [] → w.under ≡ [] → reverse ss ≡ slots n (all_of w)
-begin_held n w ss e own under = ap reverse e ∙ sym (ap (λ z. slots n (z ++ w.under)) own ∙ ap (slots n) under)
-
-pub begin_labels : (n : Names) (w : Walk) (given : Option ValType) (old new : List (Option ℕ)) (x : Option ℕ) → old ≡ [] → new ≡ old ++ x ∷ [] → x ≡ result_at n 0 given → w.labels ≡ given ∷ [] → reverse new ≡ label_locals n w.labels
-begin_labels n w given old new x eo en ex el = ap reverse en ∙ ap (λ z. reverse (z ++ x ∷ [])) eo ∙ ap (λ y. y ∷ []) ex ∙ sym (ap (label_locals n) el)
-
-pub ruleset beginning = (begin_held, begin_labels)
-
-pub types_of : (ps : List TypeAt) → map (λ (p : TypeAt). p.ty) ps ≡ map (λ (p : Pair). p.ty) (map pair_of ps)
-types_of [] = refl
-types_of (p ∷ ps) = ap (λ ts. p.ty ∷ ts) (types_of ps)
-
-pub ruleset types_are = (types_of, types_of)
 
 -- ---- a function of a valid module
 
@@ -113,7 +97,7 @@ module _ (v : ModuleValue) (i : ℕ) (f : FuncValue) (lt : i < length v.funcs.it
 abbrev pub mk_flat : ℕ → ℕ → List ValType → Option ℕ → Stmts → FlatFunc
 mk_flat x s ls r b = record { func = x; sort = s; locals = ls; result = r; body = b }
 
-same_one : (f g : Func) (o : Option Func) → o ≡ Some f → o ≡ Some g → f ≡ g
+pub same_one : (f g : Func) (o : Option Func) → o ≡ Some f → o ≡ Some g → f ≡ g
 same_one f g o e h = cc
 
 pub same_names : (m : Module) (f : Func) (n : Names) (w : Walk) (given : Option ValType) (first : ℕ) (k : Code) → n ≡ names_at first w given k → w ≡ outset (around m f) → given ≡ (around m f).result → first ≡ length (locals_of m f) → k ≡ f.body → n ≡ names m f

@@ -1,19 +1,2 @@
-mod BasicLemmas
-mod BodyLemmas
-mod CallLemmas
-mod CarryLemmas
-mod ConstructLemmas
-mod FindLemmas
-mod FuncLemmas
-mod JumpLemmas
-mod LeafLemmas
-mod LocalLemmas
-mod MarkLemmas
-mod NestLemmas
-mod NumberLemmas
-mod OntoLemmas
-mod PositionLemmas
-mod SurveyLemmas
-mod SurveyedLemmas
-mod TakenLemmas
-mod ToldLemmas
+pub mod FuncLemmas
+pub mod ToldLemmas

@@ -1,4 +1,1 @@
-pub mod Emitting
-pub mod Numbers
-pub mod Surveying
 pub mod Whole

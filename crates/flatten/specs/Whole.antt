@@ -1,42 +1,21 @@
 -- What flattening answers.
-use Rattle.std.specs.Prelude.{◌≡◌, ◌⊎◌, ℕ, suc, ◌<◌, ◌≤◌, List, [], ◌∷◌, ◌++◌, drop, Option, Bool, true, false, Result, Ok, Err}
-use Rattle.std.specs.List.{list_any}
-use Rattle.wa_types.specs.declared.values.ValType.{ValType}
-use Rattle.wa_types.specs.Syntax.{Code, Func, Module}
-use Rattle.wa_types.specs.Pruned.{pruned}
-use Rattle.wa_types.specs.Counts.{depth_of}
-use Rattle.wa_types.specs.Points.{points}
-use Rattle.wa_types.specs.Frames.{Pair, Count, stands_at, same_pair, greatest, pairs_from, pair_of, results_in}
-use Rattle.wasm_validate.specs.Walk.{Walk}
-use Rattle.wa_types.specs.Modules.{func_imports}
+use Rattle.std.specs.Prelude.{◌≡◌, ◌⊎◌, ℕ, suc, ◌+◌, length, ◌<◌, ◌≤◌, List, [], ◌∷◌, drop, Bool, true, false, Result, Ok, Err}
+use Rattle.wa_types.specs.Syntax.{Func, Module}
+use Rattle.wa_types.specs.Frames.{Count, SlotPairs}
+use Rattle.wa_types.specs.Modules.{func_imports, locals_of}
 use Rattle.wa_model.specs.FlatView.{flat_func_of, flat_module_of}
-use Rattle.wa_model.specs.declared.flat.FlatFunc.{FlatFunc as FlatFuncValue}
 use Rattle.wa_model.specs.declared.flat.FlatModule.{FlatModule as FlatModuleValue}
-use Rattle.flat_laws.specs.Flatten.{Names, flattened}
+use Rattle.flat_laws.specs.Flatten.{flattened}
 use Rattle.flat_laws.specs.FlatModule.{flats_of}
+use Rattle.flatten.specs.declared.whole.Flattened.{Flattened}
 use Rattle.flatten.specs.declared.fault.FlatFault.{FlatFault}
 use Rattle.flatten.specs.declared.fault.FlatFault.TheVariants.{Memory, Locals}
 
--- the points of pruned code where a walk stands
-abbrev pub points_at : Walk → Code → List (List ValType)
-points_at w k = points w.around w.labels (pruned k) w.under w.own
-
-abbrev pub results_at : Option ValType → Code → List Pair
-results_at given k = pair_of 0 given ++ results_in 1 (pruned k)
-
--- The slots and result locals of a body, from this local on, of a function with this result.
-abbrev pub names_at : ℕ → Walk → Option ValType → Code → Names
-names_at first w given k = record {
-  first = first;
-  slots = pairs_from (λ h t. list_any (stands_at h t) (points_at w k)) 0 (greatest (points_at w k));
-  results = pairs_from (λ d t. list_any (same_pair d t) (results_at given k)) 0 (suc (depth_of (pruned k)));
-}
-
--- ---- functions
-
 -- What flattening answers of one function, of this index.
-abbrev pub FlatAnswer : Module → ℕ → Func → Result FlatFuncValue FlatFault → Type 0
-FlatAnswer m x f (Ok v) = (flat_func_of v ≡ flattened m x f) × (Count m f ≤ 50000)
+abbrev pub FlatAnswer : Module → ℕ → Func → Result Flattened FlatFault → Type 0
+FlatAnswer m x f (Ok v) =
+    (flat_func_of v.func ≡ flattened m x f) × (Count m f ≤ 50000)
+    × (v.first_slot ≡ length (locals_of m f)) × (v.first_result ≡ length (locals_of m f) + length (SlotPairs m f))
 FlatAnswer m x f (Err Memory) = Unit {0}
 FlatAnswer m x f (Err (Locals func count)) = (func ≡ x) × (count ≡ Count m f) × (50000 < Count m f)
 

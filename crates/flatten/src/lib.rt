@@ -2,19 +2,8 @@
 //! statements.
 #![tactic(auto)]
 
-mod body;
-mod calls;
-mod constructs;
 mod fault;
-mod find;
-mod jumps;
-mod leaves;
-mod locals;
-mod marks;
-mod numbers;
-mod position;
-mod survey;
 mod whole;
 
 pub use fault::FlatFault;
-pub use whole::flatten;
+pub use whole::{Flattened, flatten, flatten_func};

@@ -19,12 +19,13 @@ use Rattle.guard_form.proofs.UnitLemmas.{Some_unit, arm_is}
 use Rattle.flow_rewrite.specs.declared.guards.Guards.{Guards}
 use Rattle.flow_rewrite.specs.declared.sequence.Sequence.{Sequence}
 use Rattle.flow_rewrite.specs.declared.sequence.Part.{Part}
-use Rattle.flow_rewrite.specs.Raising.{Raisable}
-use Rattle.flow_rewrite.specs.Statements.{with_rest, one_code, one_place, one_holds, Fits}
-use Rattle.flow_rewrite.specs.Emitting.{Puts, indices, first_of, written_with, Same, Good, Settled, IsPart, Stepped}
-use Rattle.flow_rewrite.proofs.StmtLemmas.{if_true, if_false}
-use Rattle.flow_rewrite.proofs.FitLemmas.{raisable_puts, one_raisable}
-use Rattle.flow_rewrite.proofs.PutLemmas.{put_one}
+use Rattle.flat_pieces.specs.Raising.{Raisable}
+use Rattle.flat_pieces.specs.Statements.{with_rest, one_code, one_place, one_holds, Fits}
+use Rattle.flat_pieces.specs.Putting.{Puts}
+use Rattle.flow_rewrite.specs.Emitting.{indices, first_of, written_with, Same, Good, Settled, IsPart, Stepped}
+use Rattle.flat_pieces.proofs.StmtLemmas.{if_true, if_false}
+use Rattle.flat_pieces.proofs.FitLemmas.{raisable_puts, one_raisable}
+use Rattle.flat_pieces.proofs.PutLemmas.{put_one}
 use Rattle.flow_rewrite.proofs.SequenceLemmas.{step_piece, raisable_none}
 
 pub or_false : (x y : Bool) → (x || y) ≡ false → (x ≡ false) × (y ≡ false)
@@ -46,7 +47,8 @@ none_held ps n (calls op stack args to rest) h = by (numbered ps n op) h (none_h
 none_held ps n (leaps l rest) h = none_held ps n rest h
 none_held ps n (leaps_if c l rest) h = none_held ps n rest h
 none_held ps n (leaps_by o ls l rest) h = none_held ps n rest h
-none_held ps n (nests y body rest) h = let o = or_false (holds_call ps n body) (holds_call ps (n + call_total body) rest) h in if_false (holds_call ps n body) _ _ o.0 ∙ none_held ps (n + call_total body) rest o.1
+none_held ps n (nests y body rest) h = let o = or_false (holds_call ps n body) (holds_call ps (n + call_total body) rest) h in if_false (holds_call ps n body) _ _ o.0
+    ∙ none_held ps (n + call_total body) rest o.1
 none_held ps n (decides c a b rest) h =
     let o = or_false (holds_call ps n a || holds_call ps (n + call_total a) b) (holds_call ps (n + call_total a + call_total b) rest) h in
     if_false (holds_call ps n a || holds_call ps (n + call_total a) b) _ _ o.0 ∙ none_held ps (n + call_total a + call_total b) rest o.1
@@ -85,7 +87,8 @@ true_or false y e = e
 
 -- ---- a block or a loop with a numbered call
 
-module _ (g : Guards) (d : ℕ) (a0 a b : Sequence) (y : Shape) (body : Stmts) (p : Part) (st : Settled a0 a) (part : IsPart (indices g) g.numbers.items (suc d) a0.place a0.number body p) (is_held : p.held ≡ true) (puts : Puts a.out.items b.out.items (λ c. guarded (indices g) (code a.piece.items) (nest y None (code p.code.items) c)))
+module _ (g : Guards) (d : ℕ) (a0 a b : Sequence) (y : Shape) (body : Stmts) (p : Part) (st : Settled a0 a) (part : IsPart (indices g) g.numbers.items (suc d) a0.place a0.number body p)
+    (is_held : p.held ≡ true) (puts : Puts a.out.items b.out.items (λ c. guarded (indices g) (code a.piece.items) (nest y None (code p.code.items) c)))
     (behind : b.behind ≡ false) (piece : b.piece.items ≡ []) (held : b.held ≡ true) (place : b.place ≡ p.place) (number : b.number ≡ p.number) (good : Good b) where
   abbrev i : GuardIndices
   i = indices g
@@ -124,11 +127,14 @@ module _ (g : Guards) (d : ℕ) (a0 a b : Sequence) (y : Shape) (body : Stmts) (
       let behind_code = front i d (k + numbers_in (units ps n body)) (first_piece ps m s) (units ps m s) in
       let one : written_with i ps d a (nests y body s)
       ≡ onto a.out.items (guarded i (code a.piece.items) (nest y None (front i (suc d) k (first_piece ps n body) (units ps n body)) behind_code)) =
-      (λ j. onto a.out.items (if st.closed j then nest a_block None (onto a.call.items (raised 0 1 (first_of ps a (nests y body s)))) (front i d a.number done (units ps a.place (nests y body s))) else front i d (st.number j) (fa j) (ua j))) in
+      (λ j. onto a.out.items (if st.closed j then nest a_block None (onto a.call.items (raised 0 1 (first_of ps a (nests y body s))))
+      (front i d a.number done (units ps a.place (nests y body s))) else front i d (st.number j) (fa j) (ua j))) in
       let two : written_with i ps d b s ≡ onto b.out.items behind_code =
-      (λ j. onto b.out.items (if behind j then nest a_block None (onto b.call.items (raised 0 1 (first_of ps b s))) (front i d b.number done (units ps b.place s)) else front i d (nu j) (fb j) (units ps (pl j) s))) in
+      (λ j. onto b.out.items (if behind j then nest a_block None (onto b.call.items (raised 0 1 (first_of ps b s))) (front i d b.number done (units ps b.place s)) else front i d (nu j)
+      (fb j) (units ps (pl j) s))) in
       record {
-        written = sm.written ∙ one ∙ sym (two ∙ puts behind_code ∙ ap (λ z. onto a.out.items (guarded i (code a.piece.items) (nest y None z behind_code))) (part_held i ps (suc d) n k body p part is_held));
+        written = sm.written ∙ one ∙ sym (two ∙ puts behind_code ∙ ap (λ z. onto a.out.items (guarded i (code a.piece.items) (nest y None z behind_code)))
+            (part_held i ps (suc d) n k body p part is_held));
         held = true_or a0.held _ (ap (λ z. z || holds_call ps m s) there) ∙ sym (ap (λ z. z || holds_call ps b.place s) held);
         plainly = λ e. absurd (not_both b.held held e);
         numbers = ap (λ us. k + numbers_in us) (unit s) ∙ three k (numbers_in (units ps n body)) (numbers_in (units ps m s)) ∙ (λ j. sym nu j + numbers_in (units ps (sym pl j) s));
@@ -185,21 +191,26 @@ numbers_few ps n (leaps_by o ls l rest) = numbers_few ps n rest
 numbers_few ps n (nests y body rest) = by (holds_call ps n body) (numbers_few ps n body) (numbers_few ps (n + call_total body) rest)
   where
     by : (b : Bool) → numbers_in (units ps n body) ≤ call_total body → numbers_in (units ps (n + call_total body) rest) ≤ call_total rest
-        → numbers_in (if b then nest_unit y (first_piece ps n body) (units ps n body) (first_piece ps (n + call_total body) rest) (units ps (n + call_total body) rest) else units ps (n + call_total body) rest) ≤ call_total body + call_total rest
+        → numbers_in (if b then nest_unit y (first_piece ps n body) (units ps n body) (first_piece ps (n + call_total body) rest) (units ps (n + call_total body) rest) else units ps
+        (n + call_total body) rest) ≤ call_total body + call_total rest
     by true ib ih = omega arith
     by false ib ih = omega arith
-numbers_few ps n (decides c a b rest) = by (holds_call ps n a || holds_call ps (n + call_total a) b) (numbers_few ps n a) (numbers_few ps (n + call_total a) b) (numbers_few ps (n + call_total a + call_total b) rest)
+numbers_few ps n (decides c a b rest) = by (holds_call ps n a || holds_call ps (n + call_total a) b) (numbers_few ps n a) (numbers_few ps (n + call_total a) b)
+    (numbers_few ps (n + call_total a + call_total b) rest)
   where
     by : (z : Bool) → numbers_in (units ps n a) ≤ call_total a → numbers_in (units ps (n + call_total a) b) ≤ call_total b
         → numbers_in (units ps (n + call_total a + call_total b) rest) ≤ call_total rest
-        → numbers_in (if z then if_unit c (first_piece ps n a) (units ps n a) (first_piece ps (n + call_total a) b) (units ps (n + call_total a) b) (first_piece ps (n + call_total a + call_total b) rest) (units ps (n + call_total a + call_total b) rest) else units ps (n + call_total a + call_total b) rest) ≤ call_total a + call_total b + call_total rest
+        → numbers_in (if z then if_unit c (first_piece ps n a) (units ps n a) (first_piece ps (n + call_total a) b) (units ps (n + call_total a) b)
+        (first_piece ps (n + call_total a + call_total b) rest) (units ps (n + call_total a + call_total b) rest) else units ps (n + call_total a + call_total b) rest) ≤ call_total
+        a + call_total b + call_total rest
     by true ia ib ih = omega arith
     by false ia ib ih = omega arith
 numbers_few ps n (halts rest) = numbers_few ps n rest
 
 -- behind a unit the sequence is good again
 pub good_behind : (b : Sequence) (n k total numbers : ℕ) → b.behind ≡ false → b.piece.items ≡ [] → b.place ≡ n + total → b.number ≡ k + numbers → k ≤ n → numbers ≤ total → Good b
-good_behind b n k total numbers closed piece place number le few = record { behind_held = λ e. absurd (not_both b.behind e closed); piece = raisable_none b.piece.items piece; few = omega (arith, place, number, le, few) }
+good_behind b n k total numbers closed piece place number le few = record
+    { behind_held = λ e. absurd (not_both b.behind e closed); piece = raisable_none b.piece.items piece; few = omega (arith, place, number, le, few) }
 
 -- ---- blocks and loops, as they are put
 
@@ -209,7 +220,8 @@ pub nest_free : (g : Guards) (d : ℕ) (a b : Sequence) (y : Shape) (body : Stmt
     → b.place ≡ p.place → b.piece.items ≡ a.piece.items ++ x ∷ [] → ((c : Code) → in_front x c ≡ nest y None (code p.code.items) c) → Stepped g d a b (nests y body)
 nest_free g d a b y body p x part plain_ good fits out behind block held number place pushed is =
     piece_stepped g d a b (nests y body no_more) (sym part.held ∙ plain_) good fits out behind block held number (place ∙ part.place)
-    (put_one a.piece.items b.piece.items x (λ c. nest y None (code_of body) c) pushed (λ c. is c ∙ ap (λ z. nest y None z c) (part_plain (indices g) g.numbers.items (suc d) a.place a.number body p part plain_)))
+    (put_one a.piece.items b.piece.items x (λ c. nest y None (code_of body) c) pushed
+    (λ c. is c ∙ ap (λ z. nest y None z c) (part_plain (indices g) g.numbers.items (suc d) a.place a.number body p part plain_)))
 
 pub nest_held : (g : Guards) (d : ℕ) (a0 a b : Sequence) (y : Shape) (body : Stmts) (p : Part) (mid : List Instr) (x : Instr) → Good a0 → Settled a0 a
     → IsPart (indices g) g.numbers.items (suc d) a0.place a0.number body p → p.held ≡ true → Puts a.out.items mid (guarded (indices g) (code a.piece.items))
@@ -218,8 +230,10 @@ pub nest_held : (g : Guards) (d : ℕ) (a0 a b : Sequence) (y : Shape) (body : S
     → Stepped g d a0 b (nests y body)
 nest_held g d a0 a b y body p mid x good0 st part is_held p1 pushed is behind piece held place number =
     let closed = behind ∙ st.closed in
-    nest_stepped g d a0 a b y body p st part is_held (λ c. put_one mid b.out.items x (λ z. nest y None (code p.code.items) z) pushed is c ∙ p1 (nest y None (code p.code.items) c)) closed piece held place number
-    (good_behind b a0.place a0.number (call_total body) (numbers_in (units g.numbers.items a0.place body)) closed piece (place ∙ part.place) (number ∙ part.number) good0.few (numbers_few g.numbers.items a0.place body))
+    nest_stepped g d a0 a b y body p st part is_held (λ c. put_one mid b.out.items x (λ z. nest y None (code p.code.items) z) pushed is c ∙ p1 (nest y None (code p.code.items) c))
+    closed piece held place number
+    (good_behind b a0.place a0.number (call_total body) (numbers_in (units g.numbers.items a0.place body)) closed piece (place ∙ part.place) (number ∙ part.number) good0.few
+    (numbers_few g.numbers.items a0.place body))
 
 -- ---- an `if`
 

@@ -11,11 +11,12 @@ use Rattle.guard_form.specs.Pieces.{call_total, first_piece, units}
 use Rattle.guard_form.specs.Guarded.{GuardIndices, guarded, guarded_code, front}
 use Rattle.flow_rewrite.specs.declared.guards.Guards.{Guards}
 use Rattle.flow_rewrite.specs.declared.sequence.Part.{Part}
-use Rattle.flow_rewrite.specs.Raising.{Raisable}
-use Rattle.flow_rewrite.specs.Emitting.{Puts, Rises, indices, IsPart, Ready}
-use Rattle.flow_rewrite.proofs.StmtLemmas.{if_true, if_false}
+use Rattle.flat_pieces.specs.Raising.{Raisable}
+use Rattle.flat_pieces.specs.Putting.{Puts}
+use Rattle.flow_rewrite.specs.Emitting.{Rises, indices, IsPart, Ready}
+use Rattle.flat_pieces.proofs.StmtLemmas.{if_true, if_false}
 use Rattle.flow_rewrite.proofs.ConstructSteps.{part_held, part_plain, part_none, first_is}
-use Rattle.flow_rewrite.proofs.FitLemmas.{whole_raisable}
+use Rattle.flat_pieces.proofs.FitLemmas.{whole_raisable}
 
 pub func_ready : (g : Guards) (f : FlatFunc) → g.index ≡ length f.locals → Rises g.numbers.items → FlatFits f → call_total f.body < 2 ^ 32 → Ready g 0 0 0 f.body
 func_ready g f e rises fits room =
@@ -26,7 +27,8 @@ pub whole_is : (g : Guards) (f : FlatFunc) (p : Part) (body : Code) → g.index 
     → body ≡ (if p.held then code p.code.items else guarded (indices g) (code p.code.items) done) → body ≡ guarded_code g.state g.numbers.items f
 whole_is g f p body e part is = is ∙ by p.held refl ∙ ap (λ n. front (record { state = g.state; index = n }) 0 0 (first_piece g.numbers.items 0 f.body) (units g.numbers.items 0 f.body)) e
   where
-    by : (b : Bool) → p.held ≡ b → (if p.held then code p.code.items else guarded (indices g) (code p.code.items) done) ≡ front (indices g) 0 0 (first_piece g.numbers.items 0 f.body) (units g.numbers.items 0 f.body)
+    by : (b : Bool) → p.held ≡ b → (if p.held then code p.code.items else guarded (indices g) (code p.code.items) done) ≡ front (indices g) 0 0 (first_piece g.numbers.items 0 f.body)
+        (units g.numbers.items 0 f.body)
     by true h = if_true p.held _ _ h ∙ part_held (indices g) g.numbers.items 0 0 0 f.body p part h
     by false h =
         if_false p.held _ _ h ∙ ap (λ c. guarded (indices g) c done) (part_plain (indices g) g.numbers.items 0 0 0 f.body p part h ∙ sym (first_is g.numbers.items 0 f.body (sym part.held ∙ h)))
@@ -34,7 +36,8 @@ whole_is g f p body e part is = is ∙ by p.held refl ∙ ap (λ n. front (recor
 
 pub part_raisable : (g : Guards) (f : FlatFunc) (p : Part) → IsPart (indices g) g.numbers.items 0 0 0 f.body p → Ready g 0 0 0 f.body → p.held ≡ false
     → Raisable 0 1 (code p.code.items)
-part_raisable g f p part rd h = subst (Raisable 0 1) (sym (part_plain (indices g) g.numbers.items 0 0 0 f.body p part h)) (let r = whole_raisable g.index 0 f.body rd.fits in record { few = omega arith; labels = r.labels; shallow = r.shallow })
+part_raisable g f p part rd h = subst (Raisable 0 1) (sym (part_plain (indices g) g.numbers.items 0 0 0 f.body p part h))
+    (let r = whole_raisable g.index 0 f.body rd.fits in record { few = omega arith; labels = r.labels; shallow = r.shallow })
 
 pub alone_is : (i : GuardIndices) (old new xs ys : List Instr) → old ≡ [] → Puts old new (guarded i (code xs)) → xs ≡ ys → code new ≡ guarded i (code ys) done
 alone_is i old new xs ys e puts q = sym (onto_done new) ∙ puts done ∙ ap (λ z. onto z (guarded i (code xs) done)) e ∙ onto_none (guarded i (code xs) done) ∙ ap (λ z. guarded i (code z) done) q

@@ -14,10 +14,11 @@ use Rattle.guard_form.proofs.UnitLemmas.{Some_unit, choice_is, choice_one, choic
 use Rattle.flow_rewrite.specs.declared.guards.Guards.{Guards}
 use Rattle.flow_rewrite.specs.declared.sequence.Sequence.{Sequence}
 use Rattle.flow_rewrite.specs.declared.sequence.Part.{Part}
-use Rattle.flow_rewrite.specs.Statements.{Fits}
-use Rattle.flow_rewrite.specs.Emitting.{Puts, indices, first_of, written_with, Same, Good, Settled, IsPart, Stepped, choice_code}
-use Rattle.flow_rewrite.proofs.StmtLemmas.{if_true}
-use Rattle.flow_rewrite.proofs.PutLemmas.{put_one}
+use Rattle.flat_pieces.specs.Statements.{Fits}
+use Rattle.flat_pieces.specs.Putting.{Puts}
+use Rattle.flow_rewrite.specs.Emitting.{indices, first_of, written_with, Same, Good, Settled, IsPart, Stepped, choice_code}
+use Rattle.flat_pieces.proofs.StmtLemmas.{if_true}
+use Rattle.flat_pieces.proofs.PutLemmas.{put_one}
 use Rattle.flow_rewrite.proofs.ConstructSteps.{or_false, not_both, true_or, part_some, part_none, part_plain, part_arm, piece_stepped, numbers_few, good_behind, condition_is}
 
 choice_by : (i : GuardIndices) (k : ℕ) (ua ub : Units) (b1 b2 : Bool) → (b1 ≡ true → Some_unit ua) → (b1 ≡ false → ua ≡ no_unit) → (b2 ≡ true → Some_unit ub)
@@ -26,8 +27,11 @@ choice_by i k ua ub b1 false sa na sb nb = ap (choice i k ua) (nb refl) ∙ choi
 choice_by i k ua ub false true sa na sb nb = ap (λ z. choice i k z ub) (na refl) ∙ choice_two i k ub (sb refl)
 choice_by i k ua ub true true sa na sb nb = choice_is i k ua ub (sa refl) (sb refl)
 
-module _ (g : Guards) (d : ℕ) (a0 a b : Sequence) (o : Operand) (sa sb : Stmts) (p q : Part) (mid l1 chosen piece : List Instr) (x : Instr) (good0 : Good a0) (st : Settled a0 a) (part1 : IsPart (indices g) g.numbers.items (suc d) a0.place a0.number sa p) (part : IsPart (indices g) g.numbers.items (suc d) p.place p.number sb q) (either : (p.held || q.held) ≡ true)
-    (p0 : Puts a.piece.items mid (got o)) (raised_is : code piece ≡ raised 0 1 (code mid)) (chosen_is : code chosen ≡ choice_code (indices g) p.held q.held p.number) (p1 : Puts a.out.items l1 (λ c. plain (basic (global_get g.state)) (branch (Some I32) (code chosen) (code piece) c))) (pushed : b.out.items ≡ l1 ++ x ∷ []) (is : (c : Code) → in_front x c ≡ branch None (code p.code.items) (code q.code.items) c)
+module _ (g : Guards) (d : ℕ) (a0 a b : Sequence) (o : Operand) (sa sb : Stmts) (p q : Part) (mid l1 chosen piece : List Instr) (x : Instr) (good0 : Good a0) (st : Settled a0 a)
+    (part1 : IsPart (indices g) g.numbers.items (suc d) a0.place a0.number sa p) (part : IsPart (indices g) g.numbers.items (suc d) p.place p.number sb q) (either : (p.held || q.held) ≡ true)
+    (p0 : Puts a.piece.items mid (got o)) (raised_is : code piece ≡ raised 0 1 (code mid)) (chosen_is : code chosen ≡ choice_code (indices g) p.held q.held p.number)
+    (p1 : Puts a.out.items l1 (λ c. plain (basic (global_get g.state)) (branch (Some I32) (code chosen) (code piece) c))) (pushed : b.out.items ≡ l1 ++ x ∷ [])
+    (is : (c : Code) → in_front x c ≡ branch None (code p.code.items) (code q.code.items) c)
     (behind : b.behind ≡ a.behind) (none : b.piece.items ≡ []) (held : b.held ≡ true) (place : b.place ≡ q.place) (number : b.number ≡ q.number) where
   abbrev i : GuardIndices
   i = indices g
@@ -71,7 +75,8 @@ module _ (g : Guards) (d : ℕ) (a0 a b : Sequence) (o : Operand) (sa sb : Stmts
   chosen_too : code chosen ≡ choice i k ua ub
   chosen_too =
       chosen_is ∙ ap (λ z. choice_code i p.held q.held z) part1.number
-      ∙ sym (choice_by i k ua ub p.held q.held (part_some i ps (suc d) n k sa p part1) (part_none i ps (suc d) n k sa p part1) (part_some i ps (suc d) n2 k2 sb q part2) (part_none i ps (suc d) n2 k2 sb q part2))
+      ∙ sym (choice_by i k ua ub p.held q.held (part_some i ps (suc d) n k sa p part1) (part_none i ps (suc d) n k sa p part1) (part_some i ps (suc d) n2 k2 sb q part2)
+      (part_none i ps (suc d) n2 k2 sb q part2))
 
   if_same : (s : Stmts) → Same i ps d a0 (decides o sa sb s) b s
   if_same s =
@@ -86,10 +91,13 @@ module _ (g : Guards) (d : ℕ) (a0 a b : Sequence) (o : Operand) (sa sb : Stmts
       let behind_code = front i d (k + numbers_in ua + numbers_in ub) (first_piece ps m s) (units ps m s) in
       let arm_a = arm ua (first_piece ps n sa) (front i (suc d) k (first_piece ps n sa) ua) in
       let arm_b = arm ub (first_piece ps n2 sb) (front i (suc d) k2 (first_piece ps n2 sb) ub) in
-      let one : written_with i ps d a u ≡ onto a.out.items (plain (basic (global_get g.state)) (branch (Some I32) (choice i k ua ub) (raised 0 1 (followed_by (code a.piece.items) (got o done))) (branch None arm_a arm_b behind_code))) =
-      (λ j. onto a.out.items (if st.closed j then nest a_block None (onto a.call.items (raised 0 1 (first_of ps a u))) (front i d a.number done (units ps a.place u)) else front i d (st.number j) (fa j) (us j))) in
+      let one : written_with i ps d a u ≡ onto a.out.items (plain (basic (global_get g.state))
+      (branch (Some I32) (choice i k ua ub) (raised 0 1 (followed_by (code a.piece.items) (got o done))) (branch None arm_a arm_b behind_code))) =
+      (λ j. onto a.out.items (if st.closed j then nest a_block None (onto a.call.items (raised 0 1 (first_of ps a u))) (front i d a.number done (units ps a.place u)) else front i d
+      (st.number j) (fa j) (us j))) in
       let two : written_with i ps d b s ≡ onto b.out.items behind_code =
-      (λ j. onto b.out.items (if closed j then nest a_block None (onto b.call.items (raised 0 1 (first_of ps b s))) (front i d b.number done (units ps b.place s)) else front i d (nu j) (fb j) (units ps (pl j) s))) in
+      (λ j. onto b.out.items (if closed j then nest a_block None (onto b.call.items (raised 0 1 (first_of ps b s))) (front i d b.number done (units ps b.place s)) else front i d (nu j)
+      (fb j) (units ps (pl j) s))) in
       let three : onto b.out.items behind_code
       ≡ onto a.out.items (plain (basic (global_get g.state)) (branch (Some I32) (code chosen) (code piece) (branch None (code p.code.items) (code q.code.items) behind_code))) =
       put_one l1 b.out.items x (λ z. branch None (code p.code.items) (code q.code.items) z) pushed is behind_code ∙ p1 (branch None (code p.code.items) (code q.code.items) behind_code) in
@@ -109,7 +117,8 @@ module _ (g : Guards) (d : ℕ) (a0 a b : Sequence) (o : Operand) (sa sb : Stmts
 
   pub if_held : Stepped g d a0 b (decides o sa sb)
   if_held = record {
-    good = good_behind b n k (call_total sa + call_total sb) (numbers_in ua + numbers_in ub) (behind ∙ st.closed) none (place ∙ part2.place ∙ omega arith) (number ∙ part2.number ∙ omega arith) good0.few (let x = numbers_few ps n sa in let y = numbers_few ps n2 sb in omega arith);
+    good = good_behind b n k (call_total sa + call_total sb) (numbers_in ua + numbers_in ub) (behind ∙ st.closed) none (place ∙ part2.place ∙ omega arith)
+        (number ∙ part2.number ∙ omega arith) good0.few (let x = numbers_few ps n sa in let y = numbers_few ps n2 sb in omega arith);
     same = if_same;
   }
 
@@ -126,4 +135,5 @@ if_free g d a b o sa sb p q mid x part1 part neither good fits out behind block 
     let ca = part_plain i ps (suc d) a.place a.number sa p part1 h.0 in
     let cb = part_plain i ps (suc d) (a.place + call_total sa) p.number sb q part2 h.1 in
     piece_stepped g d a b (decides o sa sb no_more) ((λ j. sym part1.held j || sym part2.held j) ∙ neither) good fits out behind block held number (place ∙ part2.place)
-    (λ c. put_one mid b.piece.items x (λ z. branch None (code p.code.items) (code q.code.items) z) pushed is c ∙ p0 (branch None (code p.code.items) (code q.code.items) c) ∙ (λ j. onto a.piece.items (got o (branch None (ca j) (cb j) c))))
+    (λ c. put_one mid b.piece.items x (λ z. branch None (code p.code.items) (code q.code.items) z) pushed is c ∙ p0 (branch None (code p.code.items) (code q.code.items) c)
+    ∙ (λ j. onto a.piece.items (got o (branch None (ca j) (cb j) c))))

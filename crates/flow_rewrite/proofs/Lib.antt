@@ -1,12 +1,7 @@
-pub mod FitLemmas
 pub mod NumberLemmas
-pub mod PutLemmas
-pub mod RaiseLemmas
 pub mod SequenceLemmas
-pub mod StmtLemmas
 pub mod UnitSteps
 pub mod ConstructSteps
 pub mod IfSteps
 pub mod WalkSteps
 pub mod GuardLemmas
-pub mod NumberingLemmas

@@ -25,6 +25,8 @@ rises_weakly xs h i j le lt =
 pub place_found : (xs : List ℕ) (x : ℕ) (r : Result ℕ ℕ) → IsBinarySearchResult (λ y. nat_cmp y x) xs r → Rises xs → is_ok r ≡ is_place xs x
 place_found xs x r is rises = by r (searched xs x r is (rises_weakly xs rises))
   where
-    by : (r : Result ℕ ℕ) → MatchResult r (λ i. (i < length xs) × (get_or xs i 0 ≡ x)) (λ i. (i ≤ length xs) × ((k : ℕ) → k < i → get_or xs k 0 < x) × ((k : ℕ) → i ≤ k → k < length xs → x < get_or xs k 0)) → is_ok r ≡ is_place xs x
+    by : (r : Result ℕ ℕ) → MatchResult r (λ i. (i < length xs) × (get_or xs i 0 ≡ x))
+        (λ i. (i ≤ length xs) × ((k : ℕ) → k < i → get_or xs k 0 < x) × ((k : ℕ) → i ≤ k → k < length xs → x < get_or xs k 0)) → is_ok r ≡ is_place xs x
     by (Ok i) h = sym (list_any_at (λ p. nat_eq p x) xs i 0 h.0 (eq_true (get_or xs i 0) x h.1))
-    by (Err i) h = sym (none_there xs x (λ k lt. ⊎_elim (λ less. let q = h.1 k less in (λ e. absurd (omega (arith, e, q)))) (λ ge. let q = h.2 k ge lt in (λ e. absurd (omega (arith, e, q)))) (cases_lt k i)))
+    by (Err i) h = sym (none_there xs x (λ k lt. ⊎_elim (λ less. let q = h.1 k less in (λ e. absurd (omega (arith, e, q))))
+        (λ ge. let q = h.2 k ge lt in (λ e. absurd (omega (arith, e, q)))) (cases_lt k i)))

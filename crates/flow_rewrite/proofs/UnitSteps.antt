@@ -19,10 +19,11 @@ use Rattle.guard_form.specs.Guarded.{GuardIndices, index_with, raised, sought, n
 use Rattle.guard_form.specs.Grouping.{is_place}
 use Rattle.flow_rewrite.specs.declared.guards.Guards.{Guards}
 use Rattle.flow_rewrite.specs.declared.sequence.Sequence.{Sequence}
-use Rattle.flow_rewrite.specs.Statements.{one_code, Fits}
-use Rattle.flow_rewrite.specs.Emitting.{Puts, indices, first_of, written_with, Same, Good, Settled, Stepped}
-use Rattle.flow_rewrite.proofs.PutLemmas.{put_one, br_if_is}
-use Rattle.flow_rewrite.proofs.FitLemmas.{raisable_puts, one_raisable}
+use Rattle.flat_pieces.specs.Statements.{one_code, Fits}
+use Rattle.flat_pieces.specs.Putting.{Puts}
+use Rattle.flow_rewrite.specs.Emitting.{indices, first_of, written_with, Same, Good, Settled, Stepped}
+use Rattle.flat_pieces.proofs.PutLemmas.{put_one, br_if_is}
+use Rattle.flat_pieces.proofs.FitLemmas.{raisable_puts, one_raisable}
 use Rattle.flow_rewrite.proofs.SequenceLemmas.{same_on, step_piece, raisable_none}
 
 pub taken_is : (xs : List ℕ) (args kept : ℕ) → args ≤ length xs → kept + args ≡ length xs → take (length xs - kept) (drop kept xs) ≡ last_of args xs
@@ -65,8 +66,11 @@ free_stepped g d a b op stack args to free good fits out behind block held numbe
     }
 
 -- a numbered call, where no block is open
-module _ (g : Guards) (d : ℕ) (a0 a b : Sequence) (op : Code) (x : Callee) (stack : List ℕ) (args : ℕ) (to : Option ℕ) (st : Settled a0 a) (is : op ≡ plain (call_to x) done) (there : is_place g.numbers.items a0.place ≡ true) (out : b.out.items ≡ a.out.items) (behind : b.behind ≡ true) (piece : b.piece.items ≡ []) (held : b.held ≡ true) (place : b.place ≡ a.place + 1) (number : b.number ≡ a.number + 1)
-    (block : (c : Code) → onto b.call.items c ≡ sought (indices g) a.number (code a.piece.items) (slots_got (last_of args stack) (plain (call_to x) (noted (indices g) d a.number (set_to to c))))) where
+module _ (g : Guards) (d : ℕ) (a0 a b : Sequence) (op : Code) (x : Callee) (stack : List ℕ) (args : ℕ) (to : Option ℕ) (st : Settled a0 a) (is : op ≡ plain (call_to x) done)
+    (there : is_place g.numbers.items a0.place ≡ true) (out : b.out.items ≡ a.out.items) (behind : b.behind ≡ true) (piece : b.piece.items ≡ []) (held : b.held ≡ true)
+    (place : b.place ≡ a.place + 1) (number : b.number ≡ a.number + 1)
+    (block : (c : Code) → onto b.call.items c ≡ sought (indices g) a.number (code a.piece.items)
+    (slots_got (last_of args stack) (plain (call_to x) (noted (indices g) d a.number (set_to to c))))) where
   abbrev ps : List ℕ
   ps = g.numbers.items
 
@@ -84,17 +88,21 @@ module _ (g : Guards) (d : ℕ) (a0 a b : Sequence) (op : Code) (x : Callee) (st
       let pl : b.place ≡ suc a.place = place ∙ omega arith in
       let nu : b.number ≡ suc a.number = number ∙ omega arith in
       let fa : first_of ps a (calls op stack args to s)
-      ≡ code a.piece.items = ap (λ o. onto a.piece.items (piece_call o (slots_got (last_of args stack) (followed_by op (set_to to (first_piece ps (suc a.place) s)))))) some ∙ onto_done a.piece.items in
+      ≡ code a.piece.items = ap (λ o. onto a.piece.items (piece_call o (slots_got (last_of args stack) (followed_by op (set_to to (first_piece ps (suc a.place) s)))))) some
+      ∙ onto_done a.piece.items in
       let ua = ap (λ o. unit_call o (last_of args stack) to (first_piece ps (suc a.place) s) (units ps (suc a.place) s)) some in
       let fb : first_of ps b s ≡ first_piece ps (suc a.place) s = (λ j. onto (piece j) (first_piece ps (pl j) s)) ∙ onto_none (first_piece ps (suc a.place) s) in
       let one : written_with (indices g) ps d a (calls op stack args to s)
       ≡ onto a.out.items (front (indices g) d a.number (code a.piece.items) (unit_call (Some x) (last_of args stack) to (first_piece ps (suc a.place) s) (units ps (suc a.place) s))) =
-      (λ j. onto a.out.items (if st.closed j then nest a_block None (onto a.call.items (raised 0 1 (first_of ps a (calls op stack args to s)))) (front (indices g) d a.number done (units ps a.place (calls op stack args to s))) else front (indices g) d a.number (fa j) (ua j))) in
+      (λ j. onto a.out.items (if st.closed j then nest a_block None (onto a.call.items (raised 0 1 (first_of ps a (calls op stack args to s))))
+      (front (indices g) d a.number done (units ps a.place (calls op stack args to s))) else front (indices g) d a.number (fa j) (ua j))) in
       let two : written_with (indices g) ps d b s
       ≡ onto a.out.items (nest a_block None (onto b.call.items (raised 0 1 (first_piece ps (suc a.place) s))) (front (indices g) d (suc a.number) done (units ps (suc a.place) s))) =
-      (λ j. onto (out j) (if behind j then nest a_block None (onto b.call.items (raised 0 1 (fb j))) (front (indices g) d (nu j) done (units ps (pl j) s)) else front (indices g) d b.number (first_of ps b s) (units ps b.place s))) in
+      (λ j. onto (out j) (if behind j then nest a_block None (onto b.call.items (raised 0 1 (fb j))) (front (indices g) d (nu j) done (units ps (pl j) s)) else front
+      (indices g) d b.number (first_of ps b s) (units ps b.place s))) in
       record {
-        written = one ∙ sym (two ∙ ap (λ z. onto a.out.items (nest a_block None z (front (indices g) d (suc a.number) done (units ps (suc a.place) s)))) (block (raised 0 1 (first_piece ps (suc a.place) s))));
+        written = one ∙ sym (two ∙ ap (λ z. onto a.out.items (nest a_block None z (front (indices g) d (suc a.number) done (units ps (suc a.place) s))))
+            (block (raised 0 1 (first_piece ps (suc a.place) s))));
         held = true_or a.held _ (ap (λ o. is_some o || holds_call ps (suc a.place) s) some) ∙ sym (ap (λ z. z || holds_call ps b.place s) held);
         plainly = λ e. absurd (not_both b.held held e);
         numbers = ap (λ us. a.number + numbers_in us) ua ∙ more a.number (numbers_in (units ps (suc a.place) s)) ∙ (λ j. sym nu j + numbers_in (units ps (sym pl j) s));
@@ -124,7 +132,8 @@ pub test_of : (i : GuardIndices) (k : ℕ) (l0 l1 l2 : List Instr) → l0 ≡ []
     → Puts l0 l1 (λ c. plain (local_get i.index) (plain (basic (const (V.I32 k))) (plain (basic (num I32Ne)) c))) → l2 ≡ l1 ++ BrIf 1 ∷ []
     → code l2 ≡ index_with i (basic (num I32Ne)) k (plain (br_if 1) done)
 test_of i k l0 l1 l2 e puts f =
-    sym (onto_done l2) ∙ put_one l1 l2 (BrIf 1) (plain (br_if 1)) f (br_if_is 1) done ∙ puts (plain (br_if 1) done) ∙ ap (λ xs. onto xs (index_with i (basic (num I32Ne)) k (plain (br_if 1) done))) e ∙ onto_none _
+    sym (onto_done l2) ∙ put_one l1 l2 (BrIf 1) (plain (br_if 1)) f (br_if_is 1) done ∙ puts (plain (br_if 1) done)
+    ∙ ap (λ xs. onto xs (index_with i (basic (num I32Ne)) k (plain (br_if 1) done))) e ∙ onto_none _
 
 call_then : (x : Callee) (c : Code) → followed_by (plain (call_to x) done) c ≡ plain (call_to x) c
 unfolding followed_by

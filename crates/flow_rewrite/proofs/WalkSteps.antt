@@ -22,9 +22,10 @@ use Rattle.guard_form.specs.Guarded.{raised, front}
 use Rattle.flow_rewrite.specs.declared.guards.Guards.{Guards}
 use Rattle.flow_rewrite.specs.declared.sequence.Sequence.{Sequence}
 use Rattle.flow_rewrite.specs.declared.sequence.Part.{Part}
-use Rattle.flow_rewrite.specs.Statements.{with_rest, one_code, one_place, one_holds, IsSimple, Fits}
-use Rattle.flow_rewrite.specs.Emitting.{Puts, indices, first_of, written_with, Same, IsPart, Stepped, Ready, ReadyAt, Walked}
-use Rattle.flow_rewrite.proofs.StmtLemmas.{if_true, if_false, in_front_is, fits_one, one_plain, leaf_of, stmts_step, stmts_end, call_is, total_with}
+use Rattle.flat_pieces.specs.Statements.{with_rest, one_code, one_place, one_holds, IsSimple, Fits}
+use Rattle.flat_pieces.specs.Putting.{Puts}
+use Rattle.flow_rewrite.specs.Emitting.{indices, first_of, written_with, Same, IsPart, Stepped, Ready, ReadyAt, Walked}
+use Rattle.flat_pieces.proofs.StmtLemmas.{if_true, if_false, in_front_is, fits_one, one_plain, leaf_of, stmts_step, stmts_end, call_is, total_with}
 use Rattle.flow_rewrite.proofs.SequenceLemmas.{raisable_none}
 use Rattle.flow_rewrite.proofs.ConstructSteps.{first_is, piece_stepped, numbers_few}
 
@@ -72,10 +73,12 @@ one_then : (u : Stmts) (c : Code) → depth_of (one_code u c) ≡ max (depth_of 
 unfolding depth_of
 one_then no_more c = omega arith
 one_then (computes op args to rest) c =
-    let a = depth_all args (followed_by op (set_to to c)) in let b = depth_all args (followed_by op (set_to to done)) in let e = depth_then op (set_to to c) in let f = depth_then op (set_to to done) in let t = depth_to to c in let v = depth_to to done in omega arith
+    let a = depth_all args (followed_by op (set_to to c)) in let b = depth_all args (followed_by op (set_to to done)) in let e = depth_then op (set_to to c) in let f = depth_then op
+    (set_to to done) in let t = depth_to to c in let v = depth_to to done in omega arith
 one_then (copies to from rest) c = let a = depth_got from (plain (local_set to) c) in let b = depth_got from (plain (local_set to) done) in omega arith
 one_then (calls op stack args to rest) c =
-    let a = depth_slots (last_of args stack) (followed_by op (set_to to c)) in let b = depth_slots (last_of args stack) (followed_by op (set_to to done)) in let e = depth_then op (set_to to c) in let f = depth_then op (set_to to done) in let t = depth_to to c in let v = depth_to to done in omega arith
+    let a = depth_slots (last_of args stack) (followed_by op (set_to to c)) in let b = depth_slots (last_of args stack) (followed_by op (set_to to done)) in let e = depth_then op
+    (set_to to c) in let f = depth_then op (set_to to done) in let t = depth_to to c in let v = depth_to to done in omega arith
 one_then (leaps l rest) c = omega arith
 one_then (leaps_if o l rest) c = let a = depth_got o (plain (br_if l) c) in let b = depth_got o (plain (br_if l) done) in omega arith
 one_then (leaps_by o ls l rest) c = let a = depth_got o (plain (br_table ls l) c) in let b = depth_got o (plain (br_table ls l) done) in omega arith
@@ -197,7 +200,8 @@ pub simple_stepped : (g : Guards) (d : ℕ) (a b : Sequence) (x : Stmt) → Read
 simple_stepped g d a b x rd simple out behind block held number place puts =
     let u = stmt_in_front x no_more in
     let q = simple_free g.numbers.items a.place u simple in
-    stepped_as g d a b (with_rest u) (stmt_in_front x) (in_front_is x) (piece_stepped g d a b u q.0 rd.good (subst (Fits g.index d) (in_front_is x no_more) rd.fits) out behind block held number (place ∙ sym q.1) puts)
+    stepped_as g d a b (with_rest u) (stmt_in_front x) (in_front_is x)
+    (piece_stepped g d a b u q.0 rd.good (subst (Fits g.index d) (in_front_is x no_more) rd.fits) out behind block held number (place ∙ sym q.1) puts)
 
 -- ---- calls
 
@@ -215,7 +219,8 @@ call_room n x op stack args to e h = let q : call_total (stmt_in_front x no_more
 
 pub call_as : (g : Guards) (d : ℕ) (a b : Sequence) (x : Stmt) (op : Instr) (stack : Vec ℕ Global) (args : ℕ) (to : Option ℕ) (xs : List ℕ) → x ≡ Call op stack args to
     → xs ≡ stack.items → Stepped g d a b (calls (in_front op done) xs args to) → Stepped g d a b (stmt_in_front x)
-call_as g d a b x op stack args to xs e q st = stepped_as g d a b (calls (in_front op done) xs args to) (stmt_in_front x) (λ s. call_is x op stack args to e s ∙ ap (λ z. calls (in_front op done) z args to s) (sym q)) st
+call_as g d a b x op stack args to xs e q st = stepped_as g d a b (calls (in_front op done) xs args to) (stmt_in_front x)
+    (λ s. call_is x op stack args to e s ∙ ap (λ z. calls (in_front op done) z args to s) (sym q)) st
 
 -- ---- constructs
 
@@ -259,7 +264,8 @@ walked_start g d n k s at rd out behind piece held place number =
     record {
       good = record { behind_held = λ e. absurd (false_true at.behind behind e); piece = raisable_none at.piece.items piece; few = omega (arith, place, number, fw) };
       fits = rd.fits;
-      written = sym ((λ j. onto (out j) (if behind j then nest a_block None (onto at.call.items (raised 0 1 (first_of ps at s))) (front i d at.number done (units ps at.place s)) else front i d (number j) (fi j) (units ps (place j) s))) ∙ onto_none (front i d k (first_piece ps n s) (units ps n s)));
+      written = sym ((λ j. onto (out j) (if behind j then nest a_block None (onto at.call.items (raised 0 1 (first_of ps at s)))
+          (front i d at.number done (units ps at.place s)) else front i d (number j) (fi j) (units ps (place j) s))) ∙ onto_none (front i d k (first_piece ps n s) (units ps n s)));
       held = sym (λ j. held j || holds_call ps (place j) s);
       plainly = λ e. sym fi;
       numbers = sym (λ j. number j + numbers_in (units ps (place j) s));
@@ -320,4 +326,5 @@ walked_end g d n k xs at j p le w written held place number =
         → front (indices g) d k (first_piece g.numbers.items n (stmts xs)) (units g.numbers.items n (stmts xs)) ≡ written_with (indices g) g.numbers.items 0 at no_more
         → code p.code.items ≡ (if p.held then front (indices g) d k (first_piece g.numbers.items n (stmts xs)) (units g.numbers.items n (stmts xs)) else code_of (stmts xs))
     by true h hold plainly full = written ∙ if_true at.held _ _ h ∙ sym full ∙ sym (if_true p.held _ _ (held ∙ h))
-    by false h hold plainly full = written ∙ if_false at.held _ _ h ∙ sym (onto_done at.piece.items) ∙ sym (plainly h) ∙ first_is g.numbers.items n (stmts xs) (hold ∙ h) ∙ sym (if_false p.held _ _ (held ∙ h))
+    by false h hold plainly full = written ∙ if_false at.held _ _ h ∙ sym (onto_done at.piece.items) ∙ sym (plainly h) ∙ first_is g.numbers.items n (stmts xs) (hold ∙ h)
+        ∙ sym (if_false p.held _ _ (held ∙ h))

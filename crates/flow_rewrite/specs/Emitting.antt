@@ -1,6 +1,5 @@
--- What instructions are put behind others, and what of a sequence is written so far.
+-- What of a sequence is written so far.
 use Rattle.std.specs.Prelude.{◌≡◌, ◌≤◌, ◌<◌, ◌^◌, ◌+◌, ◌||◌, ℕ, List, length, get_or, None, Bool, true, false, if◌then◌else◌}
-use Rattle.wa_types.specs.declared.instrs.Instr.{Instr}
 use Rattle.wa_types.specs.Syntax.{const, num, basic, a_block, Code, done, plain, nest}
 use Rattle.wa_types.specs.declared.operators.NumOp.TheVariants.{I32LtU}
 use Rattle.wa_types.specs.declared.values.Value.TheVariants as V
@@ -10,15 +9,11 @@ use Rattle.wa_model.specs.Flat.{Stmts, no_more, code_of}
 use Rattle.wa_model.specs.FlatView.{stmt_in_front}
 use Rattle.guard_form.specs.Pieces.{numbers_in, call_total, holds_call, first_piece, units}
 use Rattle.guard_form.specs.Guarded.{GuardIndices, raised, index_with, front}
-use Rattle.flow_rewrite.specs.Statements.{Fits}
-use Rattle.flow_rewrite.specs.Raising.{Raisable}
+use Rattle.flat_pieces.specs.Statements.{Fits}
+use Rattle.flat_pieces.specs.Raising.{Raisable}
 use Rattle.flow_rewrite.specs.declared.guards.Guards.{Guards}
 use Rattle.flow_rewrite.specs.declared.sequence.Sequence.{Sequence}
 use Rattle.flow_rewrite.specs.declared.sequence.Part.{Part}
-
--- With whatever behind it, the new list stands for this code behind the old one.
-abbrev pub Puts : (old new : List Instr) → (Code → Code) → Type 0
-Puts old new f = (rest : Code) → onto new rest ≡ onto old (f rest)
 
 -- each number is below the next one
 abbrev pub Rises : List ℕ → Type 0

@@ -1,4 +1,1 @@
 pub mod Emitting
-pub mod Numbering
-pub mod Raising
-pub mod Statements

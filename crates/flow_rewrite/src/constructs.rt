@@ -3,13 +3,12 @@ ghost use Rattle.wa_types.specs.Syntax.{a_block, a_loop};
 ghost use Rattle.wa_types.specs.View.{code};
 ghost use Rattle.wa_model.specs.Flat.{nests, decides, no_more};
 ghost use Rattle.wa_model.specs.FlatView.{stmts};
-ghost use Rattle.flow_rewrite.specs.Statements.{Fits};
+ghost use Rattle.flat_pieces.specs.Statements.{Fits};
 ghost use Rattle.flow_rewrite.specs.Emitting.{choice_code, indices, Good, IsPart, Stepped};
 
 use crate::guards::{Guards, put_guarded};
-use crate::labels::raised;
-use crate::put::{put_index, put_operand, put_test};
 use crate::sequence::{Part, Sequence, settle};
+use flat_pieces::{put_index, put_operand, put_test, raised};
 use std::alloc::AllocError;
 use wa_model::{Operand, Stmt};
 use wa_types::{Instr, NumOp, ValType, Value};

@@ -1,12 +1,14 @@
-ghost use Rattle.std.specs.Prelude.{◌≡◌, ◌<◌, ◌^◌, ◌∷◌, [], ◌++◌, false, IfOk, if◌then◌else◌};
+ghost use Rattle.std.specs.Prelude.{◌≡◌, ◌≤◌, ◌<◌, ◌^◌, ◌∷◌, [], ◌++◌, false, IfOk, if◌then◌else◌};
 ghost use Rattle.wa_types.specs.declared.values.ValType.TheVariants.{I32, I64};
 ghost use Rattle.wa_types.specs.Syntax.{done};
 ghost use Rattle.wa_types.specs.View.{code};
+ghost use Rattle.wa_model.specs.Flat.{code_of};
 ghost use Rattle.wa_model.specs.FlatView.{flat_func_of};
 ghost use Rattle.wa_model.specs.FlatFits.{FlatFits};
+ghost use Rattle.guard_form.specs.Bounds.{reads, reads_bound};
 ghost use Rattle.guard_form.specs.Guarded.{guarded, guarded_code};
 ghost use Rattle.guard_form.specs.Pieces.{call_total};
-ghost use Rattle.flow_rewrite.specs.Raising.{Raisable};
+ghost use Rattle.flat_pieces.specs.Raising.{Raisable};
 ghost use Rattle.flow_rewrite.specs.Emitting.{indices, Rises};
 
 use crate::guards::{Guards, put_guarded};
@@ -53,7 +55,8 @@ fn guarded_body(guards: &Guards, part: Part) -> Result<Vec<Instr>, AllocError>
 }
 
 /// The function with a test of this global, the state, before each piece, where the calls at these places are
-/// numbered. The places rise, and there are fewer than 2^32 calls.
+/// numbered. The places rise, and there are fewer than 2^32 calls. Where the flat function doesn't read the global,
+/// this one reads it at most 8 * (K + N + 1) times, K the numbered calls and N the constructs that hold one.
 pub fn guard(
     alloc: Global,
     func: &FlatFunc,
@@ -64,6 +67,7 @@ pub fn guard(
     requires rises { Rises numbers.now }
     requires few { call_total (flat_func_of func.now).body < 2 ^ 32 }
     ensures body { IfOk result (λ g. code g.body.items ≡ guarded_code state numbers.now (flat_func_of func.now)) }
+    ensures reads { IfOk result (λ g. reads state (code_of (flat_func_of func.now).body) ≡ 0 → reads state (code g.body.items) ≤ reads_bound numbers.now (flat_func_of func.now).body) }
     ensures locals { IfOk result (λ g. g.locals.items ≡ func.now.locals.items ++ I32 ∷ I32 ∷ I64 ∷ []) }
     ensures result { IfOk result (λ g. g.result ≡ func.now.result) }
     ensures func { IfOk result (λ g. g.func ≡ func.now.func) }

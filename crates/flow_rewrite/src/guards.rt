@@ -2,11 +2,11 @@ ghost use Rattle.std.specs.Prelude.{◌≡◌, OnOk};
 ghost use Rattle.wa_types.specs.View.{code};
 ghost use Rattle.guard_form.specs.Guarded.{guarded};
 ghost use Rattle.guard_form.specs.Grouping.{is_place};
-ghost use Rattle.flow_rewrite.specs.Emitting.{indices, Puts, Rises};
-ghost use Rattle.flow_rewrite.specs.Raising.{Raisable};
+ghost use Rattle.flat_pieces.specs.Putting.{Puts};
+ghost use Rattle.flow_rewrite.specs.Emitting.{indices, Rises};
+ghost use Rattle.flat_pieces.specs.Raising.{Raisable};
 
-use crate::labels::raised;
-use crate::put::put_test;
+use flat_pieces::{put_test, raised};
 use std::alloc::{AllocError, Global};
 use wa_types::Instr;
 

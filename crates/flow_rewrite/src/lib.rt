@@ -8,12 +8,9 @@
 mod constructs;
 mod function;
 mod guards;
-mod labels;
-mod numbering;
-mod put;
 mod sequence;
 mod units;
 mod write;
 
+pub use call_numbers::number_calls;
 pub use function::{GuardedFunc, guard};
-pub use numbering::number_calls;

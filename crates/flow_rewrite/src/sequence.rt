@@ -4,7 +4,7 @@ ghost use Rattle.wa_model.specs.Flat.{no_more};
 ghost use Rattle.flow_rewrite.specs.Emitting.{indices, written_with, Good, Settled};
 
 use crate::guards::{Guards, put_guarded};
-use crate::labels::put_raised;
+use flat_pieces::put_raised;
 use std::alloc::{AllocError, Global};
 use std::mem;
 use wa_types::Instr;

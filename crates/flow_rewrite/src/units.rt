@@ -4,13 +4,12 @@ ghost use Rattle.wa_types.specs.View.{in_front};
 ghost use Rattle.wa_model.specs.Flat.{calls, last_of, no_more};
 ghost use Rattle.guard_form.specs.Grouping.{is_place};
 ghost use Rattle.wasm_tree.specs.Kinds.{is_leaf};
-ghost use Rattle.flow_rewrite.specs.Statements.{Fits};
+ghost use Rattle.flat_pieces.specs.Statements.{Fits};
 ghost use Rattle.flow_rewrite.specs.Emitting.{Good, Rises, Stepped};
 
 use crate::guards::{Guards, is_numbered};
-use crate::labels::raised;
-use crate::put::{put_copy, put_index, put_noted, put_slots, put_test, put_to};
 use crate::sequence::{Sequence, settle};
+use flat_pieces::{put_copy, put_index, put_noted, put_slots, put_test, put_to, raised};
 use std::alloc::AllocError;
 use wa_types::{Instr, NumOp};
 

@@ -1,14 +1,15 @@
 ghost use Rattle.std.specs.Prelude.{◌≡◌, IfOk, OnOk};
 ghost use Rattle.wa_model.specs.Flat.{no_more};
 ghost use Rattle.wa_model.specs.FlatView.{stmt_in_front, stmts};
-ghost use Rattle.flow_rewrite.specs.Statements.{one_code, IsSimple};
-ghost use Rattle.flow_rewrite.specs.Emitting.{indices, IsPart, Puts, Ready, ReadyAt, Stepped};
+ghost use Rattle.flat_pieces.specs.Statements.{one_code, IsSimple};
+ghost use Rattle.flat_pieces.specs.Putting.{Puts};
+ghost use Rattle.flow_rewrite.specs.Emitting.{indices, IsPart, Ready, ReadyAt, Stepped};
 
 use crate::constructs::{put_block, put_if, put_loop};
 use crate::guards::Guards;
-use crate::put::{put_copy, put_operand, put_operands, put_to};
 use crate::sequence::{Part, Sequence, finish};
 use crate::units::put_call;
+use flat_pieces::{put_copy, put_operand, put_operands, put_to};
 use std::alloc::{AllocError, Global};
 use wa_model::Stmt;
 use wa_types::Instr;

@@ -118,5 +118,7 @@ stacks_held m s which vs stack h = held_alike m s which vs stack h
 pub stacks_stay : StacksStay
 stacks_stay g area p st adr mem after at [] fit same h = tt
 stacks_stay g area p st adr mem after at (v ∷ vs) fit same h =
-    let f = fit.0 in
-    (still_frame v.fn.layout mem after at v.fn.layout.scratch v.locals v.site.number f.living.fields (λ a w lo hi. same a w lo (omega arith)) h.0, stacks_stay g area p st adr mem after (at + level_size v) vs fit.1 (λ a w lo hi. same a w (omega arith) (omega arith)) h.1)
+    let f = fit.0 in (
+      still_frame v.fn.layout mem after at v.fn.layout.scratch v.locals v.site.number f.living.fields (λ a w lo hi. same a w lo (omega arith)) h.0,
+      stacks_stay g area p st adr mem after (at + level_size v) vs fit.1 (λ a w lo hi. same a w (omega arith) (omega arith)) h.1,
+    )

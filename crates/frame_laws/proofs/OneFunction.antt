@@ -56,7 +56,8 @@ module _ (g : ℕ) (area : Area) (p : Module) (st n : ℕ) (f : WrittenFunc) (c 
       let from = running s fn under ls [] (by_state st a b next) labels in
       let one : Comes (keeps g area) p from 1 (running s fn under ls (V.I32 (suc n) ∷ []) (branch None a b next) labels) =
       subst (λ w. Comes (keeps g area) p from 1 (running s fn under ls (w ∷ []) (branch None a b next) labels)) e (walks (keeps g area) p 1 _ _ refl) in
-      let two : Comes (keeps g area) p (running s fn under ls (V.I32 (suc n) ∷ []) (branch None a b next) labels) 1 (running s fn under ls [] a (block_label 0 0 next b ∷ labels)) = walks (keeps g area) p 1 _ _ refl in
+      let two : Comes (keeps g area) p (running s fn under ls (V.I32 (suc n) ∷ []) (branch None a b next) labels) 1
+      (running s fn under ls [] a (block_label 0 0 next b ∷ labels)) = walks (keeps g area) p 1 _ _ refl in
       on (keeps g area) p 1 1 _ _ _ one two
 
   pub savable : (ls : List Value) → LocalsFit f.layout ls → Savable f.layout (noted ls) c.number
@@ -93,8 +94,10 @@ module _ (g : ℕ) (area : Area) (p : Module) (st n : ℕ) (f : WrittenFunc) (c 
       let w = given s2 fn under ls2 f.result in
       let sc = save_cost f.layout in
       let t1 = within_on g area p (running s2 fn under ls2 [] done lb) (running s2 fn under ls2 [] next []) w.0 1 1 2 (within_of g area p _ _ 1 d) w.1 (omega arith) in
-      let t2 = within_on g area p (running s fn under (noted ls) [] (save_code f.layout done) lb) (running s2 fn under ls2 [] done lb) w.0 sc 2 (sc + 2) (within_of g area p _ _ sc (record { by = sv.goes })) t1 (omega arith) in
-      let t3 = within_on g area p (running s fn under (noted ls) [] (epilogue st f) []) (running s fn under (noted ls) [] (save_code f.layout done) lb) w.0 2 (sc + 2) (sc + 4) (within_of g area p _ _ 2 b) t2 (omega arith) in
+      let t2 = within_on g area p (running s fn under (noted ls) [] (save_code f.layout done) lb) (running s2 fn under ls2 [] done lb) w.0 sc 2 (sc + 2)
+      (within_of g area p _ _ sc (record { by = sv.goes })) t1 (omega arith) in
+      let t3 = within_on g area p (running s fn under (noted ls) [] (epilogue st f) []) (running s fn under (noted ls) [] (save_code f.layout done) lb) w.0 2 (sc + 2) (sc + 4)
+      (within_of g area p _ _ 2 b) t2 (omega arith) in
       let pu = sv.pushed in
       record {
         after = sv.after;
@@ -146,14 +149,17 @@ module _ (g : ℕ) (area : Area) (p : Module) (st n : ℕ) (f : WrittenFunc) (c 
       let re = r.restored in
       let k = law.seeks n s2 fn under r.locals e re.index in
       let rc = restore_cost f.layout in
-      let t1 = within_on g area p (running s2 fn under r.locals [] done lb) (running s2 fn under r.locals [] f.body (function_labels st f)) (running s2 fn under r.locals [] (site_code c) c.again) 2 seek (2 + seek) (within_of g area p _ _ 2 d) k (omega arith) in
-      let t2 = within_on g area p (running s fn under ls [] (restore_code f.layout done) lb) (running s2 fn under r.locals [] done lb) (running s2 fn under r.locals [] (site_code c) c.again) rc (2 + seek) (rc + 2 + seek) (within_of g area p _ _ rc (record { by = r.goes })) t1 (omega arith) in
+      let t1 = within_on g area p (running s2 fn under r.locals [] done lb) (running s2 fn under r.locals [] f.body (function_labels st f))
+      (running s2 fn under r.locals [] (site_code c) c.again) 2 seek (2 + seek) (within_of g area p _ _ 2 d) k (omega arith) in
+      let t2 = within_on g area p (running s fn under ls [] (restore_code f.layout done) lb) (running s2 fn under r.locals [] done lb)
+      (running s2 fn under r.locals [] (site_code c) c.again) rc (2 + seek) (rc + 2 + seek) (within_of g area p _ _ rc (record { by = r.goes })) t1 (omega arith) in
       record {
         locals = r.locals;
         restored = r.restored;
         after = r.after;
         lowered = r.lowered;
-        goes = within_on g area p (running s fn under ls [] (function_code st f) []) (running s fn under ls [] (restore_code f.layout done) lb) (running s2 fn under r.locals [] (site_code c) c.again) 2 (rc + 2 + seek) (rewinding f seek) (within_of g area p _ _ 2 b) t2 (omega arith);
+        goes = within_on g area p (running s fn under ls [] (function_code st f) []) (running s fn under ls [] (restore_code f.layout done) lb)
+            (running s2 fn under r.locals [] (site_code c) c.again) 2 (rc + 2 + seek) (rewinding f seek) (within_of g area p _ _ 2 b) t2 (omega arith);
       }
 
 pub unwinds_one_law : UnwindsOne
@@ -163,4 +169,5 @@ pub stops_one_law : StopsOne
 stops_one_law g area p st n f c out seek s fn under ls ops loc law e ar over living = stops_one g area p st n f c out seek s fn under ls ops loc law e ar over living
 
 pub rewinds_one_law : RewindsOne
-rewinds_one_law g area p st n f c out seek s fn under old ls loc law e ar low holds small living size = rewinds_one g area p st n f c out seek s fn under old ls loc law e ar low holds small living size
+rewinds_one_law g area p st n f c out seek s fn under old ls loc law e ar low holds small living size = rewinds_one g area p st n f c out seek s fn under old ls loc law e ar low holds
+    small living size

@@ -80,14 +80,17 @@ module _ (g : ℕ) (area : Area) (p : Module) (fn : ℕ) (under : List Activatio
       let z : area.at ≡ area.at + 0 = omega arith in
       let a1 = get_global g area p fn under l s ls [] labels l.address (V.I32 area.at) c1 ar.address in
       let a2 = get_global g area p fn under l s ls (V.I32 area.at ∷ []) labels l.address (V.I32 area.at) c2 ar.address in
-      let a3 = load_value g area p fn under s ls (V.I32 area.at ∷ []) labels area.at 0 (V.I32 top) I32 c3 refl (omega arith) (subst (λ a. HoldsBytes s.memory a (word top)) z ar.location) (omega arith) in
+      let a3 = load_value g area p fn under s ls (V.I32 area.at ∷ []) labels area.at 0 (V.I32 top) I32 c3 refl (omega arith)
+      (subst (λ a. HoldsBytes s.memory a (word top)) z ar.location) (omega arith) in
       let down : (top + 2 ^ 32 - frame_size l) % 2 ^ 32 ≡ loc = sub_small top (frame_size l) (omega arith) (omega arith) ∙ (omega arith) in
       let a4 : C (running s fn under ls (V.I32 top ∷ V.I32 area.at ∷ []) c3 labels) 3 (running s fn under ls1 (V.I32 loc ∷ V.I32 area.at ∷ []) c5 labels) =
-      subst (λ m. C (running s fn under ls (V.I32 top ∷ V.I32 area.at ∷ []) c3 labels) 3 (running s fn under (slice_set ls l.scratch (V.I32 m)) (V.I32 m ∷ V.I32 area.at ∷ []) c5 labels)) down (walks (keeps g area) p 3 _ _ refl) in
+      subst (λ m. C (running s fn under ls (V.I32 top ∷ V.I32 area.at ∷ []) c3 labels) 3
+      (running s fn under (slice_set ls l.scratch (V.I32 m)) (V.I32 m ∷ V.I32 area.at ∷ []) c5 labels)) down (walks (keeps g area) p 3 _ _ refl) in
       let m1 = overwritten s.memory area.at (word loc) in
       let s1 = with_memory s m1 in
       let a5 : C (running s fn under ls1 (V.I32 loc ∷ V.I32 area.at ∷ []) c5 labels) 1 (running s1 fn under ls1 [] (frame_loaded l next) labels) =
-      subst (λ m. C (running s fn under ls1 (V.I32 loc ∷ V.I32 area.at ∷ []) c5 labels) 1 (running (with_memory s (overwritten s.memory m (word loc))) fn under ls1 [] (frame_loaded l next) labels)) (sym z)
+      subst (λ m. C (running s fn under ls1 (V.I32 loc ∷ V.I32 area.at ∷ []) c5 labels) 1
+      (running (with_memory s (overwritten s.memory m (word loc))) fn under ls1 [] (frame_loaded l next) labels)) (sym z)
       (store_value g area p fn under s ls1 [] labels area.at 0 (V.I32 loc) I32 (frame_loaded l next) refl (omega arith) (omega arith) (omega arith)) in
       let size1 : length m1 ≡ length s.memory = length-overwritten s.memory area.at (word loc) (omega arith) in
       let up : (x w : ℕ) → area.at + 4 ≤ x → bytes_at m1 x w ≡ bytes_at s.memory x w = λ x w h. bytes_at-overwritten_behind s.memory area.at (word loc) x w h (omega arith) in
@@ -106,7 +109,8 @@ module _ (g : ℕ) (area : Area) (p : Module) (fn : ℕ) (under : List Activatio
       let ls3 = slice_set ls2 l.index (V.I32 k) in
       let e3 : C (running s1 fn under ls2 (V.I32 k ∷ []) (plain (local_set l.index) next) labels) 1 (running s1 fn under ls3 [] next labels) = walks (keeps g area) p 1 _ _ refl in
       let tail : C (running s1 fn under ls2 [] d1 labels) 3 (running s1 fn under ls3 [] next labels) = on (keeps g area) p 1 2 _ _ _ e1 (on (keeps g area) p 1 1 _ _ _ e2 e3) in
-      let head : C from 7 (running s1 fn under ls1 [] (frame_loaded l next) labels) = on (keeps g area) p 1 6 _ _ _ a1 (on (keeps g area) p 1 5 _ _ _ a2 (on (keeps g area) p 1 4 _ _ _ a3 (on (keeps g area) p 3 1 _ _ _ a4 a5))) in
+      let head : C from 7 (running s1 fn under ls1 [] (frame_loaded l next) labels) = on (keeps g area) p 1 6 _ _ _ a1
+      (on (keeps g area) p 1 5 _ _ _ a2 (on (keeps g area) p 1 4 _ _ _ a3 (on (keeps g area) p 3 1 _ _ _ a4 a5))) in
       let whole = on (keeps g area) p 7 (3 * kept_count l.fields + 3) _ _ _ head (on (keeps g area) p (3 * kept_count l.fields) 3 _ _ _ b tail) in
       let cost : 7 + (3 * kept_count l.fields + 3) ≡ restore_cost l = omega arith in
       let n2 = back.size in
@@ -133,4 +137,5 @@ module _ (g : ℕ) (area : Area) (p : Module) (fn : ℕ) (under : List Activatio
       not_kept sp xs (gap t ∷ ps) fit h = not_kept sp xs ps fit.1 h
 
 pub restores_law : Restores
-restores_law g area p fn under labels l s old ls loc k next ar below holds fit small_k n apart lt lt2 = restores g area p fn under l s old ls labels loc k next ar below holds fit small_k n apart lt lt2
+restores_law g area p fn under labels l s old ls loc k next ar below holds fit small_k n apart lt lt2 = restores g area p fn under l s old ls labels loc k next ar below holds fit
+    small_k n apart lt lt2

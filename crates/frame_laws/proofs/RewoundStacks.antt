@@ -51,10 +51,12 @@ module _ (g : ℕ) (area : Area) (p : Module) where
       → Comes (keeps g area) p (running s fn under ls ops (slots_got xs next) labels) (length xs) (running s fn under ls (slot_values ls xs ops) next labels)
   slots_run s fn under ls labels [] ops next = none (keeps g area) p _
   slots_run s fn under ls labels (x ∷ xs) ops next =
-      let first : Comes (keeps g area) p (running s fn under ls ops (slots_got (x ∷ xs) next) labels) 1 (running s fn under ls (value_at ls x ∷ ops) (slots_got xs next) labels) = walks (keeps g area) p 1 _ _ refl in
+      let first : Comes (keeps g area) p (running s fn under ls ops (slots_got (x ∷ xs) next) labels) 1 (running s fn under ls (value_at ls x ∷ ops) (slots_got xs next) labels) = walks
+      (keeps g area) p 1 _ _ refl in
       let ih = slots_run s fn under ls labels xs (value_at ls x ∷ ops) next in
       let z : 1 + length xs ≡ length (x ∷ xs) = omega arith in
-      subst (λ n. Comes (keeps g area) p (running s fn under ls ops (slots_got (x ∷ xs) next) labels) n (running s fn under ls (slot_values ls (x ∷ xs) ops) next labels)) z (on (keeps g area) p 1 (length xs) _ _ _ first ih)
+      subst (λ n. Comes (keeps g area) p (running s fn under ls ops (slots_got (x ∷ xs) next) labels) n (running s fn under ls (slot_values ls (x ∷ xs) ops) next labels)) z
+      (on (keeps g area) p 1 (length xs) _ _ _ first ih)
 
   invoke_enters : (s : Store) (fn : ℕ) (under : List Activation) (ls own args : List Value) (rest : Code) (labels : List Label) (params x : ℕ) (f : Func) → params ≡ length args
       → defined_at p x ≡ Some f → length under + 1 < 4096
@@ -63,8 +65,10 @@ module _ (g : ℕ) (area : Area) (p : Module) where
   invoke_enters s fn under ls own args rest labels params x f e def room =
       ap (λ n. invoke p s fn under ls own args rest labels n x (defined_at p x)) e
       ∙ ap (λ o. invoke p s fn under ls own args rest labels (length args) x o) def
-      ∙ ap (λ b. if b then steps (length args) (entered s (waiting fn ls (drop (length args) args) (own ++ take (length args) args) rest labels ∷ under) (reverse (take (length args) args)) x f) else traps (length args) StackExhausted s) (lt_true (length under + 1) 4096 room)
-      ∙ ap (λ xs. steps (length args) (entered s (waiting fn ls xs (own ++ take (length args) args) rest labels ∷ under) (reverse (take (length args) args)) x f)) (drop_all (length args) args (omega arith))
+      ∙ ap (λ b. if b then steps (length args) (entered s (waiting fn ls (drop (length args) args) (own ++ take (length args) args) rest labels ∷ under)
+      (reverse (take (length args) args)) x f) else traps (length args) StackExhausted s) (lt_true (length under + 1) 4096 room)
+      ∙ ap (λ xs. steps (length args) (entered s (waiting fn ls xs (own ++ take (length args) args) rest labels ∷ under) (reverse (take (length args) args)) x f))
+      (drop_all (length args) args (omega arith))
       ∙ ap (λ xs. steps (length args) (entered s (waiting fn ls [] (own ++ xs) rest labels ∷ under) (reverse xs) x f)) (take_all (length args) args (omega arith))
 
   invoke_asks : (s : Store) (fn : ℕ) (under : List Activation) (ls own args : List Value) (rest : Code) (labels : List Label) (x : ℕ) → defined_at p x ≡ None → x < func_imports p
@@ -72,8 +76,10 @@ module _ (g : ℕ) (area : Area) (p : Module) where
       ≡ asks (length args) x (reverse args) (record { store = s; here = waiting fn ls [] (own ++ args) rest labels; under = under })
   invoke_asks s fn under ls own args rest labels x def lt =
       ap (λ o. invoke p s fn under ls own args rest labels (length args) x o) def
-      ∙ ap (λ b. if b then asks (length args) x (reverse (take (length args) args)) (record { store = s; here = waiting fn ls (drop (length args) args) (own ++ take (length args) args) rest labels; under = under }) else stuck) (lt_true x (func_imports p) lt)
-      ∙ ap (λ xs. asks (length args) x (reverse (take (length args) args)) (record { store = s; here = waiting fn ls xs (own ++ take (length args) args) rest labels; under = under })) (drop_all (length args) args (omega arith))
+      ∙ ap (λ b. if b then asks (length args) x (reverse (take (length args) args))
+      (record { store = s; here = waiting fn ls (drop (length args) args) (own ++ take (length args) args) rest labels; under = under }) else stuck) (lt_true x (func_imports p) lt)
+      ∙ ap (λ xs. asks (length args) x (reverse (take (length args) args)) (record { store = s; here = waiting fn ls xs (own ++ take (length args) args) rest labels; under = under }))
+      (drop_all (length args) args (omega arith))
       ∙ ap (λ xs. asks (length args) x (reverse xs) (record { store = s; here = waiting fn ls [] (own ++ xs) rest labels; under = under })) (take_all (length args) args (omega arith))
 
   -- the call of a level, where its arguments are those of before
@@ -121,7 +127,8 @@ module _ (g : ℕ) (area : Area) (p : Module) where
             ap (λ i. step_plain p s v.func under ls v.taken v.site.again v.site.behind i) is
             ∙ ap (λ ops. step_plain p s v.func under ls ops v.site.again v.site.behind (call_indirect sort)) parts
             ∙ ap (λ o. through p s v.func under ls (V.I32 n ∷ []) args v.site.behind v.site.again sort o) found
-            ∙ ap (λ b. if b then invoke p s v.func under ls (V.I32 n ∷ []) args v.site.behind v.site.again (param_count (type_at p sort)) x (defined_at p x) else traps (param_count (type_at p sort)) TypeMismatch s) same
+            ∙ ap (λ b. if b then invoke p s v.func under ls (V.I32 n ∷ []) args v.site.behind v.site.again (param_count (type_at p sort)) x (defined_at p x) else traps
+            (param_count (type_at p sort)) TypeMismatch s) same
             ∙ ap (λ k. invoke p s v.func under ls (V.I32 n ∷ []) args v.site.behind v.site.again k x (defined_at p x)) (count ∙ sym m);
       }
 
@@ -156,7 +163,8 @@ module _ (g : ℕ) (area : Area) (p : Module) where
         let f = fit.0 in
         let z : loc + total_size (v ∷ []) ≡ loc + frame_size v.fn.layout = omega arith in
         let ar1 = subst (λ m. AreaAt adr area s m) z ar in
-        let r = rewinds_one_law g area p st n v.fn v.site v.out v.seek s v.func [] v.locals ls loc f.law e (subst (λ a. AreaAt a area s (loc + frame_size v.fn.layout)) (sym f.address_is) ar1) low holds.0 f.small f.living size in
+        let r = rewinds_one_law g area p st n v.fn v.site v.out v.seek s v.func [] v.locals ls loc f.law e
+        (subst (λ a. AreaAt a area s (loc + frame_size v.fn.layout)) (sym f.address_is) ar1) low holds.0 f.small f.living size in
         let re = r.restored in
         record {
           under = [];
@@ -181,7 +189,9 @@ module _ (g : ℕ) (area : Area) (p : Module) where
         let args_are : slot_values ih.locals w.site.slots [] ≡ w.taken = args_same w.locals ih.locals w.site.slots w.fn.layout.fields [] fw.slots ks.same ∙ sym fw.took in
         let at_call = running s1 w.func ih.under ih.locals w.taken (plain w.site.instr w.site.behind) w.site.again in
         let a1 : KeptWithin g area p here (length w.site.slots) at_call =
-        within_of g area p here at_call (length w.site.slots) (subst (λ ops. Comes (keeps g area) p here (length w.site.slots) (running s1 w.func ih.under ih.locals ops (plain w.site.instr w.site.behind) w.site.again)) args_are (slots_run s1 w.func ih.under ih.locals w.site.again w.site.slots [] (plain w.site.instr w.site.behind))) in
+        within_of g area p here at_call (length w.site.slots) (subst (λ ops. Comes (keeps g area) p here (length w.site.slots)
+        (running s1 w.func ih.under ih.locals ops (plain w.site.instr w.site.behind) w.site.again)) args_are
+        (slots_run s1 w.func ih.under ih.locals w.site.again w.site.slots [] (plain w.site.instr w.site.behind))) in
         let un = reborn_length vs ih.under ih.came_back in
         let ca = called s1 w ih.locals ih.under en.params v.func fw.took en.goes_to in
         let few2 = ca.few in
@@ -194,12 +204,17 @@ module _ (g : ℕ) (area : Area) (p : Module) where
         ∙ ap (λ ops. steps (length ca.args) (entered s1 (waiting w.func ih.locals [] ops w.site.behind w.site.again ∷ ih.under) (reverse ca.args) v.func en.func)) ca.whole
         ∙ ap (λ k. steps k (entered s1 under1 (reverse ca.args) v.func en.func)) ca.size in
         let a2 : KeptWithin g area p at_call (suc en.params) begun =
-        within_of g area p at_call begun (suc en.params) (subst (λ c. Comes (keeps g area) p at_call (suc en.params) (running s1 v.func under1 ls2 [] c [])) en.body (one (keeps g area) p en.params at_call (entered s1 under1 (reverse ca.args) v.func en.func) ca.may entering)) in
+        within_of g area p at_call begun (suc en.params) (subst (λ c. Comes (keeps g area) p at_call (suc en.params) (running s1 v.func under1 ls2 [] c [])) en.body
+        (one (keeps g area) p en.params at_call (entered s1 under1 (reverse ca.args) v.func en.func) ca.may entering)) in
         let ls2_size : length ls2 ≡ length v.locals =
-        length-append (reverse ca.args) (map zero_of (declared_locals en.func.locals)) ∙ ap (λ k. k + length (map zero_of (declared_locals en.func.locals))) (length-reverse ca.args ∙ ca.size) ∙ ap (λ k. en.params + k) (length-map (declared_locals en.func.locals) zero_of) ∙ en.size in
+        length-append (reverse ca.args) (map zero_of (declared_locals en.func.locals))
+        ∙ ap (λ k. k + length (map zero_of (declared_locals en.func.locals))) (length-reverse ca.args ∙ ca.size)
+        ∙ ap (λ k. en.params + k) (length-map (declared_locals en.func.locals) zero_of) ∙ en.size in
         let ar1 = area_lowered adr s loc1 (loc + total_size (v ∷ w ∷ vs)) ih.after ar lo1 (omega arith) (omega arith) in
-        let frame1 = still_frame v.fn.layout s.memory ih.after loc v.fn.layout.scratch v.locals v.site.number fv.living.fields (λ x k lo hi. lo1.others.same x k (inr (omega arith)) (inr (omega arith))) holds.0 in
-        let r = rewinds_one_law g area p st n v.fn v.site v.out v.seek s1 v.func under1 v.locals ls2 loc fv.law e (subst (λ a. AreaAt a area s1 loc1) (sym fv.address_is) ar1) low frame1 fv.small fv.living ls2_size in
+        let frame1 = still_frame v.fn.layout s.memory ih.after loc v.fn.layout.scratch v.locals v.site.number fv.living.fields
+        (λ x k lo hi. lo1.others.same x k (inr (omega arith)) (inr (omega arith))) holds.0 in
+        let r = rewinds_one_law g area p st n v.fn v.site v.out v.seek s1 v.func under1 v.locals ls2 loc fv.law e
+        (subst (λ a. AreaAt a area s1 loc1) (sym fv.address_is) ar1) low frame1 fv.small fv.living ls2_size in
         let re = r.restored in
         let lo2 = r.lowered in
         let end = running (with_memory s r.after) v.func under1 r.locals [] (site_code v.site) v.site.again in
@@ -229,7 +244,8 @@ module _ (g : ℕ) (area : Area) (p : Module) where
       let size = ca.size in
       record {
         at = at_call;
-        goes = within_of g area p here at_call k (subst (λ ops. Comes (keeps g area) p here k (running s v.func under locals ops (plain v.site.instr v.site.behind) v.site.again)) args_are (slots_run s v.func under locals v.site.again v.site.slots [] (plain v.site.instr v.site.behind)));
+        goes = within_of g area p here at_call k (subst (λ ops. Comes (keeps g area) p here k (running s v.func under locals ops (plain v.site.instr v.site.behind) v.site.again))
+            args_are (slots_run s v.func under locals v.site.again v.site.slots [] (plain v.site.instr v.site.behind)));
         may = ca.may;
         count = length ca.args;
         few = omega arith;

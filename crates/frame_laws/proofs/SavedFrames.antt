@@ -61,15 +61,18 @@ module _ (g : ℕ) (area : Area) (p : Module) (fn : ℕ) (under : List Activatio
 
   pub get_global : (s : Store) (ls ops : List Value) (labels : List Label) (x : ℕ) (v : Value) (next : Code) → value_at s.globals x ≡ v
       → C (running s fn under ls ops (plain (basic (global_get x)) next) labels) 1 (running s fn under ls (v ∷ ops) next labels)
-  get_global s ls ops labels x v next e = subst (λ w. C (running s fn under ls ops (plain (basic (global_get x)) next) labels) 1 (running s fn under ls (w ∷ ops) next labels)) e (walks (keeps g area) p 1 _ _ refl)
+  get_global s ls ops labels x v next e = subst (λ w. C (running s fn under ls ops (plain (basic (global_get x)) next) labels) 1 (running s fn under ls (w ∷ ops) next labels)) e
+      (walks (keeps g area) p 1 _ _ refl)
 
   pub get_local : (s : Store) (ls ops : List Value) (labels : List Label) (x : ℕ) (v : Value) (next : Code) → value_at ls x ≡ v
       → C (running s fn under ls ops (plain (local_get x) next) labels) 1 (running s fn under ls (v ∷ ops) next labels)
-  get_local s ls ops labels x v next e = subst (λ w. C (running s fn under ls ops (plain (local_get x) next) labels) 1 (running s fn under ls (w ∷ ops) next labels)) e (walks (keeps g area) p 1 _ _ refl)
+  get_local s ls ops labels x v next e = subst (λ w. C (running s fn under ls ops (plain (local_get x) next) labels) 1 (running s fn under ls (w ∷ ops) next labels)) e
+      (walks (keeps g area) p 1 _ _ refl)
 
   -- up to the test of the room
   tested : (s : Store) (ls : List Value) (labels : List Label) (loc : ℕ) (next : Code) → AreaAt l.address area s loc → l.scratch < length ls
-      → C (running s fn under ls [] (save_code l next) labels) 8 (running s fn under (slice_set ls l.scratch (V.I32 loc)) (V.I32 (of_bool (nat_lt (area.at + area.len - loc) (frame_size l))) ∷ []) (branch None (plain unreachable done) done (frame_stored l next)) labels)
+      → C (running s fn under ls [] (save_code l next) labels) 8 (running s fn under (slice_set ls l.scratch (V.I32 loc))
+      (V.I32 (of_bool (nat_lt (area.at + area.len - loc) (frame_size l))) ∷ []) (branch None (plain unreachable done) done (frame_stored l next)) labels)
   tested s ls labels loc next ar lt =
       let low = ar.low in let high = ar.high in let inside = ar.inside in let sm = ar.small in
       let end = area.at + area.len in
@@ -87,9 +90,13 @@ module _ (g : ℕ) (area : Area) (p : Module) (fn : ℕ) (under : List Activatio
       let a4 = load_value g area p fn under s ls (V.I32 end ∷ []) labels area.at 0 (V.I32 loc) I32 c4 refl (omega arith) (subst (λ a. HoldsBytes s.memory a (word loc)) z ar.location) (omega arith) in
       let a5 : C (running s fn under ls (V.I32 loc ∷ V.I32 end ∷ []) c4 labels) 1 (running s fn under ls1 (V.I32 loc ∷ V.I32 end ∷ []) c5 labels) = walks (keeps g area) p 1 _ _ refl in
       let a6 : C (running s fn under ls1 (V.I32 loc ∷ V.I32 end ∷ []) c5 labels) 1 (running s fn under ls1 (V.I32 (end - loc) ∷ []) c6 labels) =
-      subst (λ n. C (running s fn under ls1 (V.I32 loc ∷ V.I32 end ∷ []) c5 labels) 1 (running s fn under ls1 (V.I32 n ∷ []) c6 labels)) (sub_small end loc high (omega arith)) (walks (keeps g area) p 1 _ _ refl) in
-      let a7 : C (running s fn under ls1 (V.I32 (end - loc) ∷ []) c6 labels) 2 (running s fn under ls1 (V.I32 (of_bool (nat_lt (end - loc) (frame_size l))) ∷ []) (branch None (plain unreachable done) done (frame_stored l next)) labels) = walks (keeps g area) p 2 _ _ refl in
-      on (keeps g area) p 1 7 _ _ _ a1 (on (keeps g area) p 1 6 _ _ _ a2 (on (keeps g area) p 1 5 _ _ _ a3 (on (keeps g area) p 1 4 _ _ _ a4 (on (keeps g area) p 1 3 _ _ _ a5 (on (keeps g area) p 1 2 _ _ _ a6 a7)))))
+      subst (λ n. C (running s fn under ls1 (V.I32 loc ∷ V.I32 end ∷ []) c5 labels) 1 (running s fn under ls1 (V.I32 n ∷ []) c6 labels)) (sub_small end loc high (omega arith))
+      (walks (keeps g area) p 1 _ _ refl) in
+      let a7 : C (running s fn under ls1 (V.I32 (end - loc) ∷ []) c6 labels) 2
+      (running s fn under ls1 (V.I32 (of_bool (nat_lt (end - loc) (frame_size l))) ∷ []) (branch None (plain unreachable done) done (frame_stored l next)) labels) = walks
+      (keeps g area) p 2 _ _ refl in
+      on (keeps g area) p 1 7 _ _ _ a1 (on (keeps g area) p 1 6 _ _ _ a2
+      (on (keeps g area) p 1 5 _ _ _ a3 (on (keeps g area) p 1 4 _ _ _ a4 (on (keeps g area) p 1 3 _ _ _ a5 (on (keeps g area) p 1 2 _ _ _ a6 a7)))))
 
   pub overflows : (s : Store) (ls : List Value) (labels : List Label) (loc : ℕ) (next : Code) → AreaAt l.address area s loc → area.at + area.len < loc + frame_size l
       → l.scratch < length ls
@@ -115,7 +122,8 @@ module _ (g : ℕ) (area : Area) (p : Module) (fn : ℕ) (under : List Activatio
       let q : nat_lt (area.at + area.len - loc) (frame_size l) ≡ false = lt_false (area.at + area.len - loc) (frame_size l) (omega arith) in
       let a : C from 8 (running s fn under ls1 (V.I32 0 ∷ []) (branch None (plain unreachable done) done (frame_stored l next)) labels) =
       subst (λ b. C from 8 (running s fn under ls1 (V.I32 (of_bool b) ∷ []) (branch None (plain unreachable done) done (frame_stored l next)) labels)) q (tested s ls labels loc next ar sv.scratch) in
-      let b : C (running s fn under ls1 (V.I32 0 ∷ []) (branch None (plain unreachable done) done (frame_stored l next)) labels) 2 (running s fn under ls1 [] (frame_stored l next) labels) = walks (keeps g area) p 2 _ _ refl in
+      let b : C (running s fn under ls1 (V.I32 0 ∷ []) (branch None (plain unreachable done) done (frame_stored l next)) labels) 2
+      (running s fn under ls1 [] (frame_stored l next) labels) = walks (keeps g area) p 2 _ _ refl in
       let d6 : Code = stored_value I32 0 next in
       let d5 : Code = plain (basic (const (V.I32 (frame_size l)))) (plain (basic (num I32Add)) d6) in
       let d4 : Code = plain (local_get l.scratch) d5 in
@@ -143,27 +151,33 @@ module _ (g : ℕ) (area : Area) (p : Module) (fn : ℕ) (under : List Activatio
       let f1 = get_global s2 ls1 [] labels l.address (V.I32 area.at) d4 ar.address in
       let f2 = get_local s2 ls1 (V.I32 area.at ∷ []) labels l.scratch (V.I32 loc) d5 sp in
       let f3 : C (running s2 fn under ls1 (V.I32 loc ∷ V.I32 area.at ∷ []) d5 labels) 2 (running s2 fn under ls1 (V.I32 (loc + frame_size l) ∷ V.I32 area.at ∷ []) d6 labels) =
-      subst (λ n. C (running s2 fn under ls1 (V.I32 loc ∷ V.I32 area.at ∷ []) d5 labels) 2 (running s2 fn under ls1 (V.I32 n ∷ V.I32 area.at ∷ []) d6 labels)) (small_sum loc (frame_size l) (omega arith)) (walks (keeps g area) p 2 _ _ refl) in
+      subst (λ n. C (running s2 fn under ls1 (V.I32 loc ∷ V.I32 area.at ∷ []) d5 labels) 2 (running s2 fn under ls1 (V.I32 n ∷ V.I32 area.at ∷ []) d6 labels))
+      (small_sum loc (frame_size l) (omega arith)) (walks (keeps g area) p 2 _ _ refl) in
       let z1 : area.at + 0 ≡ area.at = omega arith in
       let m3 = overwritten m2 area.at (word (loc + frame_size l)) in
       let f4 : C (running s2 fn under ls1 (V.I32 (loc + frame_size l) ∷ V.I32 area.at ∷ []) d6 labels) 1 (running (with_memory s m3) fn under ls1 [] next labels) =
-      subst (λ n. C (running s2 fn under ls1 (V.I32 (loc + frame_size l) ∷ V.I32 area.at ∷ []) d6 labels) 1 (running (with_memory s (overwritten m2 n (word (loc + frame_size l)))) fn under ls1 [] next labels)) z1
+      subst (λ n. C (running s2 fn under ls1 (V.I32 (loc + frame_size l) ∷ V.I32 area.at ∷ []) d6 labels) 1
+      (running (with_memory s (overwritten m2 n (word (loc + frame_size l)))) fn under ls1 [] next labels)) z1
       (store_value g area p fn under s2 ls1 [] labels area.at 0 (V.I32 (loc + frame_size l)) I32 next refl (omega arith) (omega arith) (omega arith)) in
       let size3 : length m3 ≡ length m2 = length-overwritten m2 area.at (word (loc + frame_size l)) (omega arith) in
       let tail : C (running s1 fn under ls1 [] d0 labels) 8 (running (with_memory s m3) fn under ls1 [] next labels) =
-      on (keeps g area) p 1 7 _ _ _ e1 (on (keeps g area) p 1 6 _ _ _ e2 (on (keeps g area) p 1 5 _ _ _ e3 (on (keeps g area) p 1 4 _ _ _ f1 (on (keeps g area) p 1 3 _ _ _ f2 (on (keeps g area) p 2 1 _ _ _ f3 f4))))) in
-      let whole = on (keeps g area) p 8 (2 + (3 * kept_count l.fields + 8)) _ _ _ a (on (keeps g area) p 2 (3 * kept_count l.fields + 8) _ _ _ b (on (keeps g area) p (3 * kept_count l.fields) 8 _ _ _ c tail)) in
+      on (keeps g area) p 1 7 _ _ _ e1 (on (keeps g area) p 1 6 _ _ _ e2
+      (on (keeps g area) p 1 5 _ _ _ e3 (on (keeps g area) p 1 4 _ _ _ f1 (on (keeps g area) p 1 3 _ _ _ f2 (on (keeps g area) p 2 1 _ _ _ f3 f4))))) in
+      let whole = on (keeps g area) p 8 (2 + (3 * kept_count l.fields + 8)) _ _ _ a
+      (on (keeps g area) p 2 (3 * kept_count l.fields + 8) _ _ _ b (on (keeps g area) p (3 * kept_count l.fields) 8 _ _ _ c tail)) in
       let cost : 8 + (2 + (3 * kept_count l.fields + 8)) ≡ save_cost l = omega arith in
       let up : (x w : ℕ) → area.at + 4 ≤ x → bytes_at m3 x w ≡ bytes_at m2 x w = λ x w h. bytes_at-overwritten_behind m2 area.at (word (loc + frame_size l)) x w h (omega arith) in
       let out : (x w : ℕ) → (x + w ≤ area.at) ⊎ (area.at + 4 ≤ x) → bytes_at m3 x w ≡ bytes_at m2 x w =
       λ x w h. ⊎_elim (λ lo. bytes_at-overwritten_below m2 area.at (word (loc + frame_size l)) x w lo (omega arith)) (λ hi. up x w hi) h in
       let out2 : (x w : ℕ) → (x + w ≤ loc) ⊎ (loc + frame_size l ≤ x) → bytes_at m2 x w ≡ bytes_at s.memory x w =
-      λ x w h. ⊎_elim (λ lo. bytes_at-overwritten_below m1 (loc + r) (word k) x w (omega arith) (omega arith) ∙ put.below x w lo) (λ hi. bytes_at-overwritten_behind m1 (loc + r) (word k) x w (omega arith) (omega arith) ∙ put.behind x w (omega arith)) h in
+      λ x w h. ⊎_elim (λ lo. bytes_at-overwritten_below m1 (loc + r) (word k) x w (omega arith) (omega arith) ∙ put.below x w lo)
+      (λ hi. bytes_at-overwritten_behind m1 (loc + r) (word k) x w (omega arith) (omega arith) ∙ put.behind x w (omega arith)) h in
       record {
         after = m3;
         pushed = record {
           frame = record {
-            fields = spots_set l.scratch ls (V.I32 loc) m3 loc l.fields sv.fields (still_holds m1 m3 ls1 loc l.scratch l.fields fit1 (λ x w lo hi. up x w (omega arith) ∙ bytes_at-overwritten_below m1 (loc + r) (word k) x w hi (omega arith)) put.holds);
+            fields = spots_set l.scratch ls (V.I32 loc) m3 loc l.fields sv.fields
+                (still_holds m1 m3 ls1 loc l.scratch l.fields fit1 (λ x w lo hi. up x w (omega arith) ∙ bytes_at-overwritten_below m1 (loc + r) (word k) x w hi (omega arith)) put.holds);
             index = up (loc + r) 4 (omega arith) ∙ bytes_at-overwritten m1 (loc + r) (word k) (omega arith);
           };
           location = bytes_at-overwritten m2 area.at (word (loc + frame_size l)) (omega arith);

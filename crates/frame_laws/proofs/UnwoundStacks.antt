@@ -13,7 +13,7 @@ use Rattle.wa_model.proofs.Alone.{one, on}
 use Rattle.frame_laws.specs.FrameMemory.{AreaAt, FieldsFit, HoldsFrameOf, SameBut, Pushed}
 use Rattle.frame_laws.specs.Function.{KeptWithin, unwinding}
 use Rattle.frame_laws.specs.Layout.{fields_size, Layout, frame_size}
-use Rattle.frame_laws.specs.Stack.{Level, activation_of, LevelFits, AllFit, level_size, total_size, behind_call, unwinding_all, outer_of, UnwindsAll, UnwindAll, fit_of, StopsAll, StopAll}
+use Rattle.frame_laws.specs.Stack.{Level, activation_of, LevelFits, AllFit, level_size, total_size, behind_call, unwinding_all, outer_of, UnwindsAll, UnwindAll, fit_of, fitting, HoldsStack, StopsAll, StopAll}
 use Rattle.wa_model.specs.Keeping.{keeps}
 use Rattle.frame_laws.proofs.FieldBytes.{still_holds}
 use Rattle.frame_laws.proofs.OneFunction.{within_on, within_of, unwinds_one_law, stops_one_law}
@@ -24,6 +24,15 @@ still_frame l mem mem2 at sp ls k fit same h = record {
   fields = still_holds mem mem2 ls at sp l.fields fit (λ a w lo hi. same a w lo (omega arith)) h.fields;
   index = same (at + fields_size l.fields) 4 (omega arith) (omega arith) ∙ h.index;
 }
+
+-- at least what was in use
+pub fit_above : (len used : ℕ) (vs : List Level) → used ≤ fit_of len used vs
+fit_above len used [] = omega arith
+fit_above len used (v ∷ vs) = by (nat_lt len (used + level_size v)) (fit_above len (used + level_size v) vs)
+  where
+    by : (b : Bool) → used + level_size v ≤ fit_of len (used + level_size v) vs → used ≤ (if b then used else fit_of len (used + level_size v) vs)
+    by true ih = omega arith
+    by false ih = omega arith
 
 -- the area behind one frame more
 pub area_next : (adr : ℕ) (area : Area) (s : Store) (l : Layout) (loc k : ℕ) (ls : List Value) (after : List ℕ) → AreaAt adr area s loc → loc + frame_size l ≤ area.at + area.len
@@ -83,7 +92,11 @@ module _ (g : ℕ) (area : Area) (p : Module) (st n adr : ℕ) where
       let z : loc1 + total_size (w ∷ vs) ≡ loc + total_size (v ∷ w ∷ vs) = omega arith in
       record {
         after = ih.after;
-        frames = (still_frame v.fn.layout u.after ih.after loc v.fn.layout.scratch v.locals v.site.number f.living.fields (λ x k lo hi. ih.others.same x k (inr (omega arith)) (inl hi)) pu.frame, ih.frames);
+        frames = (
+          still_frame v.fn.layout u.after ih.after loc v.fn.layout.scratch v.locals v.site.number f.living.fields
+              (λ x k lo hi. ih.others.same x k (inr (omega arith)) (inl hi)) pu.frame,
+          ih.frames,
+        );
         location = subst (λ t. HoldsBytes ih.after area.at (word t)) z ih.location;
         others = same_joined area.at loc (level_size v) (total_size (w ∷ vs)) s.memory u.after ih.after pu.others ih.others;
         end = ih.end;
@@ -117,13 +130,15 @@ module _ (g : ℕ) (area : Area) (p : Module) (st n adr : ℕ) where
       → StopsAll g area p (behind_call s v ops vs) (unwinding_all v vs) s used (v ∷ vs)
   full v vs s ops used f e ar q =
       let over = lt_of area.len (used + level_size v) q in
-      let t = stops_one_law g area p st n v.fn v.site v.out v.seek s v.func (map activation_of vs) v.locals ops (area.at + used) f.law e (subst (λ a. AreaAt a area s (area.at + used)) (sym f.address_is) ar) (omega arith) f.living in
+      let t = stops_one_law g area p st n v.fn v.site v.out v.seek s v.func (map activation_of vs) v.locals ops (area.at + used) f.law e
+      (subst (λ a. AreaAt a area s (area.at + used)) (sym f.address_is) ar) (omega arith) f.living in
       let w = t.within in let c = first_cost v vs in
       let fit : used ≡ fit_of area.len used (v ∷ vs) = sym (ap (λ b. if b then used else fit_of area.len (used + level_size v) vs) q) in
       record {
         after = s.memory;
         location = subst (λ u. HoldsBytes s.memory area.at (word (area.at + u))) fit ar.location;
-        others = same_self area.at (area.at + used) (area.len - used) s.memory;
+        frames = subst (λ b. HoldsStack s.memory (area.at + used) (if b then [] else v ∷ fitting area.len (used + level_size v) vs)) (sym q) tt;
+        others = same_self area.at (area.at + used) (fit_of area.len used (v ∷ vs) - used) s.memory;
         traps_at = record { cost = t.cost; within = omega arith; at = t.at; goes = t.goes; traps_there = t.traps_there };
       }
 
@@ -137,7 +152,8 @@ module _ (g : ℕ) (area : Area) (p : Module) (st n adr : ℕ) where
       by_room false q = let le = le_of area.len (used + level_size v) q in absurd (omega arith)
   stop_all v (w ∷ vs) s ops used fit e ar over = by_room (λ s1 ops1 ar1 over1. stop_all w vs s1.0 ops1 (used + level_size v) fit.1 s1.1 ar1 over1) (nat_lt area.len (used + level_size v)) refl
     where
-      by_room : ((s1 : (t : Store) × (value_at t.globals st ≡ V.I32 (suc n))) → (ops1 : List Value) → AreaAt adr area s1.0 (area.at + (used + level_size v)) → area.len < used + level_size v + total_size (w ∷ vs)
+      by_room : ((s1 : (t : Store) × (value_at t.globals st ≡ V.I32 (suc n))) → (ops1 : List Value) → AreaAt adr area s1.0 (area.at + (used + level_size v))
+          → area.len < used + level_size v + total_size (w ∷ vs)
           → StopsAll g area p (behind_call s1.0 w ops1 vs) (unwinding_all w vs) s1.0 (used + level_size v) (w ∷ vs))
           → (b : Bool) → nat_lt area.len (used + level_size v) ≡ b → StopsAll g area p (behind_call s v ops (w ∷ vs)) (unwinding_all v (w ∷ vs)) s used (v ∷ w ∷ vs)
       by_room ih true q = full v (w ∷ vs) s ops used fit.0 e ar q
@@ -149,7 +165,8 @@ module _ (g : ℕ) (area : Area) (p : Module) (st n adr : ℕ) where
           let pu = u.pushed in
           let s1 = with_memory s u.after in
           let ops1 = take (result_count p v.func) u.results ++ w.ops in
-          let a : KeptWithin g area p u.end 1 (behind_call s1 w ops1 vs) = within_of g area p u.end (behind_call s1 w ops1 vs) 1 (one (keeps g area) p 0 u.end (behind_call s1 w ops1 vs) u.may u.ends) in
+          let a : KeptWithin g area p u.end 1 (behind_call s1 w ops1 vs) = within_of g area p u.end (behind_call s1 w ops1 vs) 1
+          (one (keeps g area) p 0 u.end (behind_call s1 w ops1 vs) u.may u.ends) in
           let z : area.at + used + level_size v ≡ area.at + (used + level_size v) = omega arith in
           let ar2 = subst (λ m. AreaAt adr area s1 m) z (area_next adr area s v.fn.layout (area.at + used) v.site.number v.locals u.after ar (omega arith) pu) in
           let r = ih (s1, e) ops1 ar2 (omega arith) in
@@ -159,12 +176,18 @@ module _ (g : ℕ) (area : Area) (p : Module) (st n adr : ℕ) where
           let low = ar.low in
           let fit_is : fit_of area.len (used + level_size v) (w ∷ vs)
           ≡ fit_of area.len used (v ∷ w ∷ vs) = sym (ap (λ b. if b then used else fit_of area.len (used + level_size v) (w ∷ vs)) q) in
-          let others1 = subst (λ m. SameBut area.at 4 m (area.len - (used + level_size v)) u.after r.after) (sym z) r.others in
-          let sum : level_size v + (area.len - (used + level_size v)) ≡ area.len - used = omega arith in
+          let above = fit_above area.len (used + level_size v) (w ∷ vs) in
+          let more : ℕ = fit_of area.len (used + level_size v) (w ∷ vs) - (used + level_size v) in
+          let others1 = subst (λ m. SameBut area.at 4 m more u.after r.after) (sym z) r.others in
+          let sum : level_size v + more ≡ fit_of area.len used (v ∷ w ∷ vs) - used = omega arith in
+          let frame = still_frame v.fn.layout u.after r.after (area.at + used) v.fn.layout.scratch v.locals v.site.number f.living.fields
+          (λ x k lo hi. r.others.same x k (inr (omega arith)) (inl (omega arith))) pu.frame in
+          let behind = subst (λ m. HoldsStack r.after m (fitting area.len (used + level_size v) (w ∷ vs))) (sym z) r.frames in
           record {
             after = r.after;
+            frames = subst (λ b. HoldsStack r.after (area.at + used) (if b then [] else v ∷ fitting area.len (used + level_size v) (w ∷ vs))) (sym q) (frame, behind);
             location = subst (λ m. HoldsBytes r.after area.at (word (area.at + m))) fit_is r.location;
-            others = subst (λ m. SameBut area.at 4 (area.at + used) m s.memory r.after) sum (same_joined area.at (area.at + used) (level_size v) (area.len - (used + level_size v)) s.memory u.after r.after pu.others others1);
+            others = subst (λ m. SameBut area.at 4 (area.at + used) m s.memory r.after) sum (same_joined area.at (area.at + used) (level_size v) more s.memory u.after r.after pu.others others1);
             traps_at = record {
               cost = x.cost + t.cost;
               within = omega arith;

@@ -76,7 +76,8 @@ abbrev pub unwinding : WrittenFunc → (out : ℕ) → ℕ
 unwinding f out = out + save_cost f.layout + 4
 
 -- Its frame is put at the location, and it stands at its end.
-pub record UnwindsTo (g : ℕ) (area : Area) (p : Module) (st : ℕ) (f : WrittenFunc) (c : CallSite) (out : ℕ) (s : Store) (fn : ℕ) (under : List Activation) (ls ops : List Value) (loc : ℕ) : Type 0 where
+pub record UnwindsTo (g : ℕ) (area : Area) (p : Module) (st : ℕ) (f : WrittenFunc) (c : CallSite) (out : ℕ) (s : Store) (fn : ℕ) (under : List Activation) (ls ops : List Value)
+    (loc : ℕ) : Type 0 where
   pub after : List ℕ
   pub pushed : Pushed f.layout area loc ls c.number s.memory after
   pub end : Configuration
@@ -107,7 +108,8 @@ abbrev pub rewinding : WrittenFunc → (seek : ℕ) → ℕ
 rewinding f seek = restore_cost f.layout + 4 + seek
 
 -- Its locals come back, and it stands at the call's arguments.
-pub record RewindsTo (g : ℕ) (area : Area) (p : Module) (st : ℕ) (f : WrittenFunc) (c : CallSite) (seek : ℕ) (s : Store) (fn : ℕ) (under : List Activation) (old ls : List Value) (loc : ℕ) : Type 0 where
+pub record RewindsTo (g : ℕ) (area : Area) (p : Module) (st : ℕ) (f : WrittenFunc) (c : CallSite) (seek : ℕ) (s : Store) (fn : ℕ) (under : List Activation) (old ls : List Value)
+    (loc : ℕ) : Type 0 where
   pub locals : List Value
   pub restored : Restored f.layout old ls locals c.number
   pub after : List ℕ

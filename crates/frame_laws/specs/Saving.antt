@@ -45,7 +45,8 @@ Overflows =
 
 -- Where the frame of `old` at call k stands below the location, its locals and its index come back, the location is lowered, and
 -- nothing else changes.
-pub record RestoresTo (g : ℕ) (area : Area) (p : Module) (fn : ℕ) (under : List Activation) (labels : List Label) (l : Layout) (s : Store) (old ls : List Value) (loc k : ℕ) (next : Code) : Type 0 where
+pub record RestoresTo (g : ℕ) (area : Area) (p : Module) (fn : ℕ) (under : List Activation) (labels : List Label) (l : Layout) (s : Store) (old ls : List Value) (loc k : ℕ)
+    (next : Code) : Type 0 where
   pub locals : List Value
   pub restored : Restored l old ls locals k
   pub after : List ℕ

@@ -101,11 +101,17 @@ abbrev pub fit_of : (len used : ℕ) → List Level → ℕ
 fit_of len used [] = used
 fit_of len used (v ∷ vs) = if nat_lt len (used + level_size v) then used else fit_of len (used + level_size v) vs
 
--- At the first frame that doesn't fit it traps; the location is behind those that do, and nothing outside the area has changed.
+-- those frames
+abbrev pub fitting : (len used : ℕ) → List Level → List Level
+fitting len used [] = []
+fitting len used (v ∷ vs) = if nat_lt len (used + level_size v) then [] else v ∷ fitting len (used + level_size v) vs
+
+-- At the first frame that doesn't fit it traps; those that do stand in a row with the location behind them, and no other byte has changed.
 pub record StopsAll (g : ℕ) (area : Area) (p : Module) (from : Configuration) (bound : ℕ) (s : Store) (used : ℕ) (stack : List Level) : Type 0 where
   pub after : List ℕ
+  pub frames : HoldsStack after (area.at + used) (fitting area.len used stack)
   pub location : HoldsBytes after area.at (word (area.at + fit_of area.len used stack))
-  pub others : SameBut area.at 4 (area.at + used) (area.len - used) s.memory after
+  pub others : SameBut area.at 4 (area.at + used) (fit_of area.len used stack - used) s.memory after
   pub traps_at : TrapsAt g area p from bound (with_memory s after)
 
 abbrev pub StopAll : Type 0

@@ -19,38 +19,38 @@ onto_append : (o : Option Callee) (xs ys : List Callee) → callee_onto o (xs ++
 onto_append None xs ys = refl
 onto_append (Some x) xs ys = refl
 
-calls_then : (a b : Code) → calls_of (followed_by a b) ≡ calls_of a ++ calls_of b
+pub calls_then : (a b : Code) → calls_of (followed_by a b) ≡ calls_of a ++ calls_of b
 unfolding followed_by calls_of
 calls_then done b = refl
 calls_then (plain p c) b = ap (callee_onto (callee p)) (calls_then c b) ∙ onto_append (callee p) (calls_of c) (calls_of b)
 calls_then (nest s t y c) b = ap (λ z. calls_of y ++ z) (calls_then c b) ∙ sym (append_assoc (calls_of y) (calls_of c) (calls_of b))
 calls_then (branch t y z c) b = ap (λ u. calls_of y ++ calls_of z ++ u) (calls_then c b) ∙ sym (append_assoc (calls_of y ++ calls_of z) (calls_of c) (calls_of b))
 
-calls_slots : (xs : List ℕ) (c : Code) → calls_of (slots_got xs c) ≡ calls_of c
+pub calls_slots : (xs : List ℕ) (c : Code) → calls_of (slots_got xs c) ≡ calls_of c
 unfolding calls_of
 calls_slots [] c = refl
 calls_slots (x ∷ xs) c = calls_slots xs c
 
-calls_set : (to : Option ℕ) (c : Code) → calls_of (set_to to c) ≡ calls_of c
+pub calls_set : (to : Option ℕ) (c : Code) → calls_of (set_to to c) ≡ calls_of c
 unfolding calls_of
 calls_set None c = refl
 calls_set (Some x) c = refl
 
-calls_call : (x : Callee) (c : Code) → calls_of (plain (call_to x) c) ≡ x ∷ calls_of c
+pub calls_call : (x : Callee) (c : Code) → calls_of (plain (call_to x) c) ≡ x ∷ calls_of c
 unfolding calls_of
 calls_call (direct y) c = refl
 calls_call (indirect t) c = refl
 
-calls_if : (o : Operand) (a b c : Code) → calls_of (got o (branch None a b c)) ≡ calls_of a ++ calls_of b ++ calls_of c
+pub calls_if : (o : Operand) (a b c : Code) → calls_of (got o (branch None a b c)) ≡ calls_of a ++ calls_of b ++ calls_of c
 unfolding calls_of
 calls_if (Local x) a b c = refl
 calls_if (Const v) a b c = refl
 
-calls_nest : (s : Shape) (a c : Code) → calls_of (nest s None a c) ≡ calls_of a ++ calls_of c
+pub calls_nest : (s : Shape) (a c : Code) → calls_of (nest s None a c) ≡ calls_of a ++ calls_of c
 unfolding calls_of
 calls_nest s a c = refl
 
-calls_done : calls_of done ≡ []
+pub calls_done : calls_of done ≡ []
 unfolding calls_of
 calls_done = refl
 
@@ -98,7 +98,7 @@ module _ (test : Callee → Bool) where
   told_head : (x : Callee) (xs : List Callee) → test x ≡ true → told (x ∷ xs) ≡ suc (told xs)
   told_head x xs e = ap (λ b. if b then suc (told xs) else told xs) e
 
-  told_both : (first : Code) (us : Units) → Calls F first → told (calls_of (flat_units us)) ≡ numbers_in us → told (flat_calls first us) ≡ numbers_in us
+  pub told_both : (first : Code) (us : Units) → Calls F first → told (calls_of (flat_units us)) ≡ numbers_in us → told (flat_calls first us) ≡ numbers_in us
   told_both first us ca e =
       let z = ap told (calls_then first (flat_units us)) in
       let y = told_append (calls_of first) (calls_of (flat_units us)) in
@@ -112,7 +112,7 @@ module _ (test : Callee → Bool) where
       ∙ calls_call x (set_to to (followed_by behind (flat_units rest)))
       ∙ ap (λ z. x ∷ z) (calls_set to (followed_by behind (flat_units rest)))
 
-  told_units : (us : Units) → PiecesCall F us → UnitsNumbered test us → told (calls_of (flat_units us)) ≡ numbers_in us
+  pub told_units : (us : Units) → PiecesCall F us → UnitsNumbered test us → told (calls_of (flat_units us)) ≡ numbers_in us
   told_units no_unit pc ut = ap told calls_done
   told_units (call_unit slots x to behind rest) pc ut =
       let ih = told_both behind rest pc.0 (told_units rest pc.1 ut.1) in
@@ -181,7 +181,13 @@ module _ (test : Callee → Bool) where
     moves k us xs r more us2 xs2 n e m p2 u2 =
         let nb = r.number in
         let ta = told_append r.before more in
-        record { before = r.before ++ more; split = r.split ∙ ap (λ z. r.before ++ z) e ∙ sym (append_assoc r.before more (calls_of (flat_units us2) ++ around xs2)); number = omega arith; pieces = p2; units_told = u2 }
+        record {
+          before = r.before ++ more;
+          split = r.split ∙ ap (λ z. r.before ++ z) e ∙ sym (append_assoc r.before more (calls_of (flat_units us2) ++ around xs2));
+          number = omega arith;
+          pieces = p2;
+          units_told = u2;
+        }
 
     told_two : (a : List Callee) (first : Code) (n : ℕ) → told a ≡ n → Calls F first → told (a ++ calls_of first) ≡ n
     told_two a first n e ca = let y = told_append a (calls_of first) in let x = told_free first ca in omega arith
@@ -201,36 +207,45 @@ module _ (test : Callee → Bool) where
         let r = places k (call_unit slots x to behind rest) xs pl in
         let p = r.pieces in let u = r.units_told in
         let e : calls_of (flat_units (call_unit slots x to behind rest)) ++ around xs ≡ (x ∷ calls_of behind) ++ (calls_of (flat_units rest) ++ around xs) =
-        ap (λ z. z ++ around xs) (calls_call_unit slots x to behind rest ∙ ap (λ z. x ∷ z) (calls_then behind (flat_units rest))) ∙ ap (λ z. x ∷ z) (append_assoc (calls_of behind) (calls_of (flat_units rest)) (around xs)) in
+        ap (λ z. z ++ around xs) (calls_call_unit slots x to behind rest ∙ ap (λ z. x ∷ z) (calls_then behind (flat_units rest)))
+        ∙ ap (λ z. x ∷ z) (append_assoc (calls_of behind) (calls_of (flat_units rest)) (around xs)) in
         let t : told (x ∷ calls_of behind) ≡ 1 = told_head x (calls_of behind) u.0 ∙ ap suc (told_free behind p.0) in
         same (k + 1) rest xs (suc k) (moves k (call_unit slots x to behind rest) xs r (x ∷ calls_of behind) rest xs 1 e t p.1 u.1) (omega arith)
     places _ _ _ (past_block {k = k} {behind = behind} {rest = rest} {xs = xs} inner body pl) =
         let r = places k (nest_unit a_block inner body behind rest) xs pl in
         let p = r.pieces in let u = r.units_told in
         let e : calls_of (flat_units (nest_unit a_block inner body behind rest)) ++ around xs ≡ (flat_calls inner body ++ calls_of behind) ++ (calls_of (flat_units rest) ++ around xs) =
-        ap (λ z. z ++ around xs) (calls_nest a_block (followed_by inner (flat_units body)) (followed_by behind (flat_units rest)) ∙ ap (λ z. flat_calls inner body ++ z) (calls_then behind (flat_units rest))) ∙ simp append_assoc in
-        moves k (nest_unit a_block inner body behind rest) xs r (flat_calls inner body ++ calls_of behind) rest xs (numbers_in body) e (told_two (flat_calls inner body) behind (numbers_in body) (told_both inner body p.0 (told_units body p.1 u.0)) p.2) p.3 u.1
+        ap (λ z. z ++ around xs) (calls_nest a_block (followed_by inner (flat_units body)) (followed_by behind (flat_units rest))
+        ∙ ap (λ z. flat_calls inner body ++ z) (calls_then behind (flat_units rest))) ∙ simp append_assoc in
+        moves k (nest_unit a_block inner body behind rest) xs r (flat_calls inner body ++ calls_of behind) rest xs (numbers_in body) e
+        (told_two (flat_calls inner body) behind (numbers_in body) (told_both inner body p.0 (told_units body p.1 u.0)) p.2) p.3 u.1
     places _ _ _ (past_loop {k = k} {behind = behind} {rest = rest} {xs = xs} inner body pl) =
         let r = places k (nest_unit a_loop inner body behind rest) xs pl in
         let p = r.pieces in let u = r.units_told in
         let e : calls_of (flat_units (nest_unit a_loop inner body behind rest)) ++ around xs ≡ (flat_calls inner body ++ calls_of behind) ++ (calls_of (flat_units rest) ++ around xs) =
-        ap (λ z. z ++ around xs) (calls_nest a_loop (followed_by inner (flat_units body)) (followed_by behind (flat_units rest)) ∙ ap (λ z. flat_calls inner body ++ z) (calls_then behind (flat_units rest))) ∙ simp append_assoc in
-        moves k (nest_unit a_loop inner body behind rest) xs r (flat_calls inner body ++ calls_of behind) rest xs (numbers_in body) e (told_two (flat_calls inner body) behind (numbers_in body) (told_both inner body p.0 (told_units body p.1 u.0)) p.2) p.3 u.1
+        ap (λ z. z ++ around xs) (calls_nest a_loop (followed_by inner (flat_units body)) (followed_by behind (flat_units rest))
+        ∙ ap (λ z. flat_calls inner body ++ z) (calls_then behind (flat_units rest))) ∙ simp append_assoc in
+        moves k (nest_unit a_loop inner body behind rest) xs r (flat_calls inner body ++ calls_of behind) rest xs (numbers_in body) e
+        (told_two (flat_calls inner body) behind (numbers_in body) (told_both inner body p.0 (told_units body p.1 u.0)) p.2) p.3 u.1
     places _ _ _ (past_if {k = k} {behind = behind} {rest = rest} {xs = xs} c fa a fb b pl) =
         let r = places k (if_unit c fa a fb b behind rest) xs pl in
         let p = r.pieces in let u = r.units_told in
         let e : calls_of (flat_units (if_unit c fa a fb b behind rest)) ++ around xs ≡ ((flat_calls fa a ++ flat_calls fb b) ++ calls_of behind) ++ (calls_of (flat_units rest) ++ around xs) =
-        ap (λ z. z ++ around xs) (calls_if c (followed_by fa (flat_units a)) (followed_by fb (flat_units b)) (followed_by behind (flat_units rest)) ∙ ap (λ z. flat_calls fa a ++ flat_calls fb b ++ z) (calls_then behind (flat_units rest))) ∙ simp append_assoc in
+        ap (λ z. z ++ around xs) (calls_if c (followed_by fa (flat_units a)) (followed_by fb (flat_units b)) (followed_by behind (flat_units rest))
+        ∙ ap (λ z. flat_calls fa a ++ flat_calls fb b ++ z) (calls_then behind (flat_units rest))) ∙ simp append_assoc in
         let ta = told_both fa a p.0 (told_units a p.1 u.0) in
         let tb = told_both fb b p.2 (told_units b p.3 u.1) in
         let tt_ = told_append (flat_calls fa a) (flat_calls fb b) in
-        same (k + (numbers_in a + numbers_in b)) rest xs (k + numbers_in a + numbers_in b) (moves k (if_unit c fa a fb b behind rest) xs r ((flat_calls fa a ++ flat_calls fb b) ++ calls_of behind) rest xs (numbers_in a + numbers_in b) e (told_two (flat_calls fa a ++ flat_calls fb b) behind (numbers_in a + numbers_in b) (omega arith) p.4) p.5 u.2) (omega arith)
+        same (k + (numbers_in a + numbers_in b)) rest xs (k + numbers_in a + numbers_in b)
+        (moves k (if_unit c fa a fb b behind rest) xs r ((flat_calls fa a ++ flat_calls fb b) ++ calls_of behind) rest xs (numbers_in a + numbers_in b) e
+        (told_two (flat_calls fa a ++ flat_calls fb b) behind (numbers_in a + numbers_in b) (omega arith) p.4) p.5 u.2) (omega arith)
     places _ _ _ (in_block {k = k} {first = inner} {body = body} {behind = behind} {rest = rest} {xs = xs} h pl) =
         let r = places k (nest_unit a_block inner body behind rest) xs pl in
         let p = r.pieces in let u = r.units_told in
         let xs2 = in_a_block h (k + numbers_in body) done done behind rest ∷ xs in
         let e1 : calls_of (flat_units (nest_unit a_block inner body behind rest)) ++ around xs ≡ calls_of inner ++ (calls_of (flat_units body) ++ ([] ++ (flat_calls behind rest ++ around xs))) =
-        ap (λ z. z ++ around xs) (calls_nest a_block (followed_by inner (flat_units body)) (followed_by behind (flat_units rest)) ∙ ap (λ z. z ++ flat_calls behind rest) (calls_then inner (flat_units body))) ∙ simp append_assoc in
+        ap (λ z. z ++ around xs) (calls_nest a_block (followed_by inner (flat_units body)) (followed_by behind (flat_units rest))
+        ∙ ap (λ z. z ++ flat_calls behind rest) (calls_then inner (flat_units body))) ∙ simp append_assoc in
         let e : calls_of (flat_units (nest_unit a_block inner body behind rest)) ++ around xs ≡ calls_of inner ++ (calls_of (flat_units body) ++ around xs2) =
         e1 ∙ ap (λ z. calls_of inner ++ (calls_of (flat_units body) ++ (z ++ (flat_calls behind rest ++ around xs)))) (sym calls_done) in
         same (k + 0) body xs2 k (moves k (nest_unit a_block inner body behind rest) xs r (calls_of inner) body xs2 0 e (told_free inner p.0) p.1 u.0) (omega arith)
@@ -239,23 +254,27 @@ module _ (test : Callee → Bool) where
         let p = r.pieces in let u = r.units_told in
         let xs2 = in_a_loop h k inner body (k + numbers_in body) behind rest ∷ xs in
         let e : calls_of (flat_units (nest_unit a_loop inner body behind rest)) ++ around xs ≡ calls_of inner ++ (calls_of (flat_units body) ++ around xs2) =
-        ap (λ z. z ++ around xs) (calls_nest a_loop (followed_by inner (flat_units body)) (followed_by behind (flat_units rest)) ∙ ap (λ z. z ++ flat_calls behind rest) (calls_then inner (flat_units body))) ∙ simp append_assoc in
+        ap (λ z. z ++ around xs) (calls_nest a_loop (followed_by inner (flat_units body)) (followed_by behind (flat_units rest))
+        ∙ ap (λ z. z ++ flat_calls behind rest) (calls_then inner (flat_units body))) ∙ simp append_assoc in
         same (k + 0) body xs2 k (moves k (nest_unit a_loop inner body behind rest) xs r (calls_of inner) body xs2 0 e (told_free inner p.0) p.1 u.0) (omega arith)
     places _ _ _ (in_then {k = k} {c = c} {fa = fa} {a = a} {fb = fb} {b = b} {behind = behind} {rest = rest} {xs = xs} h pl) =
         let r = places k (if_unit c fa a fb b behind rest) xs pl in
         let p = r.pieces in let u = r.units_told in
         let e : calls_of (flat_units (if_unit c fa a fb b behind rest)) ++ around xs ≡ calls_of fa ++ (calls_of (flat_units a) ++ (flat_calls fb b ++ (flat_calls behind rest ++ around xs))) =
-        ap (λ z. z ++ around xs) (calls_if c (followed_by fa (flat_units a)) (followed_by fb (flat_units b)) (followed_by behind (flat_units rest)) ∙ ap (λ z. z ++ flat_calls fb b ++ flat_calls behind rest) (calls_then fa (flat_units a))) ∙ simp append_assoc in
+        ap (λ z. z ++ around xs) (calls_if c (followed_by fa (flat_units a)) (followed_by fb (flat_units b)) (followed_by behind (flat_units rest))
+        ∙ ap (λ z. z ++ flat_calls fb b ++ flat_calls behind rest) (calls_then fa (flat_units a))) ∙ simp append_assoc in
         same (k + 0) a _ k (moves k (if_unit c fa a fb b behind rest) xs r (calls_of fa) a _ 0 e (told_free fa p.0) p.1 u.0) (omega arith)
     places _ _ _ (in_else {k = k} {c = c} {fa = fa} {a = a} {fb = fb} {b = b} {behind = behind} {rest = rest} {xs = xs} h pl) =
         let r = places k (if_unit c fa a fb b behind rest) xs pl in
         let p = r.pieces in let u = r.units_told in
         let xs2 = in_a_block h (k + numbers_in a + numbers_in b) done done behind rest ∷ xs in
         let e1 : calls_of (flat_units (if_unit c fa a fb b behind rest)) ++ around xs ≡ (flat_calls fa a ++ calls_of fb) ++ (calls_of (flat_units b) ++ ([] ++ (flat_calls behind rest ++ around xs))) =
-        ap (λ z. z ++ around xs) (calls_if c (followed_by fa (flat_units a)) (followed_by fb (flat_units b)) (followed_by behind (flat_units rest)) ∙ ap (λ z. flat_calls fa a ++ z ++ flat_calls behind rest) (calls_then fb (flat_units b))) ∙ simp append_assoc in
+        ap (λ z. z ++ around xs) (calls_if c (followed_by fa (flat_units a)) (followed_by fb (flat_units b)) (followed_by behind (flat_units rest))
+        ∙ ap (λ z. flat_calls fa a ++ z ++ flat_calls behind rest) (calls_then fb (flat_units b))) ∙ simp append_assoc in
         let e : calls_of (flat_units (if_unit c fa a fb b behind rest)) ++ around xs ≡ (flat_calls fa a ++ calls_of fb) ++ (calls_of (flat_units b) ++ around xs2) =
         e1 ∙ ap (λ z. (flat_calls fa a ++ calls_of fb) ++ (calls_of (flat_units b) ++ (z ++ (flat_calls behind rest ++ around xs)))) (sym calls_done) in
-        moves k (if_unit c fa a fb b behind rest) xs r (flat_calls fa a ++ calls_of fb) b xs2 (numbers_in a) e (told_two (flat_calls fa a) fb (numbers_in a) (told_both fa a p.0 (told_units a p.1 u.0)) p.2) p.3 u.1
+        moves k (if_unit c fa a fb b behind rest) xs r (flat_calls fa a ++ calls_of fb) b xs2 (numbers_in a) e
+        (told_two (flat_calls fa a) fb (numbers_in a) (told_both fa a p.0 (told_units a p.1 u.0)) p.2) p.3 u.1
 
     -- the labels hold the calls around
     labels_hold : (xs : List Enclosing) → calls_behind (flat_labels f xs) ≡ length (around xs)
@@ -279,7 +298,8 @@ module _ (test : Callee → Bool) where
         let z : 0 + length r.before ≡ length r.before = omega arith in
         record {
           place = length r.before;
-          number = ap (λ cs. slice_get (places_from test 0 cs) k) e ∙ subst (λ n. slice_get (places_from test 0 (r.before ++ x ∷ after_)) n ≡ Some (length r.before)) r.number (at_number r.before x after_ 0 u.0 ∙ ap Some z);
+          number = ap (λ cs. slice_get (places_from test 0 cs) k) e ∙ subst (λ n. slice_get (places_from test 0 (r.before ++ x ∷ after_)) n ≡ Some (length r.before)) r.number
+              (at_number r.before x after_ 0 u.0 ∙ ap Some z);
           goes_to = ap (λ cs. slice_get cs (length r.before)) e ∙ in_front r.before x after_;
           counted = omega arith;
         }
@@ -317,14 +337,17 @@ module _ (test : Callee → Bool) (ps : List ℕ) where
   units_told n (nests s body rest) t = by (holds_call ps n body) (units_told n body t.0) (units_told (n + call_total body) rest t.1)
     where
       by : (b : Bool) → UnitsNumbered test (units ps n body) → UnitsNumbered test (units ps (n + call_total body) rest)
-          → UnitsNumbered test (if b then nest_unit s (first_piece ps n body) (units ps n body) (first_piece ps (n + call_total body) rest) (units ps (n + call_total body) rest) else units ps (n + call_total body) rest)
+          → UnitsNumbered test (if b then nest_unit s (first_piece ps n body) (units ps n body) (first_piece ps (n + call_total body) rest)
+          (units ps (n + call_total body) rest) else units ps (n + call_total body) rest)
       by true ib ih = (ib, ih)
       by false ib ih = ih
-  units_told n (decides c a b rest) t = by (holds_call ps n a || holds_call ps (n + call_total a) b) (units_told n a t.0) (units_told (n + call_total a) b t.1) (units_told (n + call_total a + call_total b) rest t.2)
+  units_told n (decides c a b rest) t = by (holds_call ps n a || holds_call ps (n + call_total a) b) (units_told n a t.0) (units_told (n + call_total a) b t.1)
+      (units_told (n + call_total a + call_total b) rest t.2)
     where
       by : (h : Bool) → UnitsNumbered test (units ps n a) → UnitsNumbered test (units ps (n + call_total a) b)
           → UnitsNumbered test (units ps (n + call_total a + call_total b) rest)
-          → UnitsNumbered test (if h then if_unit c (first_piece ps n a) (units ps n a) (first_piece ps (n + call_total a) b) (units ps (n + call_total a) b) (first_piece ps (n + call_total a + call_total b) rest) (units ps (n + call_total a + call_total b) rest) else units ps (n + call_total a + call_total b) rest)
+          → UnitsNumbered test (if h then if_unit c (first_piece ps n a) (units ps n a) (first_piece ps (n + call_total a) b) (units ps (n + call_total a) b)
+          (first_piece ps (n + call_total a + call_total b) rest) (units ps (n + call_total a + call_total b) rest) else units ps (n + call_total a + call_total b) rest)
       by true ia ib ih = (ia, ib, ih)
       by false ia ib ih = ih
   units_told n (halts rest) t = units_told n rest t

@@ -45,7 +45,8 @@ module _ (c : Around) where
       → all_alike (inner ++ more ++ ls) r (map (raise (length inner) (length more)) labels) ≡ all_alike (inner ++ ls) r labels
   all_alike_too inner more ls r [] = refl
   all_alike_too inner more ls r (l ∷ labels) =
-      ap (λ o. agrees_with r o && all_alike (inner ++ more ++ ls) r (map (raise (length inner) (length more)) labels)) (there inner more ls l) ∙ ap (λ b. agrees_with r (slice_get (inner ++ ls) l) && b) (all_alike_too inner more ls r labels)
+      ap (λ o. agrees_with r o && all_alike (inner ++ more ++ ls) r (map (raise (length inner) (length more)) labels)) (there inner more ls l)
+      ∙ ap (λ b. agrees_with r (slice_get (inner ++ ls) l) && b) (all_alike_too inner more ls r labels)
 
   sig_too : (inner more ls : Labels) (p : Plain) → sig c (inner ++ more ++ ls) (raised_plain (length inner) (length more) p) ≡ sig c (inner ++ ls) p
   sig_too inner more ls (basic b) = refl
@@ -199,13 +200,16 @@ module _ (c : Around) where
     front_typed ls d k (call_unit slots x to behind rest) first e h =
         let hb = first_typed ls behind rest h.2 in (
           tests (None ∷ ls) (index_with i (basic (num I32Ne)) k (plain (br_if 1) done)) (raised 0 2 first) _ [] (leaves_block ls k) (below_two ls first h.0)
-              (slots_too ls (None ∷ ls) slots (plain (call_to x) (set_to to done)) (plain (call_to x) (noted i d k (set_to to (raised 0 1 behind)))) [] [] (λ mids t. calls_too ls d k x to behind mids e hb t) h.1),
+              (slots_too ls (None ∷ ls) slots (plain (call_to x) (set_to to done)) (plain (call_to x) (noted i d k (set_to to (raised 0 1 behind)))) [] []
+              (λ mids t. calls_too ls d k x to behind mids e hb t) h.1),
           front_typed ls d (suc k) rest done e (done_typed ls behind rest h.2),
         )
     front_typed ls d k (nest_unit a_block inner body behind rest) first e h =
-        guards ls first (nest a_block None (front i (suc d) k inner body) (front i d (k + numbers_in body) behind rest)) h.0 (front_typed (None ∷ ls) (suc d) k body inner e h.1, front_typed ls d (k + numbers_in body) rest behind e h.2)
+        guards ls first (nest a_block None (front i (suc d) k inner body) (front i d (k + numbers_in body) behind rest)) h.0
+        (front_typed (None ∷ ls) (suc d) k body inner e h.1, front_typed ls d (k + numbers_in body) rest behind e h.2)
     front_typed ls d k (nest_unit a_loop inner body behind rest) first e h =
-        guards ls first (nest a_loop None (front i (suc d) k inner body) (front i d (k + numbers_in body) behind rest)) h.0 (front_typed (None ∷ ls) (suc d) k body inner e h.1, front_typed ls d (k + numbers_in body) rest behind e h.2)
+        guards ls first (nest a_loop None (front i (suc d) k inner body) (front i d (k + numbers_in body) behind rest)) h.0
+        (front_typed (None ∷ ls) (suc d) k body inner e h.1, front_typed ls d (k + numbers_in body) rest behind e h.2)
     front_typed ls d k (if_unit o fa a fb b behind rest) first e h =
         let ta = arm_typed (None ∷ ls) a fa (front i (suc d) k fa a) (first_typed (None ∷ ls) fa a h.2) (front_typed (None ∷ ls) (suc d) k a fa e h.2) in
         let tb = arm_typed (None ∷ ls) b fb (front i (suc d) (k + numbers_in a) fb b) (first_typed (None ∷ ls) fb b h.3) (front_typed (None ∷ ls) (suc d) (k + numbers_in a) b fb e h.3) in

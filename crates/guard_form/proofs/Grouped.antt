@@ -80,7 +80,8 @@ unfolding followed_by code_of
 joins ps n no_more = refl
 joins ps n (computes op args to rest) =
     then_all_got args (followed_by op (set_to to (first_piece ps n rest))) (flat_units (units ps n rest))
-    ∙ ap (all_got args) (then_then op (set_to to (first_piece ps n rest)) (flat_units (units ps n rest)) ∙ ap (followed_by op) (then_set to (first_piece ps n rest) (flat_units (units ps n rest)) ∙ ap (set_to to) (joins ps n rest)))
+    ∙ ap (all_got args) (then_then op (set_to to (first_piece ps n rest)) (flat_units (units ps n rest))
+    ∙ ap (followed_by op) (then_set to (first_piece ps n rest) (flat_units (units ps n rest)) ∙ ap (set_to to) (joins ps n rest)))
 joins ps n (copies to from rest) = then_got from (plain (local_set to) (first_piece ps n rest)) (flat_units (units ps n rest)) ∙ ap (λ c. got from (plain (local_set to) c)) (joins ps n rest)
 joins ps n (calls op stack args to rest) = by_number (numbered ps n op) refl (joins ps (suc n) rest)
   where
@@ -88,22 +89,26 @@ joins ps n (calls op stack args to rest) = by_number (numbered ps n op) refl (jo
     slots = last_of args stack
 
     by_number : (o : Option Callee) → numbered ps n op ≡ o → joined ps (suc n) rest ≡ code_of rest
-        → followed_by (piece_call o (slots_got slots (followed_by op (set_to to (first_piece ps (suc n) rest))))) (flat_units (unit_call o slots to (first_piece ps (suc n) rest) (units ps (suc n) rest))) ≡ slots_got slots (followed_by op (set_to to (code_of rest)))
+        → followed_by (piece_call o (slots_got slots (followed_by op (set_to to (first_piece ps (suc n) rest)))))
+        (flat_units (unit_call o slots to (first_piece ps (suc n) rest) (units ps (suc n) rest))) ≡ slots_got slots (followed_by op (set_to to (code_of rest)))
     by_number None e ih =
         then_slots slots (followed_by op (set_to to (first_piece ps (suc n) rest))) (flat_units (units ps (suc n) rest))
-        ∙ ap (slots_got slots) (then_then op (set_to to (first_piece ps (suc n) rest)) (flat_units (units ps (suc n) rest)) ∙ ap (followed_by op) (then_set to (first_piece ps (suc n) rest) (flat_units (units ps (suc n) rest)) ∙ ap (set_to to) ih))
+        ∙ ap (slots_got slots) (then_then op (set_to to (first_piece ps (suc n) rest)) (flat_units (units ps (suc n) rest))
+        ∙ ap (followed_by op) (then_set to (first_piece ps (suc n) rest) (flat_units (units ps (suc n) rest)) ∙ ap (set_to to) ih))
     by_number (Some x) e ih =
         ap (λ c. slots_got slots (plain (call_to x) (set_to to c))) ih ∙ ap (λ z. slots_got slots (followed_by z (set_to to (code_of rest)))) (sym (numbered_is ps n op x e))
 joins ps n (leaps l rest) = ap (plain (br l)) (joins ps n rest)
 joins ps n (leaps_if c l rest) = then_got c (plain (br_if l) (first_piece ps n rest)) (flat_units (units ps n rest)) ∙ ap (λ z. got c (plain (br_if l) z)) (joins ps n rest)
-joins ps n (leaps_by index labels last rest) = then_got index (plain (br_table labels last) (first_piece ps n rest)) (flat_units (units ps n rest)) ∙ ap (λ z. got index (plain (br_table labels last) z)) (joins ps n rest)
+joins ps n (leaps_by index labels last rest) = then_got index (plain (br_table labels last) (first_piece ps n rest)) (flat_units (units ps n rest))
+    ∙ ap (λ z. got index (plain (br_table labels last) z)) (joins ps n rest)
 joins ps n (nests s body rest) = by_held (holds_call ps n body) (joins ps n body) (joins ps (n + call_total body) rest)
   where
     m : ℕ
     m = n + call_total body
 
     by_held : (b : Bool) → joined ps n body ≡ code_of body → joined ps (n + call_total body) rest ≡ code_of rest
-        → followed_by (if b then done else nest s None (code_of body) (first_piece ps m rest)) (flat_units (if b then nest_unit s (first_piece ps n body) (units ps n body) (first_piece ps m rest) (units ps m rest) else units ps m rest)) ≡ nest s None (code_of body) (code_of rest)
+        → followed_by (if b then done else nest s None (code_of body) (first_piece ps m rest))
+        (flat_units (if b then nest_unit s (first_piece ps n body) (units ps n body) (first_piece ps m rest) (units ps m rest) else units ps m rest)) ≡ nest s None (code_of body) (code_of rest)
     by_held true ib ih = ap (λ c. nest s None c (joined ps m rest)) ib ∙ ap (nest s None (code_of body)) ih
     by_held false ib ih = ap (nest s None (code_of body)) ih
 joins ps n (decides c a b rest) = by_held (holds_call ps n a || holds_call ps (n + call_total a) b) (joins ps n a) (joins ps (n + call_total a) b) (joins ps (n + call_total a + call_total b) rest)
@@ -118,7 +123,8 @@ joins ps n (decides c a b rest) = by_held (holds_call ps n a || holds_call ps (n
         → followed_by (if h then done else got c (branch None (code_of a) (code_of b) (first_piece ps m rest)))
         (flat_units (if h then if_unit c (first_piece ps n a) (units ps n a) (first_piece ps k b) (units ps k b) (first_piece ps m rest) (units ps m rest) else units ps m rest))
         ≡ got c (branch None (code_of a) (code_of b) (code_of rest))
-    by_held true ia ib ih = ap (λ z. got c (branch None z (joined ps k b) (joined ps m rest))) ia ∙ ap (λ z. got c (branch None (code_of a) z (joined ps m rest))) ib ∙ ap (λ z. got c (branch None (code_of a) (code_of b) z)) ih
+    by_held true ia ib ih = ap (λ z. got c (branch None z (joined ps k b) (joined ps m rest))) ia ∙ ap (λ z. got c (branch None (code_of a) z (joined ps m rest))) ib
+        ∙ ap (λ z. got c (branch None (code_of a) (code_of b) z)) ih
     by_held false ia ib ih = then_got c (branch None (code_of a) (code_of b) (first_piece ps m rest)) (flat_units (units ps m rest)) ∙ ap (λ z. got c (branch None (code_of a) (code_of b) z)) ih
 joins ps n (halts rest) = ap (plain unreachable) (joins ps n rest)
 
@@ -147,14 +153,16 @@ has_unit ps n (leaps_by index labels last rest) e = has_unit ps n rest e
 has_unit ps n (nests s body rest) e = by (holds_call ps n body) e (has_unit ps (n + call_total body) rest)
   where
     by : (b : Bool) → (b || holds_call ps (n + call_total body) rest) ≡ true → (holds_call ps (n + call_total body) rest ≡ true → Some_unit (units ps (n + call_total body) rest))
-        → Some_unit (if b then nest_unit s (first_piece ps n body) (units ps n body) (first_piece ps (n + call_total body) rest) (units ps (n + call_total body) rest) else units ps (n + call_total body) rest)
+        → Some_unit (if b then nest_unit s (first_piece ps n body) (units ps n body) (first_piece ps (n + call_total body) rest) (units ps (n + call_total body) rest) else units ps
+        (n + call_total body) rest)
     by true e ih = tt
     by false e ih = ih e
 has_unit ps n (decides c a b rest) e = by (holds_call ps n a || holds_call ps (n + call_total a) b) e (has_unit ps (n + call_total a + call_total b) rest)
   where
     by : (h : Bool) → (h || holds_call ps (n + call_total a + call_total b) rest) ≡ true
         → (holds_call ps (n + call_total a + call_total b) rest ≡ true → Some_unit (units ps (n + call_total a + call_total b) rest))
-        → Some_unit (if h then if_unit c (first_piece ps n a) (units ps n a) (first_piece ps (n + call_total a) b) (units ps (n + call_total a) b) (first_piece ps (n + call_total a + call_total b) rest) (units ps (n + call_total a + call_total b) rest) else units ps (n + call_total a + call_total b) rest)
+        → Some_unit (if h then if_unit c (first_piece ps n a) (units ps n a) (first_piece ps (n + call_total a) b) (units ps (n + call_total a) b)
+        (first_piece ps (n + call_total a + call_total b) rest) (units ps (n + call_total a + call_total b) rest) else units ps (n + call_total a + call_total b) rest)
     by true e ih = tt
     by false e ih = ih e
 has_unit ps n (halts rest) e = has_unit ps n rest e
@@ -189,14 +197,17 @@ arms_hold ps n (leaps_by index labels last rest) = arms_hold ps n rest
 arms_hold ps n (nests s body rest) = by (holds_call ps n body) (arms_hold ps n body) (arms_hold ps (n + call_total body) rest)
   where
     by : (b : Bool) → ArmsHold (units ps n body) → ArmsHold (units ps (n + call_total body) rest)
-        → ArmsHold (if b then nest_unit s (first_piece ps n body) (units ps n body) (first_piece ps (n + call_total body) rest) (units ps (n + call_total body) rest) else units ps (n + call_total body) rest)
+        → ArmsHold (if b then nest_unit s (first_piece ps n body) (units ps n body) (first_piece ps (n + call_total body) rest) (units ps (n + call_total body) rest) else units ps
+        (n + call_total body) rest)
     by true ib ih = (ib, ih)
     by false ib ih = ih
-arms_hold ps n (decides c a b rest) = by (holds_call ps n a) refl (holds_call ps (n + call_total a) b) refl (arms_hold ps n a) (arms_hold ps (n + call_total a) b) (arms_hold ps (n + call_total a + call_total b) rest)
+arms_hold ps n (decides c a b rest) = by (holds_call ps n a) refl (holds_call ps (n + call_total a) b) refl (arms_hold ps n a) (arms_hold ps (n + call_total a) b)
+    (arms_hold ps (n + call_total a + call_total b) rest)
   where
     by : (x : Bool) → holds_call ps n a ≡ x → (y : Bool) → holds_call ps (n + call_total a) b ≡ y → ArmsHold (units ps n a) → ArmsHold (units ps (n + call_total a) b)
         → ArmsHold (units ps (n + call_total a + call_total b) rest)
-        → ArmsHold (if x || y then if_unit c (first_piece ps n a) (units ps n a) (first_piece ps (n + call_total a) b) (units ps (n + call_total a) b) (first_piece ps (n + call_total a + call_total b) rest) (units ps (n + call_total a + call_total b) rest) else units ps (n + call_total a + call_total b) rest)
+        → ArmsHold (if x || y then if_unit c (first_piece ps n a) (units ps n a) (first_piece ps (n + call_total a) b) (units ps (n + call_total a) b)
+        (first_piece ps (n + call_total a + call_total b) rest) (units ps (n + call_total a + call_total b) rest) else units ps (n + call_total a + call_total b) rest)
     by true e y f ia ib ih = (one_has (units ps n a) (units ps (n + call_total a) b) (has_unit ps n a e), ia, ib, ih)
     by false e true f ia ib ih = (other_has (units ps n a) (units ps (n + call_total a) b) (has_unit ps (n + call_total a) b f), ia, ib, ih)
     by false e false f ia ib ih = ih
@@ -241,7 +252,7 @@ module _ (P : Callee → Type 0) where
   calls_none (nest s t b c) h = (calls_none b h.0, calls_none c h.1)
   calls_none (branch t a b c) h = (calls_none a h.0, calls_none b h.1, calls_none c h.2)
 
-or_false : (x y : Bool) → (x || y) ≡ false → (x ≡ false) × (y ≡ false)
+pub or_false : (x y : Bool) → (x || y) ≡ false → (x ≡ false) × (y ≡ false)
 or_false true y e = cc
 or_false false y e = (refl, e)
 
@@ -300,7 +311,8 @@ module _ (test : Callee → Bool) (ps : List ℕ) where
   free_pieces n (calls op stack args to rest) t = by (numbered ps n op) refl (free_pieces (suc n) rest t.1)
     where
       by : (o : Option Callee) → numbered ps n op ≡ o → Free (suc n) rest
-          → Calls F (piece_call o (slots_got (last_of args stack) (followed_by op (set_to to (first_piece ps (suc n) rest))))) × PiecesCall F (unit_call o (last_of args stack) to (first_piece ps (suc n) rest) (units ps (suc n) rest))
+          → Calls F (piece_call o (slots_got (last_of args stack) (followed_by op (set_to to (first_piece ps (suc n) rest))))) × PiecesCall F
+          (unit_call o (last_of args stack) to (first_piece ps (suc n) rest) (units ps (suc n) rest))
       by None e r = (calls_slots F (last_of args stack) _ (calls_then F op _ (free_op n op (t.0).0 (t.0).1 (t.0).2 e) (calls_to F to _ r.0)), r.1)
       by (Some x) e r = (tt, r)
   free_pieces n (leaps l rest) t = let r = free_pieces n rest t in ((tt, r.0), r.1)
@@ -310,14 +322,17 @@ module _ (test : Callee → Bool) (ps : List ℕ) where
     where
       by : (b : Bool) → holds_call ps n body ≡ b → Free n body → Free (n + call_total body) rest
           → Calls F (if b then done else nest s None (code_of body) (first_piece ps (n + call_total body) rest))
-          × PiecesCall F (if b then nest_unit s (first_piece ps n body) (units ps n body) (first_piece ps (n + call_total body) rest) (units ps (n + call_total body) rest) else units ps (n + call_total body) rest)
+          × PiecesCall F (if b then nest_unit s (first_piece ps n body) (units ps n body) (first_piece ps (n + call_total body) rest) (units ps (n + call_total body) rest) else units ps
+          (n + call_total body) rest)
       by true e ib r = (tt, (ib.0, ib.1, r.0, r.1))
       by false e ib r = ((free_code n body t.0 e, r.0), r.1)
-  free_pieces n (decides c a b rest) t = by (holds_call ps n a || holds_call ps (n + call_total a) b) refl (free_pieces n a t.0) (free_pieces (n + call_total a) b t.1) (free_pieces (n + call_total a + call_total b) rest t.2)
+  free_pieces n (decides c a b rest) t = by (holds_call ps n a || holds_call ps (n + call_total a) b) refl (free_pieces n a t.0) (free_pieces (n + call_total a) b t.1)
+      (free_pieces (n + call_total a + call_total b) rest t.2)
     where
       by : (h : Bool) → (holds_call ps n a || holds_call ps (n + call_total a) b) ≡ h → Free n a → Free (n + call_total a) b → Free (n + call_total a + call_total b) rest
           → Calls F (if h then done else got c (branch None (code_of a) (code_of b) (first_piece ps (n + call_total a + call_total b) rest)))
-          × PiecesCall F (if h then if_unit c (first_piece ps n a) (units ps n a) (first_piece ps (n + call_total a) b) (units ps (n + call_total a) b) (first_piece ps (n + call_total a + call_total b) rest) (units ps (n + call_total a + call_total b) rest) else units ps (n + call_total a + call_total b) rest)
+          × PiecesCall F (if h then if_unit c (first_piece ps n a) (units ps n a) (first_piece ps (n + call_total a) b) (units ps (n + call_total a) b)
+          (first_piece ps (n + call_total a + call_total b) rest) (units ps (n + call_total a + call_total b) rest) else units ps (n + call_total a + call_total b) rest)
       by true e ia ib r = (tt, (ia.0, ia.1, ib.0, ib.1, r.0, r.1))
       by false e ia ib r = let o = or_false (holds_call ps n a) (holds_call ps (n + call_total a) b) e in (calls_got F c _ (free_code n a t.0 o.0, free_code (n + call_total a) b t.1 o.1, r.0), r.1)
   free_pieces n (halts rest) t = let r = free_pieces n rest t in ((tt, r.0), r.1)

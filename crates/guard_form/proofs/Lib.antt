@@ -6,3 +6,5 @@ pub mod PieceTypes
 pub mod Sizes
 pub mod UnitLemmas
 pub mod Walks
+pub mod UnitCounts
+pub mod PlacesOfCalls

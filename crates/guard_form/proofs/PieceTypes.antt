@@ -54,11 +54,13 @@ module _ (c : Around) where
   operand_before : (ls : List (Option ValType)) (o : Operand) (a b r : Code) → Types c ls (got o done) (I32 ∷ []) [] → Types c (None ∷ ls) a [] [] → Types c (None ∷ ls) b [] []
       → Types c ls r [] [] → Types c ls (got o (branch None a b r)) [] []
   operand_before ls o a b r h ha hb hr =
-      subst (λ z. Types c ls z [] []) (then_got o done (branch None a b r) ∙ ap (got o) (nothing (branch None a b r))) (types_then ls (got o done) (branch None a b r) [] (I32 ∷ []) [] h (tested ls a b r ha hb hr))
+      subst (λ z. Types c ls z [] []) (then_got o done (branch None a b r) ∙ ap (got o) (nothing (branch None a b r)))
+      (types_then ls (got o done) (branch None a b r) [] (I32 ∷ []) [] h (tested ls a b r ha hb hr))
 
   computes_is : (args : List Operand) (op : Code) (to : Option ℕ) (r : Code)
       → followed_by (all_got args (followed_by op (set_to to done))) r ≡ all_got args (followed_by op (set_to to r))
-  computes_is args op to r = then_all_got args (followed_by op (set_to to done)) r ∙ ap (all_got args) (then_then op (set_to to done) r ∙ ap (followed_by op) (then_set to done r ∙ ap (set_to to) (nothing r)))
+  computes_is args op to r = then_all_got args (followed_by op (set_to to done)) r
+      ∙ ap (all_got args) (then_then op (set_to to done) r ∙ ap (followed_by op) (then_set to done r ∙ ap (set_to to) (nothing r)))
 
   calls_is : (xs : List ℕ) (op : Code) (to : Option ℕ) (r : Code) → followed_by (slots_got xs (followed_by op (set_to to done))) r ≡ slots_got xs (followed_by op (set_to to r))
   calls_is xs op to r = then_slots xs (followed_by op (set_to to done)) r ∙ ap (slots_got xs) (then_then op (set_to to done) r ∙ ap (followed_by op) (then_set to done r ∙ ap (set_to to) (nothing r)))
@@ -96,30 +98,43 @@ module _ (c : Around) where
 
     pieces_typed : (ls : List (Option ValType)) (n : ℕ) (s : Stmts) → StmtsTyped c ls s → UnitsTyped c ls (first_piece ps n s) (units ps n s)
     pieces_typed ls n no_more h = ended ls
-    pieces_typed ls n (computes op args to rest) h = onto ls (units ps n rest) (first_piece ps n rest) _ (pieces_typed ls n rest h.1) (λ t. before ls _ (first_piece ps n rest) _ (computes_is args op to (first_piece ps n rest)) h.0 t)
-    pieces_typed ls n (copies to from rest) h = onto ls (units ps n rest) (first_piece ps n rest) _ (pieces_typed ls n rest h.1) (λ t. before ls _ (first_piece ps n rest) _ (got_is from (local_set to) (first_piece ps n rest)) h.0 t)
+    pieces_typed ls n (computes op args to rest) h = onto ls (units ps n rest) (first_piece ps n rest) _ (pieces_typed ls n rest h.1)
+        (λ t. before ls _ (first_piece ps n rest) _ (computes_is args op to (first_piece ps n rest)) h.0 t)
+    pieces_typed ls n (copies to from rest) h = onto ls (units ps n rest) (first_piece ps n rest) _ (pieces_typed ls n rest h.1)
+        (λ t. before ls _ (first_piece ps n rest) _ (got_is from (local_set to) (first_piece ps n rest)) h.0 t)
     pieces_typed ls n (calls op stack args to rest) h = by (numbered ps n op) refl (pieces_typed ls (suc n) rest h.1)
       where
         by : (o : Option Callee) → numbered ps n op ≡ o → Good ls (suc n) rest
-            → UnitsTyped c ls (piece_call o (slots_got (last_of args stack) (followed_by op (set_to to (first_piece ps (suc n) rest))))) (unit_call o (last_of args stack) to (first_piece ps (suc n) rest) (units ps (suc n) rest))
-        by None e ih = onto ls (units ps (suc n) rest) (first_piece ps (suc n) rest) _ ih (λ t. before ls _ (first_piece ps (suc n) rest) _ (calls_is (last_of args stack) op to (first_piece ps (suc n) rest)) h.0 t)
+            → UnitsTyped c ls (piece_call o (slots_got (last_of args stack) (followed_by op (set_to to (first_piece ps (suc n) rest)))))
+            (unit_call o (last_of args stack) to (first_piece ps (suc n) rest) (units ps (suc n) rest))
+        by None e ih = onto ls (units ps (suc n) rest) (first_piece ps (suc n) rest) _ ih
+            (λ t. before ls _ (first_piece ps (suc n) rest) _ (calls_is (last_of args stack) op to (first_piece ps (suc n) rest)) h.0 t)
         by (Some x) e ih = (ended ls, the_call ls n op x (last_of args stack) to e h.0, ih)
-    pieces_typed ls n (leaps l rest) h = onto ls (units ps n rest) (first_piece ps n rest) _ (pieces_typed ls n rest h.1) (λ t. before ls _ (first_piece ps n rest) _ (one_then (br l) (first_piece ps n rest)) h.0 t)
-    pieces_typed ls n (leaps_if o l rest) h = onto ls (units ps n rest) (first_piece ps n rest) _ (pieces_typed ls n rest h.1) (λ t. before ls _ (first_piece ps n rest) _ (got_is o (br_if l) (first_piece ps n rest)) h.0 t)
-    pieces_typed ls n (leaps_by o labels last rest) h = onto ls (units ps n rest) (first_piece ps n rest) _ (pieces_typed ls n rest h.1) (λ t. before ls _ (first_piece ps n rest) _ (got_is o (br_table labels last) (first_piece ps n rest)) h.0 t)
+    pieces_typed ls n (leaps l rest) h = onto ls (units ps n rest) (first_piece ps n rest) _ (pieces_typed ls n rest h.1)
+        (λ t. before ls _ (first_piece ps n rest) _ (one_then (br l) (first_piece ps n rest)) h.0 t)
+    pieces_typed ls n (leaps_if o l rest) h = onto ls (units ps n rest) (first_piece ps n rest) _ (pieces_typed ls n rest h.1)
+        (λ t. before ls _ (first_piece ps n rest) _ (got_is o (br_if l) (first_piece ps n rest)) h.0 t)
+    pieces_typed ls n (leaps_by o labels last rest) h = onto ls (units ps n rest) (first_piece ps n rest) _ (pieces_typed ls n rest h.1)
+        (λ t. before ls _ (first_piece ps n rest) _ (got_is o (br_table labels last) (first_piece ps n rest)) h.0 t)
     pieces_typed ls n (nests s body rest) h = by (holds_call ps n body) (pieces_typed (None ∷ ls) n body h.0) (pieces_typed ls (n + call_total body) rest h.1)
       where
         by : (b : Bool) → Good (None ∷ ls) n body → Good ls (n + call_total body) rest
-            → UnitsTyped c ls (if b then done else nest s None (code_of body) (first_piece ps (n + call_total body) rest)) (if b then nest_unit s (first_piece ps n body) (units ps n body) (first_piece ps (n + call_total body) rest) (units ps (n + call_total body) rest) else units ps (n + call_total body) rest)
+            → UnitsTyped c ls (if b then done else nest s None (code_of body) (first_piece ps (n + call_total body) rest))
+            (if b then nest_unit s (first_piece ps n body) (units ps n body) (first_piece ps (n + call_total body) rest) (units ps (n + call_total body) rest) else units ps
+            (n + call_total body) rest)
         by true ib ih = (ended ls, ib, ih)
-        by false ib ih = onto ls (units ps (n + call_total body) rest) (first_piece ps (n + call_total body) rest) _ ih (λ t. nested ls s (code_of body) (first_piece ps (n + call_total body) rest) (code_typed (None ∷ ls) body h.0) t)
-    pieces_typed ls n (decides o a b rest) h = by (holds_call ps n a || holds_call ps (n + call_total a) b) (pieces_typed (None ∷ ls) n a h.1) (pieces_typed (None ∷ ls) (n + call_total a) b h.2) (pieces_typed ls (n + call_total a + call_total b) rest h.3)
+        by false ib ih = onto ls (units ps (n + call_total body) rest) (first_piece ps (n + call_total body) rest) _ ih
+            (λ t. nested ls s (code_of body) (first_piece ps (n + call_total body) rest) (code_typed (None ∷ ls) body h.0) t)
+    pieces_typed ls n (decides o a b rest) h = by (holds_call ps n a || holds_call ps (n + call_total a) b) (pieces_typed (None ∷ ls) n a h.1)
+        (pieces_typed (None ∷ ls) (n + call_total a) b h.2) (pieces_typed ls (n + call_total a + call_total b) rest h.3)
       where
         by : (x : Bool) → Good (None ∷ ls) n a → Good (None ∷ ls) (n + call_total a) b → Good ls (n + call_total a + call_total b) rest
             → UnitsTyped c ls (if x then done else got o (branch None (code_of a) (code_of b) (first_piece ps (n + call_total a + call_total b) rest)))
-            (if x then if_unit o (first_piece ps n a) (units ps n a) (first_piece ps (n + call_total a) b) (units ps (n + call_total a) b) (first_piece ps (n + call_total a + call_total b) rest) (units ps (n + call_total a + call_total b) rest) else units ps (n + call_total a + call_total b) rest)
+            (if x then if_unit o (first_piece ps n a) (units ps n a) (first_piece ps (n + call_total a) b) (units ps (n + call_total a) b)
+            (first_piece ps (n + call_total a + call_total b) rest) (units ps (n + call_total a + call_total b) rest) else units ps (n + call_total a + call_total b) rest)
         by true ia ib ih = (ended ls, h.0, ia, ib, ih)
-        by false ia ib ih = onto ls (units ps (n + call_total a + call_total b) rest) (first_piece ps (n + call_total a + call_total b) rest) _ ih (λ t. operand_before ls o (code_of a) (code_of b) (first_piece ps (n + call_total a + call_total b) rest) h.0 (code_typed (None ∷ ls) a h.1) (code_typed (None ∷ ls) b h.2) t)
+        by false ia ib ih = onto ls (units ps (n + call_total a + call_total b) rest) (first_piece ps (n + call_total a + call_total b) rest) _ ih
+            (λ t. operand_before ls o (code_of a) (code_of b) (first_piece ps (n + call_total a + call_total b) rest) h.0 (code_typed (None ∷ ls) a h.1) (code_typed (None ∷ ls) b h.2) t)
     pieces_typed ls n (halts rest) h = onto ls (units ps n rest) (first_piece ps n rest) _ (pieces_typed ls n rest h) (λ t. halted ls (first_piece ps n rest) t)
 
 pub pieces_law : PiecesTyped

@@ -10,14 +10,14 @@ use Rattle.wa_model.specs.declared.flat.Operand.{Operand}
 use Rattle.wa_model.specs.declared.flat.Operand.TheVariants.{Local, Const}
 use Rattle.wa_model.specs.Rewrites.{instructions_and_labels}
 use Rattle.wa_model.specs.Flat.{Stmts, no_more, computes, copies, calls, leaps, leaps_if, leaps_by, nests, decides, halts, followed_by, got, set_to, slots_got, last_of}
-use Rattle.guard_form.specs.Bounds.{over, unit_count, SizeBound, DepthBound, PassingBound, calls_and_constructs, UnitsFew, plain_reads, reads, ReadsBound}
+use Rattle.guard_form.specs.Bounds.{over, unit_count, SizeBound, DepthBound, PassingBound, plain_reads, reads, ReadsBound}
 use Rattle.guard_form.specs.Guarded.{raise, raised_plain, raised, GuardIndices, guarded, noted, choice, arm, front}
 use Rattle.guard_form.specs.Pieces.{Units, no_unit, call_unit, nest_unit, if_unit, numbers_in, call_to, flat_units, call_total, numbered, holds_call, first_piece, unit_call, units}
 
 abbrev size : Code → ℕ
 size c = instructions_and_labels c
 
-size_then : (c d : Code) → size (followed_by c d) ≡ size c + size d
+pub size_then : (c d : Code) → size (followed_by c d) ≡ size c + size d
 unfolding followed_by instructions_and_labels
 size_then done d = omega arith
 size_then (plain p c) d = let ih = size_then c d in omega arith
@@ -51,7 +51,7 @@ size_guarded i (plain p c) next = let e = size_raised 0 1 (plain p c) in omega a
 size_guarded i (nest s t b c) next = let e = size_raised 0 1 (nest s t b c) in omega arith
 size_guarded i (branch t a b c) next = let e = size_raised 0 1 (branch t a b c) in omega arith
 
-size_slots : (xs : List ℕ) (c : Code) → size (slots_got xs c) ≡ length xs + size c
+pub size_slots : (xs : List ℕ) (c : Code) → size (slots_got xs c) ≡ length xs + size c
 unfolding instructions_and_labels
 size_slots [] c = omega arith
 size_slots (x ∷ xs) c = let ih = size_slots xs c in omega arith
@@ -60,17 +60,17 @@ abbrev set_size : Option ℕ → ℕ
 set_size None = 0
 set_size (Some x) = 1
 
-size_set : (to : Option ℕ) (c : Code) → size (set_to to c) ≡ set_size to + size c
+pub size_set : (to : Option ℕ) (c : Code) → size (set_to to c) ≡ set_size to + size c
 unfolding instructions_and_labels
 size_set None c = omega arith
 size_set (Some x) c = omega arith
 
-size_got : (a : Operand) (c : Code) → size (got a c) ≡ 1 + size c
+pub size_got : (a : Operand) (c : Code) → size (got a c) ≡ 1 + size c
 unfolding instructions_and_labels
 size_got (Local x) c = refl
 size_got (Const v) c = refl
 
-no_labels : (x : Callee) → label_count (call_to x) ≡ 0
+pub no_labels : (x : Callee) → label_count (call_to x) ≡ 0
 no_labels (direct x) = refl
 no_labels (indirect t) = refl
 
@@ -237,7 +237,8 @@ deep_front i d k first (nest_unit s inner body behind rest) =
     let ib = deep_front i (suc d) k inner body in
     let ih = deep_front i d (k + numbers_in body) behind rest in
     let e = deep_then first (flat_units (nest_unit s inner body behind rest)) in
-    deep_guarded i first (nest s None (front i (suc d) k inner body) (front i d (k + numbers_in body) behind rest)) (deep (followed_by first (flat_units (nest_unit s inner body behind rest))) + 2) (omega arith) (omega arith)
+    deep_guarded i first (nest s None (front i (suc d) k inner body) (front i d (k + numbers_in body) behind rest))
+    (deep (followed_by first (flat_units (nest_unit s inner body behind rest))) + 2) (omega arith) (omega arith)
 deep_front i d k first (if_unit c fa a fb b behind rest) =
     let na = front i (suc d) k fa a in
     let nb = front i (suc d) (k + numbers_in a) fb b in
@@ -277,44 +278,10 @@ passing_law first (call_unit slots x to behind rest) = let ih = passing_law done
 passing_law first (nest_unit s inner body behind rest) = let o = over_few first in let ib = passing_law inner body in let ih = passing_law behind rest in omega arith
 passing_law first (if_unit c fa a fb b behind rest) = let o = over_few first in let ia = passing_law fa a in let ib = passing_law fb b in let ih = passing_law behind rest in omega arith
 
-abbrev few : List ℕ → ℕ → Stmts → Type 0
-few ps n s = unit_count (units ps n s) ≤ calls_and_constructs s
-
-units_few : (ps : List ℕ) (n : ℕ) (s : Stmts) → few ps n s
-units_few ps n no_more = omega arith
-units_few ps n (computes op args to rest) = units_few ps n rest
-units_few ps n (copies to from rest) = units_few ps n rest
-units_few ps n (calls op stack args to rest) = by (numbered ps n op) (units_few ps (suc n) rest)
-  where
-    by : (o : Option Callee) → few ps (suc n) rest
-        → unit_count (unit_call o (last_of args stack) to (first_piece ps (suc n) rest) (units ps (suc n) rest)) ≤ 1 + calls_and_constructs rest
-    by None ih = omega arith
-    by (Some x) ih = omega arith
-units_few ps n (leaps l rest) = units_few ps n rest
-units_few ps n (leaps_if c l rest) = units_few ps n rest
-units_few ps n (leaps_by index labels last rest) = units_few ps n rest
-units_few ps n (nests s body rest) = by (holds_call ps n body) (units_few ps n body) (units_few ps (n + call_total body) rest)
-  where
-    by : (b : Bool) → few ps n body → few ps (n + call_total body) rest
-        → unit_count (if b then nest_unit s (first_piece ps n body) (units ps n body) (first_piece ps (n + call_total body) rest) (units ps (n + call_total body) rest) else units ps (n + call_total body) rest) ≤ 1 + calls_and_constructs body + calls_and_constructs rest
-    by true ib ih = omega arith
-    by false ib ih = omega arith
-units_few ps n (decides c a b rest) = by (holds_call ps n a || holds_call ps (n + call_total a) b) (units_few ps n a) (units_few ps (n + call_total a) b) (units_few ps (n + call_total a + call_total b) rest)
-  where
-    by : (h : Bool) → few ps n a → few ps (n + call_total a) b → few ps (n + call_total a + call_total b) rest
-        → unit_count (if h then if_unit c (first_piece ps n a) (units ps n a) (first_piece ps (n + call_total a) b) (units ps (n + call_total a) b) (first_piece ps (n + call_total a + call_total b) rest) (units ps (n + call_total a + call_total b) rest) else units ps (n + call_total a + call_total b) rest)
-        ≤ 1 + calls_and_constructs a + calls_and_constructs b + calls_and_constructs rest
-    by true ia ib ih = omega arith
-    by false ia ib ih = omega arith
-units_few ps n (halts rest) = units_few ps n rest
-
-pub few_law : UnitsFew
-few_law ps n s = units_few ps n s
-
 -- ---- reads of the state
 
 module _ (st : ℕ) where
-  one_read : (p : Plain) → plain_reads st p ≤ 1
+  pub one_read : (p : Plain) → plain_reads st p ≤ 1
   one_read (basic (global_get x)) = by (nat_eq x st)
     where
       by : (b : Bool) → (if b then 1 else 0) ≤ 1

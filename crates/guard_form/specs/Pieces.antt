@@ -110,6 +110,7 @@ units ps n (nests s body rest) =
     else units ps (n + call_total body) rest
 units ps n (decides c a b rest) =
     if holds_call ps n a || holds_call ps (n + call_total a) b
-    then if_unit c (first_piece ps n a) (units ps n a) (first_piece ps (n + call_total a) b) (units ps (n + call_total a) b) (first_piece ps (n + call_total a + call_total b) rest) (units ps (n + call_total a + call_total b) rest)
+    then if_unit c (first_piece ps n a) (units ps n a) (first_piece ps (n + call_total a) b) (units ps (n + call_total a) b) (first_piece ps (n + call_total a + call_total b) rest)
+    (units ps (n + call_total a + call_total b) rest)
     else units ps (n + call_total a + call_total b) rest
 units ps n (halts rest) = units ps n rest

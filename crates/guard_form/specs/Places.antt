@@ -47,7 +47,8 @@ pub data BodyPlace (st : ℕ) (f : GuardedFunc) : ℕ → Units → List Enclosi
       → BodyPlace st f k body (in_a_loop h k first body (k + numbers_in body) behind rest ∷ xs)
   in_then : {k : ℕ} {c : Operand} {fa : Code} {a : Units} {fb : Code} {b : Units} {behind : Code} {rest : Units} {xs : List Enclosing} → (h : ℕ)
       → BodyPlace st f k (if_unit c fa a fb b behind rest) xs
-      → BodyPlace st f k a (in_a_block h (k + numbers_in a + numbers_in b) (followed_by fb (flat_units b)) (arm b fb (front (indices_of st f) (suc (length xs)) (k + numbers_in a) fb b)) behind rest ∷ xs)
+      → BodyPlace st f k a (in_a_block h (k + numbers_in a + numbers_in b) (followed_by fb (flat_units b))
+      (arm b fb (front (indices_of st f) (suc (length xs)) (k + numbers_in a) fb b)) behind rest ∷ xs)
   in_else : {k : ℕ} {c : Operand} {fa : Code} {a : Units} {fb : Code} {b : Units} {behind : Code} {rest : Units} {xs : List Enclosing} → (h : ℕ)
       → BodyPlace st f k (if_unit c fa a fb b behind rest) xs
       → BodyPlace st f (k + numbers_in a) b (in_a_block h (k + numbers_in a + numbers_in b) done done behind rest ∷ xs)

@@ -48,10 +48,22 @@ body_keeps g area p st k h f l slots x to behind rest xs u arms place bottom =
       leaves = λ n s fn under ls ops e.
           let q = unwinds_law p st n k h f s fn under ls ops to behind rest xs e in
           let d1 = all_keep g area p _ _ 4 [] q in
-          record { cost = 4; within = omega arith; goes = subst (λ i. GoesKeeping g area p (from s fn under ls ops) 4 (running s fn under (slice_set ls i (V.I32 k)) [] (epilogue st (written_of st f l)) [])) (sym u.index) (subst (λ c. GoesKeeping g area p (from s fn under ls ops) 4 (running s fn under (slice_set ls f.size (V.I32 k)) [] (by_state st c done (result_got f.result)) [])) u.saving d1) };
+          record {
+            cost = 4;
+            within = omega arith;
+            goes = subst (λ i. GoesKeeping g area p (from s fn under ls ops) 4
+                (running s fn under (slice_set ls i (V.I32 k)) [] (epilogue st (written_of st f l)) [])) (sym u.index)
+                (subst (λ c. GoesKeeping g area p (from s fn under ls ops) 4 (running s fn under (slice_set ls f.size (V.I32 k)) [] (by_state st c done (result_got f.result)) [])) u.saving d1);
+          };
       seeks = λ n s fn under ls e i.
           let q = seeks_law p st n k f s fn under ls slots x to behind rest xs e (ap (value_at ls) (sym u.index) ∙ i) arms place bottom in
-          record { cost = q.cost; within = q.within; goes = subst (λ c. GoesKeeping g area p (running s fn under ls [] (front (indices_of st f) 0 0 f.first f.body) (block_label 0 0 (by_state st c done (result_got f.result)) done ∷ [])) q.cost (there s fn under ls)) u.saving (all_keep g area p _ _ q.cost [] q.goes) };
+          record {
+            cost = q.cost;
+            within = q.within;
+            goes = subst (λ c. GoesKeeping g area p
+                (running s fn under ls [] (front (indices_of st f) 0 0 f.first f.body) (block_label 0 0 (by_state st c done (result_got f.result)) done ∷ [])) q.cost
+                (there s fn under ls)) u.saving (all_keep g area p _ _ q.cost [] q.goes);
+          };
     }
   where
     from : Store → ℕ → List Activation → List Value → List Value → Configuration

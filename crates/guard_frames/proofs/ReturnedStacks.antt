@@ -29,7 +29,8 @@ module _ (v : Setting) (lay : ℕ → Layout) where
   again callee _ _ [] (host top) may re = record { new = []; stopped = host top; same = tt; count = refl }
   again callee _ _ (a ∷ new') (host top) may re = absurd re
   again callee _ _ [] (above fn here is ls extra ops taken both h pl gt deep under) may re = absurd re
-  again callee _ _ (a ∷ new') (above {f = f} {k = k} {slots = slots} {x = x} {to = to} {behind = behind} {rest = rest} {xs = xs} {under = us} {under' = us'} fn here is ls extra ops taken both h pl gt deep under) may re =
+  again callee _ _ (a ∷ new') (above {f = f} {k = k} {slots = slots} {x = x} {to = to} {behind = behind} {rest = rest} {xs = xs} {under = us} {under' = us'} fn here is ls extra ops
+      taken both h pl gt deep under) may re =
       let ih = again fn us us' new' under may.10 re.1 in
       let r = re.0 in
       let ks = r.kept_same in
@@ -43,7 +44,8 @@ module _ (v : Setting) (lay : ℕ → Layout) where
       let both2 : Locals (with_guards f) ls2 extra2 = record { size = n1 ∙ both.size; more = n2 ∙ both.more } in
       let count = ih.count in
       let code : Code = noted_code v.globals f (length xs) k to behind in
-      let made : Stopped v callee (waiting fn ls2 [] taken (set_to to (followed_by behind (flat_units rest))) (flat_labels f xs) ∷ ih.new) (waiting fn (ls2 ++ extra2) [] taken code (call_label v.globals f 0 (length xs) k rest ∷ written_labels v.globals f xs) ∷ new') =
+      let made : Stopped v callee (waiting fn ls2 [] taken (set_to to (followed_by behind (flat_units rest))) (flat_labels f xs) ∷ ih.new)
+      (waiting fn (ls2 ++ extra2) [] taken code (call_label v.globals f 0 (length xs) k rest ∷ written_labels v.globals f xs) ∷ new') =
       above {k = k} {slots = slots} {x = x} {to = to} {behind = behind} {rest = rest} {xs = xs} fn here is ls2 extra2 [] taken both2 0 pl gt (omega arith) ih.stopped in
       let act : waiting fn (ls2 ++ extra2) [] taken code (call_label v.globals f 0 (length xs) k rest ∷ written_labels v.globals f xs) ≡ a =
       ap (λ ys. waiting fn ys [] taken code (call_label v.globals f 0 (length xs) k rest ∷ written_labels v.globals f xs)) whole ∙ sym r.is in

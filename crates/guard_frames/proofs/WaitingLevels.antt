@@ -92,7 +92,8 @@ module _ (v : Setting) (pair : Paired v) where
       by_slots (x ∷ xs) e =
           let r = last_of x xs in
           let split : w.site.slots ≡ r.before ++ r.last ∷ [] = e ∙ r.is in
-          let q : V.I32 n ∷ rest ≡ value_at w.locals r.last ∷ slot_values w.locals r.before [] = sym parts ∙ took ∙ ap (λ ys. slot_values w.locals ys []) split ∙ snoc_args w.locals r.before r.last [] in
+          let q : V.I32 n ∷ rest ≡ value_at w.locals r.last ∷ slot_values w.locals r.before [] = sym parts ∙ took ∙ ap (λ ys. slot_values w.locals ys []) split
+          ∙ snoc_args w.locals r.before r.last [] in
           let value : value_at w.locals r.last ≡ V.I32 n = cc in
           let others : slot_values w.locals r.before [] ≡ rest = cc in
           let m = length-args w.locals r.before [] in
@@ -112,7 +113,8 @@ module _ (v : Setting) (pair : Paired v) where
       × (param_count (func_type_at v.flat fn) + length (declared_locals func.locals) ≡ length (ls ++ extra))
   entered_by lay fn f func ls extra lt is def u both = by_twin (pair.twin fn lt)
     where
-      by_twin : Twin (sides_of v) fn → (func.body ≡ function_code v.globals (written_of v.globals f (lay fn))) × (param_count (func_type_at v.flat fn) + length (declared_locals func.locals) ≡ length (ls ++ extra))
+      by_twin : Twin (sides_of v) fn → (func.body ≡ function_code v.globals (written_of v.globals f (lay fn))) ×
+          (param_count (func_type_at v.flat fn) + length (declared_locals func.locals) ≡ length (ls ++ extra))
       by_twin (both_import none none2) =
           let q : Some func ≡ None = sym def ∙ none2 in
           cc
@@ -135,19 +137,50 @@ module _ (v : Setting) (pair : Paired v) where
       → w.func ≡ fn → w.fn ≡ written_of v.globals f (lay fn) → w.locals ≡ ls ++ extra → (d : Stopped v fn us us') → MayStand v lay d → ChainOf v (levels_of v lay d)
       → Chain v.written v.globals v.table w (levels_of v lay d)
   link lay fn w f func ls extra _ _ lt is def u both e1 e2 e3 (host top) may chain = tt
-  link lay fn w f func ls extra _ _ lt is def u both e1 e2 e3 (above {f = f2} {k = k2} {slots = slots2} {x = x2} {to = to2} {behind = behind2} {rest = rest2} {xs = xs2} fn2 here2 is2 ls2 extra2 ops2 taken2 both2 h2 pl2 gt2 deep2 under2) may chain =
-      let w2 : Level = record { func = fn2; fn = written_of v.globals f2 (lay fn2); site = site_of v.globals f2 k2 h2 slots2 x2 to2 behind2 rest2 xs2; locals = ls2 ++ extra2; ops = ops2; taken = taken2; out = 4; seek = passing f2.first f2.body } in
-      let took : taken2 ≡ slot_values (ls2 ++ extra2) slots2 [] = may.9 ∙ sym (args_same ls2 (ls2 ++ extra2) slots2 (lay fn2).fields [] may.8 (λ y q. kept_left ls2 extra2 y (lay fn2).fields may.6 q)) in
+  link lay fn w f func ls extra _ _ lt is def u both e1 e2 e3 (above {f = f2} {k = k2} {slots = slots2} {x = x2} {to = to2} {behind = behind2} {rest = rest2} {xs = xs2} fn2 here2 is2
+      ls2 extra2 ops2 taken2 both2 h2 pl2 gt2 deep2 under2) may chain =
+      let w2 : Level = record {
+        func = fn2;
+        fn = written_of v.globals f2 (lay fn2);
+        site = site_of v.globals f2 k2 h2 slots2 x2 to2 behind2 rest2 xs2;
+        locals = ls2 ++ extra2;
+        ops = ops2;
+        taken = taken2;
+        out = 4;
+        seek = passing f2.first f2.body;
+      } in
+      let took : taken2 ≡ slot_values (ls2 ++ extra2) slots2 [] = may.9
+      ∙ sym (args_same ls2 (ls2 ++ extra2) slots2 (lay fn2).fields [] may.8 (λ y q. kept_left ls2 extra2 y (lay fn2).fields may.6 q)) in
       let ct = calls_to w2 x2 fn lt refl took gt2 in
       let en = entered_by lay fn f func ls extra lt is def u both in
-      let size : ct.0 + length (declared_locals func.locals) ≡ length w.locals = ap (λ n. n + length (declared_locals func.locals)) ct.2 ∙ en.1 ∙ ap length (sym e3) in
-      (record { params = ct.0; goes_to = subst (λ y. CallsTo v.written v.table w2 ct.0 y) (sym e1) ct.1; func = func; defined = ap (defined_at v.written) e1 ∙ def; body = en.0 ∙ ap (function_code v.globals) (sym e2); size = size }, chain)
+      let size : ct.0 + length (declared_locals func.locals) ≡ length w.locals = ap (λ n. n + length (declared_locals func.locals)) ct.2 ∙ en.1 ∙ ap length (sym e3) in (
+        record {
+          params = ct.0;
+          goes_to = subst (λ y. CallsTo v.written v.table w2 ct.0 y) (sym e1) ct.1;
+          func = func;
+          defined = ap (defined_at v.written) e1 ∙ def;
+          body = en.0
+              ∙ ap (function_code v.globals) (sym e2);
+          size = size;
+        },
+        chain,
+      )
 
   module _ (g : ℕ) (area : Area) (lay : ℕ → Layout) where
     are_levels : (callee : ℕ) (us us' : List Activation) (d : Stopped v callee us us') → MayStand v lay d → AreLevels g area v us' (levels_of v lay d)
     are_levels callee _ _ (host top) may = record { acts = refl; fit = tt; chain = tt }
-    are_levels callee _ _ (above {f = f} {k = k} {slots = slots} {x = x} {to = to} {behind = behind} {rest = rest} {xs = xs} {under = us} {under' = us'} fn here is ls extra ops taken both h pl gt deep under) may =
-        let w : Level = record { func = fn; fn = written_of v.globals f (lay fn); site = site_of v.globals f k h slots x to behind rest xs; locals = ls ++ extra; ops = ops; taken = taken; out = 4; seek = passing f.first f.body } in
+    are_levels callee _ _ (above {f = f} {k = k} {slots = slots} {x = x} {to = to} {behind = behind} {rest = rest} {xs = xs} {under = us} {under' = us'} fn here is ls extra ops taken
+        both h pl gt deep under) may =
+        let w : Level = record {
+          func = fn;
+          fn = written_of v.globals f (lay fn);
+          site = site_of v.globals f k h slots x to behind rest xs;
+          locals = ls ++ extra;
+          ops = ops;
+          taken = taken;
+          out = 4;
+          seek = passing f.first f.body;
+        } in
         let l = lay fn in
         let u = may.1 in
         let ix = u.index in

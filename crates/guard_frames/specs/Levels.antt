@@ -21,7 +21,16 @@ use Rattle.guard_runs.specs.Stopped.{host, above, Stopped}
 abbrev pub levels_of : (v : Setting) (lay : ℕ → Layout) {g : ℕ} {us us' : List Activation} → Stopped v g us us' → List Level
 levels_of v lay (host e) = []
 levels_of v lay (above {f = f} {k = k} {slots = slots} {x = x} {to = to} {behind = behind} {rest = rest} {xs = xs} fn here is ls extra ops taken both h pl gt deep under) =
-    (record { func = fn; fn = written_of v.globals f (lay fn); site = site_of v.globals f k h slots x to behind rest xs; locals = ls ++ extra; ops = ops; taken = taken; out = 4; seek = passing f.first f.body })
+    (record {
+      func = fn;
+      fn = written_of v.globals f (lay fn);
+      site = site_of v.globals f k h slots x to behind rest xs;
+      locals = ls ++ extra;
+      ops = ops;
+      taken = taken;
+      out = 4;
+      seek = passing f.first f.body;
+    })
     ∷ levels_of v lay under
 
 -- the kept locals are flat ones, of their types and in range

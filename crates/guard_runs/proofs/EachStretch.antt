@@ -21,7 +21,8 @@ each_step w c c' ok nr pr = by_next (step w.flat c) (step w.written nr.mid) refl
   where
     by_next : (o o' : Next) → step w.written nr.mid ≡ o' → Matched w o o' → ComesToo w c' o
     by_next _ _ e (both_step {k = k} {d = d} {d' = d'} near) =
-        let sh = nr.short in it_steps (nr.lag + suc k) d' (on w.written nr.lag (suc k) c' nr.mid d' (record { by = loud w.written c' nr.mid nr.lag [] nr.goes }) (one w.written k nr.mid d' e)).by (omega arith) (omega arith) near
+        let sh = nr.short in it_steps (nr.lag + suc k) d' (on w.written nr.lag (suc k) c' nr.mid d' (record { by = loud w.written c' nr.mid nr.lag [] nr.goes })
+        (one w.written k nr.mid d' e)).by (omega arith) (omega arith) near
     by_next _ _ e (both_ask {d' = d'} a) = it_asks nr.lag nr.mid d' (loud w.written c' nr.mid nr.lag [] nr.goes) nr.short e a
     by_next _ _ e (both_return {s' = s'} al) = it_returns nr.lag nr.mid s' (loud w.written c' nr.mid nr.lag [] nr.goes) nr.short e al
     by_next _ _ e (both_trap {s' = s'} al) = it_traps nr.lag nr.mid s' (loud w.written c' nr.mid nr.lag [] nr.goes) nr.short e al
@@ -37,7 +38,14 @@ each_stretch w c c' d m ok nr (moves {d = e} {k = k} {n = n} pr is rest em) = by
         let qe : e2 ≡ e = cc in
         let r = ih to (subst (λ x. Near w 9 x to) qe ne) in
         let rl = r.least in let rm = r.most in
-        record { cost = cost + r.cost; to = r.to; goes = (on w.written cost r.cost c' to r.to (record { by = go }) (record { by = r.goes })).by; least = omega arith; most = omega arith; near = r.near }
+        record {
+          cost = cost + r.cost;
+          to = r.to;
+          goes = (on w.written cost r.cost c' to r.to (record { by = go }) (record { by = r.goes })).by;
+          least = omega arith;
+          most = omega arith;
+          near = r.near;
+        }
     by_next _ q (it_asks cost at to go mo st a) ih = cc
     by_next _ q (it_returns cost at s' go mo st al) ih = cc
     by_next _ q (it_traps cost at s' go mo st al) ih = cc
@@ -69,7 +77,21 @@ calls_begin w s s' args g g' ok lt is is' la al = by_twin (ok.twin w.top lt)
         long = let l1 = length-append args zs in let l2 = length-map (declared_locals h.locals) zero_of in omega arith
 
         inside : Ctx w (w.role w.top)
-        inside = record { s = s; s' = s'; alike = al; fn = w.top; here = lt; is = refl; under = []; under' = []; us = host refl; deep = omega arith; ls = args ++ zs; extra = more; both = record { size = long; more = length-map (extra_types (w.role w.top)) zero_of } }
+        inside = record {
+          s = s;
+          s' = s';
+          alike = al;
+          fn = w.top;
+          here = lt;
+          is = refl;
+          under = [];
+          under' = [];
+          us = host refl;
+          deep = omega arith;
+          ls = args ++ zs;
+          extra = more;
+          both = record { size = long; more = length-map (extra_types (w.role w.top)) zero_of };
+        }
 
         at_h : Near w 9 (entered s [] args w.top h) (entered s' [] args w.top h')
         at_h =

@@ -34,7 +34,8 @@ pause = plain (call 0) done
 
 abbrev stmts : Stmts
 stmts =
-    nests a_block (calls pause [] 0 None (computes (plain (basic (num I32Add)) done) (Local 0 ∷ Const (V.I32 1) ∷ []) (Some 0) (leaps_if (Local 1) 0 (calls pause [] 0 None (calls pause [] 0 None no_more)))))
+    nests a_block (calls pause [] 0 None (computes (plain (basic (num I32Add)) done) (Local 0 ∷ Const (V.I32 1) ∷ []) (Some 0)
+    (leaps_if (Local 1) 0 (calls pause [] 0 None (calls pause [] 0 None no_more)))))
     (nests a_loop (decides (Local 1) (copies 0 (Const (V.I32 7)) (leaps 2 no_more)) (calls pause [] 0 None no_more) no_more) no_more)
 
 abbrev places : List ℕ
@@ -54,7 +55,8 @@ abbrev spelled : Code
 spelled =
     nest a_block None
     (nest a_block None
-    (plain (basic (global_get 0)) (branch None (passed 0) done (call_it 2 (plain (local_get 0) (plain (basic (const (V.I32 1))) (plain (basic (num I32Add)) (plain (local_set 0) (plain (local_get 1) (plain (br_if 1) done)))))) 0)))
+    (plain (basic (global_get 0)) (branch None (passed 0) done (call_it 2 (plain (local_get 0)
+    (plain (basic (const (V.I32 1))) (plain (basic (num I32Add)) (plain (local_set 0) (plain (local_get 1) (plain (br_if 1) done)))))) 0)))
     (nest a_block None
     (plain (basic (global_get 0)) (branch None (passed 1) done (call_it 2 done 1)))
     (nest a_block None
@@ -222,7 +224,8 @@ differ = record {
 }
   where
     at_func : (j : ℕ) (g g' : Func) → slice_get (flat_func ∷ []) j ≡ Some g → slice_get (written_func ∷ []) j ≡ Some g' → SameFunction setting (1 + j) g g'
-    at_func zero g g' e e' = let z : flat_func ≡ g = cc in let z' : written_func ≡ g' = cc in subst (λ y. SameFunction setting 1 y g') z (subst (λ y. SameFunction setting 1 flat_func y) z' same_function)
+    at_func zero g g' e e' = let z : flat_func ≡ g = cc in let z' : written_func ≡ g' = cc in subst (λ y. SameFunction setting 1 y g') z
+        (subst (λ y. SameFunction setting 1 flat_func y) z' same_function)
     at_func (suc j) g g' e e' = cc
 
     calls_of_role : (x : ℕ) → RoleCalls (λ c. is_numbered c ≡ false) (role x)

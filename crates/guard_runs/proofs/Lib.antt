@@ -13,3 +13,5 @@ pub mod SilentStretches
 pub mod StoppedStacks
 pub mod Stores
 pub mod Stretches
+pub mod SameInstr
+pub mod TracedStretches

@@ -68,7 +68,21 @@ module _ (w : Sides) where
 
   -- with other stores, and with one local set
   abbrev pub with_stores : {r : Role} (x : Ctx w r) (s s' : Store) → w.like s s' → Ctx w r
-  with_stores x s s' al = record { s = s; s' = s'; alike = al; fn = x.fn; here = x.here; is = x.is; under = x.under; under' = x.under'; us = x.us; deep = x.deep; ls = x.ls; extra = x.extra; both = x.both }
+  with_stores x s s' al = record {
+    s = s;
+    s' = s';
+    alike = al;
+    fn = x.fn;
+    here = x.here;
+    is = x.is;
+    under = x.under;
+    under' = x.under';
+    us = x.us;
+    deep = x.deep;
+    ls = x.ls;
+    extra = x.extra;
+    both = x.both;
+  }
 
   pub both_set : {r : Role} (ls extra : List Value) (y : ℕ) (v : Value) → Locals r ls extra → Locals r (slice_set ls y v) extra
   both_set ls extra y v b = record { size = length-set ls y v ∙ b.size; more = b.more }
@@ -77,10 +91,38 @@ module _ (w : Sides) where
   both_aside ls extra y v b = record { size = b.size; more = length-set extra y v ∙ b.more }
 
   abbrev pub with_local : {r : Role} (x : Ctx w r) (y : ℕ) (v : Value) → Ctx w r
-  with_local x y v = record { s = x.s; s' = x.s'; alike = x.alike; fn = x.fn; here = x.here; is = x.is; under = x.under; under' = x.under'; us = x.us; deep = x.deep; ls = slice_set x.ls y v; extra = x.extra; both = both_set x.ls x.extra y v x.both }
+  with_local x y v = record {
+    s = x.s;
+    s' = x.s';
+    alike = x.alike;
+    fn = x.fn;
+    here = x.here;
+    is = x.is;
+    under = x.under;
+    under' = x.under';
+    us = x.us;
+    deep = x.deep;
+    ls = slice_set x.ls y v;
+    extra = x.extra;
+    both = both_set x.ls x.extra y v x.both;
+  }
 
   abbrev pub with_index : {r : Role} (x : Ctx w r) (v : Value) → Ctx w r
-  with_index x v = record { s = x.s; s' = x.s'; alike = x.alike; fn = x.fn; here = x.here; is = x.is; under = x.under; under' = x.under'; us = x.us; deep = x.deep; ls = x.ls; extra = slice_set x.extra 0 v; both = both_aside x.ls x.extra 0 v x.both }
+  with_index x v = record {
+    s = x.s;
+    s' = x.s';
+    alike = x.alike;
+    fn = x.fn;
+    here = x.here;
+    is = x.is;
+    under = x.under;
+    under' = x.under';
+    us = x.us;
+    deep = x.deep;
+    ls = x.ls;
+    extra = slice_set x.extra 0 v;
+    both = both_aside x.ls x.extra 0 v x.both;
+  }
 
   module _ (ok : Together w) where
     abbrev q : Module
@@ -100,8 +142,10 @@ module _ (w : Sides) where
 
     -- ---- a function returns
 
-    noted_near : (f : GuardedFunc) (x : Ctx w (with_guards f)) (ops : List Value) (k h : ℕ) (slots : List ℕ) (c : Callee) (to : Option ℕ) (behind : Code) (rest : Units) (xs : List Enclosing) → BodyPlace w.state f k (call_unit slots c to behind rest) xs
-        → Near w 9 (cq w x ops (set_to to (followed_by behind (flat_units rest))) (flat_labels f xs)) (cp w x ops (noted (indices_of w.state f) (length xs) k (set_to to (raised 0 1 behind))) (call_label w.state f h (length xs) k rest ∷ written_labels w.state f xs))
+    noted_near : (f : GuardedFunc) (x : Ctx w (with_guards f)) (ops : List Value) (k h : ℕ) (slots : List ℕ) (c : Callee) (to : Option ℕ) (behind : Code) (rest : Units)
+        (xs : List Enclosing) → BodyPlace w.state f k (call_unit slots c to behind rest) xs
+        → Near w 9 (cq w x ops (set_to to (followed_by behind (flat_units rest))) (flat_labels f xs))
+        (cp w x ops (noted (indices_of w.state f) (length xs) k (set_to to (raised 0 1 behind))) (call_label w.state f h (length xs) k rest ∷ written_labels w.state f xs))
     unfolding followed_by
     noted_near f x ops k h slots c to behind rest xs pl =
         let x2 = with_index x (V.I32 k) in
@@ -109,15 +153,19 @@ module _ (w : Sides) where
         let next : Code = set_to to (raised 0 1 behind) in
         let from = cp w x ops (noted (indices_of w.state f) (length xs) k next) lb' in
         let test : Code = plain (basic (global_get w.state)) (plain (br_if (suc (length xs))) next) in
-        let two : Comes p from 2 (cp w x2 ops test lb') = subst (λ ls. Comes p from 2 (running x.s' x.fn x.under' ls ops test lb')) (set_behind x.ls x.extra f.size (V.I32 k) x.both.size) (walks p 2 _ _ refl) in
-        let four : Comes p from 4 (cp w x2 ops next lb') = on p 2 2 _ _ _ two (on p 1 1 _ _ _ (reads w ok x2 ops (plain (br_if (suc (length xs))) next) lb') (walks p 1 (cp w x2 (V.I32 0 ∷ ops) (plain (br_if (suc (length xs))) next) lb') _ refl)) in
+        let two : Comes p from 2 (cp w x2 ops test lb') = subst (λ ls. Comes p from 2 (running x.s' x.fn x.under' ls ops test lb'))
+        (set_behind x.ls x.extra f.size (V.I32 k) x.both.size) (walks p 2 _ _ refl) in
+        let four : Comes p from 4 (cp w x2 ops next lb') = on p 2 2 _ _ _ two
+        (on p 1 1 _ _ _ (reads w ok x2 ops (plain (br_if (suc (length xs))) next) lb') (walks p 1 (cp w x2 (V.I32 0 ∷ ops) (plain (br_if (suc (length xs))) next) lb') _ refl)) in
         let ca = (calls_at w f (pieces x f refl) k (call_unit slots c to behind rest) xs pl).0 in
         later w 4 5 9 _ _ _ four (by_to x2 ca to) (omega arith)
       where
         by_to : (y : Ctx w (with_guards f)) → Calls w.free behind → (to : Option ℕ)
-            → Near w 5 (cq w y ops (set_to to (followed_by behind (flat_units rest))) (flat_labels f xs)) (cp w y ops (set_to to (raised 0 1 behind)) (call_label w.state f h (length xs) k rest ∷ written_labels w.state f xs))
+            → Near w 5 (cq w y ops (set_to to (followed_by behind (flat_units rest))) (flat_labels f xs))
+            (cp w y ops (set_to to (raised 0 1 behind)) (call_label w.state f h (length xs) k rest ∷ written_labels w.state f xs))
         by_to y ca None = settle_piece w ok y (pieces y) (guard_end h (past_call slots c to pl)) ops 0 _ _ outside behind (calls_pruned w.free behind ca)
-        by_to y ca (Some z) = settle_piece w ok y (pieces y) (guard_end h (past_call slots c to pl)) ops 0 _ _ outside (plain (local_set z) behind) (calls_pruned w.free (plain (local_set z) behind) (tt, ca))
+        by_to y ca (Some z) = settle_piece w ok y (pieces y) (guard_end h (past_call slots c to pl)) ops 0 _ _ outside (plain (local_set z) behind)
+            (calls_pruned w.free (plain (local_set z) behind) (tt, ca))
 
     pub resume : (s s' : Store) → w.like s s' → (g : ℕ) (a a' : Activation) (under under' : List Activation) (vs : List Value) → BothWait w g a a' → length under < 4096
         → Callers w a.func under under'
@@ -126,11 +174,26 @@ module _ (w : Sides) where
         let x : Ctx w r = record { s = s; s' = s'; alike = al; fn = fn; here = here; is = is; under = under; under' = under'; us = us; deep = deep; ls = ls; extra = extra; both = both } in
         wider w 5 9 _ _ (settle_piece w ok x (pieces x) co (vs ++ ops) _ _ _ inn c ca) (omega arith)
     resume s s' al g _ _ under under' vs (at_number {f = f} {k = k} {slots = slots} {x = y} {to = to} {behind = behind} {rest = rest} {xs = xs} fn here is ls extra ops taken both h pl gt) deep us =
-        let x : Ctx w (with_guards f) = record { s = s; s' = s'; alike = al; fn = fn; here = here; is = is; under = under; under' = under'; us = us; deep = deep; ls = ls; extra = extra; both = both } in
+        let x : Ctx w (with_guards f) = record {
+          s = s;
+          s' = s';
+          alike = al;
+          fn = fn;
+          here = here;
+          is = is;
+          under = under;
+          under' = under';
+          us = us;
+          deep = deep;
+          ls = ls;
+          extra = extra;
+          both = both;
+        } in
         noted_near f x (vs ++ ops) k h slots y to behind rest xs pl
 
     pub leaves : {r : Role} (x : Ctx w r) (k : ℕ) (ops : List Value) → M (leave k x.s ops (result_count q x.fn) x.under) (leave k x.s' ops (result_count p x.fn) x.under')
-    leaves x k ops = subst (λ (t : FuncType). M (leave k x.s ops (result_count q x.fn) x.under) (leave k x.s' ops (length t.results) x.under')) (sym (ok.func_type x.fn x.here)) (by_us x.fn x.under x.under' x.us)
+    leaves x k ops = subst (λ (t : FuncType). M (leave k x.s ops (result_count q x.fn) x.under) (leave k x.s' ops (length t.results) x.under')) (sym (ok.func_type x.fn x.here))
+        (by_us x.fn x.under x.under' x.us)
       where
         by_us : (g : ℕ) (under under' : List Activation) → Callers w g under under'
             → M (leave k x.s ops (result_count q x.fn) under) (leave k x.s' ops (result_count q x.fn) under')
@@ -156,7 +219,8 @@ module _ (w : Sides) where
     jumps_out f x j ops [] (suc l) ar = leaves x j ops
     jumps_out f x j ops (in_a_block h k sk sk' behind rest ∷ xs) zero ar = both_step (wider w 4 9 _ _ (settle w ok f (pieces x f refl) x _ k rest xs behind ar.0 ar.1) (omega arith))
     jumps_out f x j ops (in_a_block h k sk sk' behind rest ∷ xs) (suc l) ar = jumps_out f x j ops xs l ar.2
-    jumps_out f x j ops (in_a_loop h k0 first body k behind rest ∷ xs) zero ar = both_step (wider w 4 9 _ _ (settle w ok f (pieces x f refl) x _ k0 body (in_a_loop h k0 first body k behind rest ∷ xs) first ar.0 ar.1) (omega arith))
+    jumps_out f x j ops (in_a_loop h k0 first body k behind rest ∷ xs) zero ar = both_step
+        (wider w 4 9 _ _ (settle w ok f (pieces x f refl) x _ k0 body (in_a_loop h k0 first body k behind rest ∷ xs) first ar.0 ar.1) (omega arith))
     jumps_out f x j ops (in_a_loop h k0 first body k behind rest ∷ xs) (suc l) ar = jumps_out f x j ops xs l ar.4
 
     -- out of a piece: past the labels that stand around it on the written side alone
@@ -164,17 +228,24 @@ module _ (w : Sides) where
         → M (jump j q x.s x.fn x.under x.ls ops outer l) (jump j p x.s' x.fn x.under' (x.ls ++ x.extra) ops outer' (l + by))
     jumps_cont x (guard_end {f = f} {k = k} {us = us} {xs = xs} h pl) j ops l =
         let z : suc l ≡ l + 1 = omega arith in
-        subst (λ n. M (jump j q x.s x.fn x.under x.ls ops (flat_labels f xs) l) (jump j p x.s' x.fn x.under' (x.ls ++ x.extra) ops (block_label h 0 (front (indices_of w.state f) (length xs) k done us) done ∷ written_labels w.state f xs) n)) z (jumps_out f x j ops xs l (arounds w f (pieces x f refl) k us xs pl))
+        subst (λ n. M (jump j q x.s x.fn x.under x.ls ops (flat_labels f xs) l)
+        (jump j p x.s' x.fn x.under' (x.ls ++ x.extra) ops (block_label h 0 (front (indices_of w.state f) (length xs) k done us) done ∷ written_labels w.state f xs) n)) z
+        (jumps_out f x j ops xs l (arounds w f (pieces x f refl) k us xs pl))
     jumps_cont x (before_call {f = f} {k = k} {slots = slots} {x = c} {to = to} {behind = behind} {rest = rest} {xs = xs} h h2 pl) j ops l =
         let z : suc (suc l) ≡ l + 2 = omega arith in
-        subst (λ n. M (jump j q x.s x.fn x.under x.ls ops (flat_labels f xs) l) (jump j p x.s' x.fn x.under' (x.ls ++ x.extra) ops (block_label h 0 (call_code w.state f (length xs) k slots c to behind) done ∷ call_label w.state f h2 (length xs) k rest ∷ written_labels w.state f xs) n)) z (jumps_out f x j ops xs l (arounds w f (pieces x f refl) k _ xs pl))
+        subst (λ n. M (jump j q x.s x.fn x.under x.ls ops (flat_labels f xs) l)
+        (jump j p x.s' x.fn x.under' (x.ls ++ x.extra) ops (block_label h 0 (call_code w.state f (length xs) k slots c to behind) done ∷ call_label w.state f h2
+        (length xs) k rest ∷ written_labels w.state f xs) n)) z (jumps_out f x j ops xs l (arounds w f (pieces x f refl) k _ xs pl))
     jumps_cont x (before_if {f = f} {k = k} {c = c} {fa = fa} {a = a} {fb = fb} {b = b} {behind = behind} {rest = rest} {xs = xs} h pl) j ops l =
         let z : suc l ≡ l + 1 = omega arith in
-        let lb : Label = block_label h 1 (branch None (arm a fa (front (indices_of w.state f) (suc (length xs)) k fa a)) (arm b fb (front (indices_of w.state f) (suc (length xs)) (k + numbers_in a) fb b)) (front (indices_of w.state f) (length xs) (k + numbers_in a + numbers_in b) behind rest)) done in
-        subst (λ n. M (jump j q x.s x.fn x.under x.ls ops (flat_labels f xs) l) (jump j p x.s' x.fn x.under' (x.ls ++ x.extra) ops (lb ∷ written_labels w.state f xs) n)) z (jumps_out f x j ops xs l (arounds w f (pieces x f refl) k _ xs pl))
+        let lb : Label = block_label h 1 (branch None (arm a fa (front (indices_of w.state f) (suc (length xs)) k fa a))
+        (arm b fb (front (indices_of w.state f) (suc (length xs)) (k + numbers_in a) fb b)) (front (indices_of w.state f) (length xs) (k + numbers_in a + numbers_in b) behind rest)) done in
+        subst (λ n. M (jump j q x.s x.fn x.under x.ls ops (flat_labels f xs) l) (jump j p x.s' x.fn x.under' (x.ls ++ x.extra) ops (lb ∷ written_labels w.state f xs) n)) z
+        (jumps_out f x j ops xs l (arounds w f (pieces x f refl) k _ xs pl))
     jumps_cont x (arm_end {f = f} {k = k} {xs = xs} pl) j ops l =
         let z : l ≡ l + 0 = omega arith in
-        subst (λ n. M (jump j q x.s x.fn x.under x.ls ops (flat_labels f xs) l) (jump j p x.s' x.fn x.under' (x.ls ++ x.extra) ops (written_labels w.state f xs) n)) z (jumps_out f x j ops xs l (arounds w f (pieces x f refl) k _ xs pl))
+        subst (λ n. M (jump j q x.s x.fn x.under x.ls ops (flat_labels f xs) l) (jump j p x.s' x.fn x.under' (x.ls ++ x.extra) ops (written_labels w.state f xs) n)) z
+        (jumps_out f x j ops xs l (arounds w f (pieces x f refl) k _ xs pl))
     jumps_cont x func_end j ops l = leaves x j ops
 
     pub jumps_in : {r : Role} {by : ℕ} {tail : Code} {outer outer' : List Label} (x : Ctx w r) → BehindPiece w r by tail outer outer'
@@ -183,16 +254,21 @@ module _ (w : Sides) where
     jumps_in {r} {by} {tail} {outer} {outer'} x co j ops _ _ _ outside l =
         subst (λ n. M (jump j q x.s x.fn x.under x.ls ops outer l) (jump j p x.s' x.fn x.under' (x.ls ++ x.extra) ops outer' n)) (sym (raise_out by l)) (jumps_cont x co j ops l)
     jumps_in {r} {by} {tail} {outer} {outer'} x co j ops _ _ _ (block_in {d = d} {labels = lb} {labels' = lb'} h arity c sk sk' inn ca) zero =
-        subst (λ n. M (steps j (cq w x (take arity ops ++ keep h ops) (followed_by c (tail_at d tail)) lb)) (jump j p x.s' x.fn x.under' (x.ls ++ x.extra) ops (block_label h arity (raised d by c) sk' ∷ lb') n)) (sym (raise_in d by))
+        subst (λ n. M (steps j (cq w x (take arity ops ++ keep h ops) (followed_by c (tail_at d tail)) lb))
+        (jump j p x.s' x.fn x.under' (x.ls ++ x.extra) ops (block_label h arity (raised d by c) sk' ∷ lb') n)) (sym (raise_in d by))
         (both_step (wider w 5 9 _ _ (settle_piece w ok x (pieces x) co (take arity ops ++ keep h ops) d lb lb' inn c ca) (omega arith)))
     jumps_in {r} {by} {tail} {outer} {outer'} x co j ops _ _ _ (block_in {d = d} {labels = lb} {labels' = lb'} h arity c sk sk' inn ca) (suc l) =
-        subst (λ n. M (jump j q x.s x.fn x.under x.ls ops lb l) (jump j p x.s' x.fn x.under' (x.ls ++ x.extra) ops (block_label h arity (raised d by c) sk' ∷ lb') n)) (sym (raise_on d by l)) (jumps_in x co j ops d lb lb' inn l)
+        subst (λ n. M (jump j q x.s x.fn x.under x.ls ops lb l) (jump j p x.s' x.fn x.under' (x.ls ++ x.extra) ops (block_label h arity (raised d by c) sk' ∷ lb') n))
+        (sym (raise_on d by l)) (jumps_in x co j ops d lb lb' inn l)
     jumps_in {r} {by} {tail} {outer} {outer'} x co j ops _ _ _ (loop_in {d = d} {labels = lb} {labels' = lb'} h body c inn cb ca) zero =
-        subst (λ n. M (steps j (cq w x (keep h ops) body (loop_label h body (followed_by c (tail_at d tail)) ∷ lb))) (jump j p x.s' x.fn x.under' (x.ls ++ x.extra) ops (loop_label h (raised (suc d) by body) (raised d by c) ∷ lb') n)) (sym (raise_in d by))
-        (both_step (wider w 5 9 _ _ (subst (λ b. Near w 5 (cq w x (keep h ops) b (loop_label h body (followed_by c (tail_at d tail)) ∷ lb)) (cp w x (keep h ops) (raised (suc d) by body) (loop_label h (raised (suc d) by body) (raised d by c) ∷ lb'))) (then_done body)
+        subst (λ n. M (steps j (cq w x (keep h ops) body (loop_label h body (followed_by c (tail_at d tail)) ∷ lb)))
+        (jump j p x.s' x.fn x.under' (x.ls ++ x.extra) ops (loop_label h (raised (suc d) by body) (raised d by c) ∷ lb') n)) (sym (raise_in d by))
+        (both_step (wider w 5 9 _ _ (subst (λ b. Near w 5 (cq w x (keep h ops) b (loop_label h body (followed_by c (tail_at d tail)) ∷ lb))
+        (cp w x (keep h ops) (raised (suc d) by body) (loop_label h (raised (suc d) by body) (raised d by c) ∷ lb'))) (then_done body)
         (settle_piece w ok x (pieces x) co (keep h ops) (suc d) _ _ (loop_in h body c inn cb ca) body cb)) (omega arith)))
     jumps_in {r} {by} {tail} {outer} {outer'} x co j ops _ _ _ (loop_in {d = d} {labels = lb} {labels' = lb'} h body c inn cb ca) (suc l) =
-        subst (λ n. M (jump j q x.s x.fn x.under x.ls ops lb l) (jump j p x.s' x.fn x.under' (x.ls ++ x.extra) ops (loop_label h (raised (suc d) by body) (raised d by c) ∷ lb') n)) (sym (raise_on d by l)) (jumps_in x co j ops d lb lb' inn l)
+        subst (λ n. M (jump j q x.s x.fn x.under x.ls ops lb l) (jump j p x.s' x.fn x.under' (x.ls ++ x.extra) ops (loop_label h (raised (suc d) by body) (raised d by c) ∷ lb') n))
+        (sym (raise_on d by l)) (jumps_in x co j ops d lb lb' inn l)
 
     -- ---- calls
 
@@ -220,20 +296,26 @@ module _ (w : Sides) where
         args : List Value
         args = reverse (take params ops)
 
-        by_twin : Twin w y → M (invoke q x.s x.fn x.under x.ls own ops rest labels params y (defined_at q y)) (invoke p x.s' x.fn x.under' (x.ls ++ x.extra) own ops rest' labels' params y (defined_at p y))
+        by_twin : Twin w y → M (invoke q x.s x.fn x.under x.ls own ops rest labels params y (defined_at q y))
+            (invoke p x.s' x.fn x.under' (x.ls ++ x.extra) own ops rest' labels' params y (defined_at p y))
         by_twin (both_import e e') =
             subst (λ o. M (invoke q x.s x.fn x.under x.ls own ops rest labels params y o) (invoke p x.s' x.fn x.under' (x.ls ++ x.extra) own ops rest' labels' params y (defined_at p y))) (sym e)
-            (subst (λ o. M (if nat_lt y (func_imports q) then asks params y args (record { store = x.s; here = a; under = x.under }) else stuck) (invoke p x.s' x.fn x.under' (x.ls ++ x.extra) own ops rest' labels' params y o)) (sym e')
-            (subst (λ n. M (if nat_lt y (func_imports q) then asks params y args (record { store = x.s; here = a; under = x.under }) else stuck) (if nat_lt y n then asks params y args (record { store = x.s'; here = a'; under = x.under' }) else stuck)) (sym ok.imports)
+            (subst (λ o. M (if nat_lt y (func_imports q) then asks params y args (record { store = x.s; here = a; under = x.under }) else stuck)
+            (invoke p x.s' x.fn x.under' (x.ls ++ x.extra) own ops rest' labels' params y o)) (sym e')
+            (subst (λ n. M (if nat_lt y (func_imports q) then asks params y args (record { store = x.s; here = a; under = x.under }) else stuck)
+            (if nat_lt y n then asks params y args (record { store = x.s'; here = a'; under = x.under' }) else stuck)) (sym ok.imports)
             (by_import (nat_lt y (func_imports q)))))
           where
-            by_import : (b : Bool) → M (if b then asks params y args (record { store = x.s; here = a; under = x.under }) else stuck) (if b then asks params y args (record { store = x.s'; here = a'; under = x.under' }) else stuck)
+            by_import : (b : Bool) → M (if b then asks params y args (record { store = x.s; here = a; under = x.under }) else stuck)
+                (if b then asks params y args (record { store = x.s'; here = a'; under = x.under' }) else stuck)
             by_import true = both_ask (record { store = x.alike; stack = above wt x.deep x.us })
             by_import false = flat_stuck
         by_twin (both_defined g g' e e' body body' zeros size) =
             subst (λ o. M (invoke q x.s x.fn x.under x.ls own ops rest labels params y o) (invoke p x.s' x.fn x.under' (x.ls ++ x.extra) own ops rest' labels' params y (defined_at p y))) (sym e)
-            (subst (λ o. M (if nat_lt (length x.under + 1) 4096 then steps params (entered x.s (a ∷ x.under) args y g) else traps params StackExhausted x.s) (invoke p x.s' x.fn x.under' (x.ls ++ x.extra) own ops rest' labels' params y o)) (sym e')
-            (subst (λ n. M (if nat_lt (length x.under + 1) 4096 then steps params (entered x.s (a ∷ x.under) args y g) else traps params StackExhausted x.s) (if nat_lt (n + 1) 4096 then steps params (entered x.s' (a' ∷ x.under') args y g') else traps params StackExhausted x.s')) (unders_long x.fn x.under x.under' x.us)
+            (subst (λ o. M (if nat_lt (length x.under + 1) 4096 then steps params (entered x.s (a ∷ x.under) args y g) else traps params StackExhausted x.s)
+            (invoke p x.s' x.fn x.under' (x.ls ++ x.extra) own ops rest' labels' params y o)) (sym e')
+            (subst (λ n. M (if nat_lt (length x.under + 1) 4096 then steps params (entered x.s (a ∷ x.under) args y g) else traps params StackExhausted x.s)
+            (if nat_lt (n + 1) 4096 then steps params (entered x.s' (a' ∷ x.under') args y g') else traps params StackExhausted x.s')) (unders_long x.fn x.under x.under' x.us)
             (by_room (nat_lt (length x.under + 1) 4096) refl)))
           where
             zs : List Value
@@ -254,14 +336,30 @@ module _ (w : Sides) where
                 omega arith
 
             inside : suc (length x.under) < 4096 → Ctx w (w.role y)
-            inside deep = record { s = x.s; s' = x.s'; alike = x.alike; fn = y; here = lt; is = refl; under = a ∷ x.under; under' = a' ∷ x.under'; us = above wt x.deep x.us; deep = deep; ls = args ++ zs; extra = more; both = record { size = long; more = length-map (extra_types (w.role y)) zero_of } }
+            inside deep = record {
+              s = x.s;
+              s' = x.s';
+              alike = x.alike;
+              fn = y;
+              here = lt;
+              is = refl;
+              under = a ∷ x.under;
+              under' = a' ∷ x.under';
+              us = above wt x.deep x.us;
+              deep = deep;
+              ls = args ++ zs;
+              extra = more;
+              both = record { size = long; more = length-map (extra_types (w.role y)) zero_of };
+            }
 
             by_room : (b : Bool) → nat_lt (length x.under + 1) 4096 ≡ b
-                → M (if b then steps params (entered x.s (a ∷ x.under) args y g) else traps params StackExhausted x.s) (if b then steps params (entered x.s' (a' ∷ x.under') args y g') else traps params StackExhausted x.s')
+                → M (if b then steps params (entered x.s (a ∷ x.under) args y g) else traps params StackExhausted x.s)
+                (if b then steps params (entered x.s' (a' ∷ x.under') args y g') else traps params StackExhausted x.s')
             by_room false z = both_trap x.alike
             by_room true z =
                 both_step
                 (subst (λ c. Near w 9 (running x.s y (a ∷ x.under) (args ++ zs) [] c []) (entered x.s' (a' ∷ x.under') args y g')) (sym body)
-                (subst (λ c. Near w 9 (running x.s y (a ∷ x.under) (args ++ zs) [] (flat_code (w.role y)) []) (running x.s' y (a' ∷ x.under') (args ++ map zero_of (declared_locals g'.locals)) [] c [])) (sym body')
+                (subst (λ c. Near w 9 (running x.s y (a ∷ x.under) (args ++ zs) [] (flat_code (w.role y)) [])
+                (running x.s' y (a' ∷ x.under') (args ++ map zero_of (declared_locals g'.locals)) [] c [])) (sym body')
                 (subst (λ vs. Near w 9 (running x.s y (a ∷ x.under) (args ++ zs) [] (flat_code (w.role y)) []) (running x.s' y (a' ∷ x.under') vs [] (written_code w.state (w.role y)) [])) (sym split)
                 (begins (w.role y) (inside (room_deep (length x.under) z))))))

@@ -69,18 +69,21 @@ module _ (p : Module) (st : ℕ) (f : GuardedFunc) (s : Store) (fn : ℕ) (under
     asks_ne : (k : ℕ) (next : Code) (labels : List Label) → Comes p (c [] (index_with i (basic (num I32Ne)) k next) labels) 3 (c (V.I32 (ine t k) ∷ []) next labels)
     asks_ne k next labels =
         let read : Comes p (c [] (index_with i (basic (num I32Ne)) k next) labels) 1 (c (V.I32 t ∷ []) (plain (basic (const (V.I32 k))) (plain (basic (num I32Ne)) next)) labels) =
-        subst (λ v. Comes p (c [] (index_with i (basic (num I32Ne)) k next) labels) 1 (c (v ∷ []) (plain (basic (const (V.I32 k))) (plain (basic (num I32Ne)) next)) labels)) index (walks p 1 _ _ refl) in
+        subst (λ v. Comes p (c [] (index_with i (basic (num I32Ne)) k next) labels) 1 (c (v ∷ []) (plain (basic (const (V.I32 k))) (plain (basic (num I32Ne)) next)) labels)) index
+        (walks p 1 _ _ refl) in
         on p 1 2 _ _ _ read (walks p 2 (c (V.I32 t ∷ []) (plain (basic (const (V.I32 k))) (plain (basic (num I32Ne)) next)) labels) _ refl)
 
     asks_lt : (k : ℕ) (next : Code) (labels : List Label) → Comes p (c [] (index_with i (basic (num I32LtU)) k next) labels) 3 (c (V.I32 (ilt_u t k) ∷ []) next labels)
     asks_lt k next labels =
         let read : Comes p (c [] (index_with i (basic (num I32LtU)) k next) labels) 1 (c (V.I32 t ∷ []) (plain (basic (const (V.I32 k))) (plain (basic (num I32LtU)) next)) labels) =
-        subst (λ v. Comes p (c [] (index_with i (basic (num I32LtU)) k next) labels) 1 (c (v ∷ []) (plain (basic (const (V.I32 k))) (plain (basic (num I32LtU)) next)) labels)) index (walks p 1 _ _ refl) in
+        subst (λ v. Comes p (c [] (index_with i (basic (num I32LtU)) k next) labels) 1 (c (v ∷ []) (plain (basic (const (V.I32 k))) (plain (basic (num I32LtU)) next)) labels)) index
+        (walks p 1 _ _ refl) in
         on p 1 2 _ _ _ read (walks p 2 (c (V.I32 t ∷ []) (plain (basic (const (V.I32 k))) (plain (basic (num I32LtU)) next)) labels) _ refl)
 
     -- to the test of call k
     pub to_test : (d k : ℕ) (first : Code) (slots : List ℕ) (x : Callee) (to : Option ℕ) (behind : Code) (rest : Units) (labels : List Label) (b : ℕ) → ine t k ≡ b
-        → Comes p (c [] (front i d k first (call_unit slots x to behind rest)) labels) 6 (c (V.I32 b ∷ []) (plain (br_if 1) done) (block_label 0 0 (call_code st f d k slots x to behind) (raised 0 2 first) ∷ call_label st f 0 d k rest ∷ labels))
+        → Comes p (c [] (front i d k first (call_unit slots x to behind rest)) labels) 6
+        (c (V.I32 b ∷ []) (plain (br_if 1) done) (block_label 0 0 (call_code st f d k slots x to behind) (raised 0 2 first) ∷ call_label st f 0 d k rest ∷ labels))
     to_test d k first slots x to behind rest labels b e =
         let code' = call_code st f d k slots x to behind in
         let lb' = call_label st f 0 d k rest ∷ labels in
@@ -88,7 +91,8 @@ module _ (p : Module) (st : ℕ) (f : GuardedFunc) (s : Store) (fn : ℕ) (under
         let from = c [] (front i d k first (call_unit slots x to behind rest)) labels in
         let one_ : Comes p from 1 (c [] (sought i k first code') lb') = walks p 1 _ _ refl in
         let three : Comes p from 3 (c [] test (block_label 0 0 code' (raised 0 2 first) ∷ lb')) = on p 1 2 _ _ _ one_ (to_then test (raised 0 2 first) code' lb') in
-        subst (λ v. Comes p from 6 (c (V.I32 v ∷ []) (plain (br_if 1) done) (block_label 0 0 code' (raised 0 2 first) ∷ lb'))) e (on p 3 3 _ _ _ three (asks_ne k (plain (br_if 1) done) (block_label 0 0 code' (raised 0 2 first) ∷ lb')))
+        subst (λ v. Comes p from 6 (c (V.I32 v ∷ []) (plain (br_if 1) done) (block_label 0 0 code' (raised 0 2 first) ∷ lb'))) e
+        (on p 3 3 _ _ _ three (asks_ne k (plain (br_if 1) done) (block_label 0 0 code' (raised 0 2 first) ∷ lb')))
 
     pub passes_call : (d k : ℕ) (first : Code) (slots : List ℕ) (x : Callee) (to : Option ℕ) (behind : Code) (rest : Units) (labels : List Label) → t ≢ k
         → Comes p (c [] (front i d k first (call_unit slots x to behind rest)) labels) 7 (c [] (front i d (suc k) done rest) labels)
@@ -114,18 +118,23 @@ module _ (p : Module) (st : ℕ) (f : GuardedFunc) (s : Store) (fn : ℕ) (under
       decides : (v : ℕ) → Within p (c [] (choice i k a b) lbc) 3 (c (V.I32 v ∷ []) done lbc)
           → Within p (c [] whole labels) 6 (c (V.I32 v ∷ []) (branch None (arm a fa na) (arm b fb nb) next) labels)
       decides v w =
-          let two : Comes p (c [] whole labels) 2 (c [] (choice i k a b) lbc) = on p 1 1 _ _ _ (reads [] (branch (Some I32) (choice i k a b) (raised 0 1 (followed_by first (got x done))) (branch None (arm a fa na) (arm b fb nb) next)) labels) (walks p 1 (c (V.I32 (suc n) ∷ []) (branch (Some I32) (choice i k a b) (raised 0 1 (followed_by first (got x done))) (branch None (arm a fa na) (arm b fb nb) next)) labels) _ refl) in
-          gets_on 6 (gets 2 two (omega arith)) (gets_on 4 w (gets 1 (walks p 1 (c (V.I32 v ∷ []) done lbc) (c (V.I32 v ∷ []) (branch None (arm a fa na) (arm b fb nb) next) labels) refl) (omega arith)) (omega arith)) (omega arith)
+          let two : Comes p (c [] whole labels) 2 (c [] (choice i k a b) lbc) = on p 1 1 _ _ _
+          (reads [] (branch (Some I32) (choice i k a b) (raised 0 1 (followed_by first (got x done))) (branch None (arm a fa na) (arm b fb nb) next)) labels)
+          (walks p 1 (c (V.I32 (suc n) ∷ []) (branch (Some I32) (choice i k a b) (raised 0 1 (followed_by first (got x done))) (branch None (arm a fa na) (arm b fb nb) next)) labels) _ refl) in
+          gets_on 6 (gets 2 two (omega arith)) (gets_on 4 w (gets 1 (walks p 1 (c (V.I32 v ∷ []) done lbc) (c (V.I32 v ∷ []) (branch None (arm a fa na) (arm b fb nb) next) labels) refl)
+          (omega arith)) (omega arith)) (omega arith)
 
       into_then : Within p (c [] (choice i k a b) lbc) 3 (c (V.I32 1 ∷ []) done lbc) → Some_unit a
           → Within p (c [] whole labels) 7 (c [] na (block_label 0 0 next (arm b fb nb) ∷ labels))
       into_then w h =
-          let got_ : Within p (c (V.I32 1 ∷ []) (branch None (arm a fa na) (arm b fb nb) next) labels) 1 (c [] (arm a fa na) (block_label 0 0 next (arm b fb nb) ∷ labels)) = gets 1 (walks p 1 _ _ refl) (omega arith) in
+          let got_ : Within p (c (V.I32 1 ∷ []) (branch None (arm a fa na) (arm b fb nb) next) labels) 1 (c [] (arm a fa na) (block_label 0 0 next (arm b fb nb) ∷ labels)) = gets 1
+          (walks p 1 _ _ refl) (omega arith) in
           subst (λ z. Within p (c [] whole labels) 7 (c [] z (block_label 0 0 next (arm b fb nb) ∷ labels))) (arm_is a fa na h) (gets_on 7 (decides 1 w) got_ (omega arith))
 
       into_else : Within p (c [] (choice i k a b) lbc) 3 (c (V.I32 0 ∷ []) done lbc) → Some_unit b → Within p (c [] whole labels) 7 (c [] nb (block_label 0 0 next done ∷ labels))
       into_else w h =
-          let got_ : Within p (c (V.I32 0 ∷ []) (branch None (arm a fa na) (arm b fb nb) next) labels) 1 (c [] (arm b fb nb) (block_label 0 0 next done ∷ labels)) = gets 1 (walks p 1 _ _ refl) (omega arith) in
+          let got_ : Within p (c (V.I32 0 ∷ []) (branch None (arm a fa na) (arm b fb nb) next) labels) 1 (c [] (arm b fb nb) (block_label 0 0 next done ∷ labels)) = gets 1
+          (walks p 1 _ _ refl) (omega arith) in
           subst (λ z. Within p (c [] whole labels) 7 (c [] z (block_label 0 0 next done ∷ labels))) (arm_is b fb nb h) (gets_on 7 (decides 0 w) got_ (omega arith))
 
       says_one : (b ≡ no_unit) → Within p (c [] (choice i k a b) lbc) 3 (c (V.I32 1 ∷ []) done lbc)
@@ -150,7 +159,8 @@ module _ (p : Module) (st : ℕ) (f : GuardedFunc) (s : Store) (fn : ℕ) (under
       picks_else ge h = ⊎_elim (λ e. into_else (says_zero e h) h) (λ g. into_else (says g h 0 (lt_zero t (k + numbers_in a) ge)) h) (some_or_none a)
 
       -- one of both, where one has units
-      pub picks : HasUnit a b → (Some_unit a × Within p (c [] whole labels) 7 (c [] na (block_label 0 0 next (arm b fb nb) ∷ labels))) ⊎ (Some_unit b × Within p (c [] whole labels) 7 (c [] nb (block_label 0 0 next done ∷ labels)))
+      pub picks : HasUnit a b → (Some_unit a × Within p (c [] whole labels) 7 (c [] na (block_label 0 0 next (arm b fb nb) ∷ labels))) ⊎
+          (Some_unit b × Within p (c [] whole labels) 7 (c [] nb (block_label 0 0 next done ∷ labels)))
       picks h =
           ⊎_elim
           (λ ea. inr (let g = b_has ea in (g, into_else (says_zero ea g) g)))
@@ -169,33 +179,47 @@ module _ (p : Module) (st : ℕ) (f : GuardedFunc) (s : Store) (fn : ℕ) (under
     passes no_unit d k first labels ok out = over_piece first done labels
     passes (call_unit slots x to behind rest) d k first labels ok out =
         let ne : t ≢ k = ⊎_elim (λ lt. omega arith) (λ le. omega arith) out in
-        let tail : Within p (c [] (front i d (suc k) done rest) labels) (passing done rest) (c [] done labels) = passes rest d (suc k) done labels ok (⊎_elim (λ lt. inl (omega arith)) (λ le. inr (omega arith)) out) in
+        let tail : Within p (c [] (front i d (suc k) done rest) labels) (passing done rest) (c [] done labels) = passes rest d (suc k) done labels ok
+        (⊎_elim (λ lt. inl (omega arith)) (λ le. inr (omega arith)) out) in
         gets_on (8 + passing done rest) (gets 7 (passes_call d k first slots x to behind rest labels ne) (omega arith)) tail (omega arith)
     passes (nest_unit a_block inner body behind rest) d k first labels ok out =
         let lb = block_label 0 0 (front i d (k + numbers_in body) behind rest) done ∷ labels in
-        let into : Comes p (c [] (nest a_block None (front i (suc d) k inner body) (front i d (k + numbers_in body) behind rest)) labels) 1 (c [] (front i (suc d) k inner body) lb) = walks p 1 _ _ refl in
+        let into : Comes p (c [] (nest a_block None (front i (suc d) k inner body) (front i d (k + numbers_in body) behind rest)) labels) 1
+        (c [] (front i (suc d) k inner body) lb) = walks p 1 _ _ refl in
         let inside = passes body (suc d) k inner lb ok.0 (⊎_elim (λ lt. inl lt) (λ le. inr (omega arith)) out) in
         let leaves : Comes p (c [] done lb) 1 (c [] (front i d (k + numbers_in body) behind rest) labels) = walks p 1 _ _ refl in
         let tail = passes rest d (k + numbers_in body) behind labels ok.1 (⊎_elim (λ lt. inl (omega arith)) (λ le. inr (omega arith)) out) in
-        gets_on (over first + (2 + (passing inner body + passing behind rest))) (over_piece first (nest a_block None (front i (suc d) k inner body) (front i d (k + numbers_in body) behind rest)) labels)
-        (gets_on (2 + (passing inner body + passing behind rest)) (gets 1 into (omega arith)) (gets_on (1 + (passing inner body + passing behind rest)) inside (gets_on (1 + passing behind rest) (gets 1 leaves (omega arith)) tail (omega arith)) (omega arith)) (omega arith)) (omega arith)
+        gets_on (over first + (2 + (passing inner body + passing behind rest)))
+        (over_piece first (nest a_block None (front i (suc d) k inner body) (front i d (k + numbers_in body) behind rest)) labels)
+        (gets_on (2 + (passing inner body + passing behind rest)) (gets 1 into (omega arith))
+        (gets_on (1 + (passing inner body + passing behind rest)) inside (gets_on (1 + passing behind rest) (gets 1 leaves (omega arith)) tail (omega arith)) (omega arith))
+        (omega arith)) (omega arith)
     passes (nest_unit a_loop inner body behind rest) d k first labels ok out =
         let lb = loop_label 0 (front i (suc d) k inner body) (front i d (k + numbers_in body) behind rest) ∷ labels in
-        let into : Comes p (c [] (nest a_loop None (front i (suc d) k inner body) (front i d (k + numbers_in body) behind rest)) labels) 1 (c [] (front i (suc d) k inner body) lb) = walks p 1 _ _ refl in
+        let into : Comes p (c [] (nest a_loop None (front i (suc d) k inner body) (front i d (k + numbers_in body) behind rest)) labels) 1
+        (c [] (front i (suc d) k inner body) lb) = walks p 1 _ _ refl in
         let inside = passes body (suc d) k inner lb ok.0 (⊎_elim (λ lt. inl lt) (λ le. inr (omega arith)) out) in
         let leaves : Comes p (c [] done lb) 1 (c [] (front i d (k + numbers_in body) behind rest) labels) = walks p 1 _ _ refl in
         let tail = passes rest d (k + numbers_in body) behind labels ok.1 (⊎_elim (λ lt. inl (omega arith)) (λ le. inr (omega arith)) out) in
-        gets_on (over first + (2 + (passing inner body + passing behind rest))) (over_piece first (nest a_loop None (front i (suc d) k inner body) (front i d (k + numbers_in body) behind rest)) labels)
-        (gets_on (2 + (passing inner body + passing behind rest)) (gets 1 into (omega arith)) (gets_on (1 + (passing inner body + passing behind rest)) inside (gets_on (1 + passing behind rest) (gets 1 leaves (omega arith)) tail (omega arith)) (omega arith)) (omega arith)) (omega arith)
+        gets_on (over first + (2 + (passing inner body + passing behind rest)))
+        (over_piece first (nest a_loop None (front i (suc d) k inner body) (front i d (k + numbers_in body) behind rest)) labels)
+        (gets_on (2 + (passing inner body + passing behind rest)) (gets 1 into (omega arith))
+        (gets_on (1 + (passing inner body + passing behind rest)) inside (gets_on (1 + passing behind rest) (gets 1 leaves (omega arith)) tail (omega arith)) (omega arith))
+        (omega arith)) (omega arith)
     passes (if_unit x fa a fb b behind rest) d k first labels ok out =
         let tail = passes rest d (k + numbers_in a + numbers_in b) behind labels ok.3 (⊎_elim (λ lt. inl (omega arith)) (λ le. inr (omega arith)) out) in
-        let in_a = passes a (suc d) k fa (block_label 0 0 (next d k first x fa a fb b behind rest labels) (arm b fb (nb d k first x fa a fb b behind rest labels)) ∷ labels) ok.1 (⊎_elim (λ lt. inl lt) (λ le. inr (omega arith)) out) in
-        let in_b = passes b (suc d) (k + numbers_in a) fb (block_label 0 0 (next d k first x fa a fb b behind rest labels) done ∷ labels) ok.2 (⊎_elim (λ lt. inl (omega arith)) (λ le. inr (omega arith)) out) in
+        let in_a = passes a (suc d) k fa (block_label 0 0 (next d k first x fa a fb b behind rest labels) (arm b fb (nb d k first x fa a fb b behind rest labels)) ∷ labels) ok.1
+        (⊎_elim (λ lt. inl lt) (λ le. inr (omega arith)) out) in
+        let in_b = passes b (suc d) (k + numbers_in a) fb (block_label 0 0 (next d k first x fa a fb b behind rest labels) done ∷ labels) ok.2
+        (⊎_elim (λ lt. inl (omega arith)) (λ le. inr (omega arith)) out) in
         ⊎_elim
         (λ h. gets_on (8 + (passing fa a + passing fb b + passing behind rest)) h.1 (gets_on (1 + (passing fa a + passing fb b + passing behind rest)) in_a
-        (gets_on (1 + passing behind rest) (gets 1 (walks p 1 (c [] done (block_label 0 0 (next d k first x fa a fb b behind rest labels) (arm b fb (nb d k first x fa a fb b behind rest labels)) ∷ labels)) (c [] (next d k first x fa a fb b behind rest labels) labels) refl) (omega arith)) tail (omega arith)) (omega arith)) (omega arith))
+        (gets_on (1 + passing behind rest) (gets 1 (walks p 1 (c [] done (block_label 0 0 (next d k first x fa a fb b behind rest labels)
+        (arm b fb (nb d k first x fa a fb b behind rest labels)) ∷ labels)) (c [] (next d k first x fa a fb b behind rest labels) labels) refl) (omega arith)) tail (omega arith))
+        (omega arith)) (omega arith))
         (λ h. gets_on (8 + (passing fa a + passing fb b + passing behind rest)) h.1 (gets_on (1 + (passing fa a + passing fb b + passing behind rest)) in_b
-        (gets_on (1 + passing behind rest) (gets 1 (walks p 1 (c [] done (block_label 0 0 (next d k first x fa a fb b behind rest labels) done ∷ labels)) (c [] (next d k first x fa a fb b behind rest labels) labels) refl) (omega arith)) tail (omega arith)) (omega arith)) (omega arith))
+        (gets_on (1 + passing behind rest) (gets 1 (walks p 1 (c [] done (block_label 0 0 (next d k first x fa a fb b behind rest labels) done ∷ labels))
+        (c [] (next d k first x fa a fb b behind rest labels) labels) refl) (omega arith)) tail (omega arith)) (omega arith)) (omega arith))
         (picks d k first x fa a fb b behind rest labels ok.0)
 
 pub passes_law : Passes

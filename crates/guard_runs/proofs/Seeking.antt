@@ -38,7 +38,8 @@ module _ (st : ℕ) (f : GuardedFunc) (ok : ArmsHold f.body) where
   arms_at _ _ _ (in_then {k = k} {c = x} {fa = fa} {a = a} {fb = fb} {b = b} {behind = behind} {rest = rest} {xs = xs} h pl) = (arms_at k (if_unit x fa a fb b behind rest) xs pl).1
   arms_at _ _ _ (in_else {k = k} {c = x} {fa = fa} {a = a} {fb = fb} {b = b} {behind = behind} {rest = rest} {xs = xs} h pl) = (arms_at k (if_unit x fa a fb b behind rest) xs pl).2
 
-module _ (p : Module) (st : ℕ) (f : GuardedFunc) (s : Store) (fn : ℕ) (under : List Activation) (ls : List Value) (n : ℕ) (state : value_at s.globals st ≡ V.I32 (suc n)) (t : ℕ) (index : value_at ls f.size ≡ V.I32 t) (ok : ArmsHold f.body) where
+module _ (p : Module) (st : ℕ) (f : GuardedFunc) (s : Store) (fn : ℕ) (under : List Activation) (ls : List Value) (n : ℕ) (state : value_at s.globals st ≡ V.I32 (suc n)) (t : ℕ)
+    (index : value_at ls f.size ≡ V.I32 t) (ok : ArmsHold f.body) where
   abbrev i : GuardIndices
   i = indices_of st f
 
@@ -70,7 +71,8 @@ module _ (p : Module) (st : ℕ) (f : GuardedFunc) (s : Store) (fn : ℕ) (under
   seeks _ _ _ (past_call {k = k} {behind = behind} {rest = rest} {xs = xs} slots x to pl) bo le lt =
       let r = seeks k (call_unit slots x to behind rest) xs pl bo (omega arith) (omega arith) in
       let ne : t ≢ k = omega arith in
-      goes_on k (call_unit slots x to behind rest) xs (suc k) done rest xs r 7 (gets 7 (passes_call p st f s fn under ls n state t index (length xs) k r.first slots x to behind rest (lbs xs) ne) (omega arith)) (omega arith)
+      goes_on k (call_unit slots x to behind rest) xs (suc k) done rest xs r 7
+      (gets 7 (passes_call p st f s fn under ls n state t index (length xs) k r.first slots x to behind rest (lbs xs) ne) (omega arith)) (omega arith)
   seeks _ _ _ (past_block {k = k} {behind = behind} {rest = rest} {xs = xs} inner body pl) bo le lt =
       let r = seeks k (nest_unit a_block inner body behind rest) xs pl bo (omega arith) (omega arith) in
       let d = length xs in
@@ -101,8 +103,10 @@ module _ (p : Module) (st : ℕ) (f : GuardedFunc) (s : Store) (fn : ℕ) (under
       let in_b = passes p st f s fn under ls n state t index b (suc d) (k + numbers_in a) fb (block_label 0 0 nx done ∷ lbs xs) ar.2 (inr (omega arith)) in
       goes_on k (if_unit x fa a fb b behind rest) xs (k + numbers_in a + numbers_in b) behind rest xs r (8 + (passing fa a + passing fb b))
       (⊎_elim
-      (λ h. gets_on (8 + (passing fa a + passing fb b)) h.1 (gets_on (1 + (passing fa a + passing fb b)) in_a (gets 1 (walks p 1 (c done (block_label 0 0 nx (arm b fb bb) ∷ lbs xs)) (c nx (lbs xs)) refl) (omega arith)) (omega arith)) (omega arith))
-      (λ h. gets_on (8 + (passing fa a + passing fb b)) h.1 (gets_on (1 + (passing fa a + passing fb b)) in_b (gets 1 (walks p 1 (c done (block_label 0 0 nx done ∷ lbs xs)) (c nx (lbs xs)) refl) (omega arith)) (omega arith)) (omega arith))
+      (λ h. gets_on (8 + (passing fa a + passing fb b)) h.1 (gets_on (1 + (passing fa a + passing fb b)) in_a
+      (gets 1 (walks p 1 (c done (block_label 0 0 nx (arm b fb bb) ∷ lbs xs)) (c nx (lbs xs)) refl) (omega arith)) (omega arith)) (omega arith))
+      (λ h. gets_on (8 + (passing fa a + passing fb b)) h.1 (gets_on (1 + (passing fa a + passing fb b)) in_b
+      (gets 1 (walks p 1 (c done (block_label 0 0 nx done ∷ lbs xs)) (c nx (lbs xs)) refl) (omega arith)) (omega arith)) (omega arith))
       (picks p st f s fn under ls n state t index d k r.first x fa a fb b behind rest (lbs xs) ar.0)) (omega arith)
   seeks _ _ _ (in_block {k = k} {first = inner} {body = body} {behind = behind} {rest = rest} {xs = xs} h pl) bo le lt =
       let r = seeks k (nest_unit a_block inner body behind rest) xs pl bo.1 le (omega arith) in
@@ -111,29 +115,34 @@ module _ (p : Module) (st : ℕ) (f : GuardedFunc) (s : Store) (fn : ℕ) (under
       goes_on k (nest_unit a_block inner body behind rest) xs k inner body (in_a_block h (k + numbers_in body) done done behind rest ∷ xs) r (over r.first + 1)
       (gets_on (over r.first + 1) (over_piece p st f s fn under ls n state r.first (nest a_block None (front i (suc d) k inner body) out) (lbs xs))
       (subst (λ z. Within p (c (nest a_block None (front i (suc d) k inner body) out) (lbs xs)) 1 (c (front i (suc d) k inner body) (block_label z 0 out done ∷ lbs xs))) (sym bo.0)
-      (gets 1 (walks p 1 (c (nest a_block None (front i (suc d) k inner body) out) (lbs xs)) (c (front i (suc d) k inner body) (block_label 0 0 out done ∷ lbs xs)) refl) (omega arith))) (omega arith)) (omega arith)
+      (gets 1 (walks p 1 (c (nest a_block None (front i (suc d) k inner body) out) (lbs xs)) (c (front i (suc d) k inner body) (block_label 0 0 out done ∷ lbs xs)) refl) (omega arith)))
+      (omega arith)) (omega arith)
   seeks _ _ _ (in_loop {k = k} {first = inner} {body = body} {behind = behind} {rest = rest} {xs = xs} h pl) bo le lt =
       let r = seeks k (nest_unit a_loop inner body behind rest) xs pl bo.1 le (omega arith) in
       let d = length xs in
       let out = front i d (k + numbers_in body) behind rest in
       goes_on k (nest_unit a_loop inner body behind rest) xs k inner body (in_a_loop h k inner body (k + numbers_in body) behind rest ∷ xs) r (over r.first + 1)
       (gets_on (over r.first + 1) (over_piece p st f s fn under ls n state r.first (nest a_loop None (front i (suc d) k inner body) out) (lbs xs))
-      (subst (λ z. Within p (c (nest a_loop None (front i (suc d) k inner body) out) (lbs xs)) 1 (c (front i (suc d) k inner body) (loop_label z (front i (suc d) k inner body) out ∷ lbs xs))) (sym bo.0)
-      (gets 1 (walks p 1 (c (nest a_loop None (front i (suc d) k inner body) out) (lbs xs)) (c (front i (suc d) k inner body) (loop_label 0 (front i (suc d) k inner body) out ∷ lbs xs)) refl) (omega arith))) (omega arith)) (omega arith)
+      (subst (λ z. Within p (c (nest a_loop None (front i (suc d) k inner body) out) (lbs xs)) 1
+      (c (front i (suc d) k inner body) (loop_label z (front i (suc d) k inner body) out ∷ lbs xs))) (sym bo.0)
+      (gets 1 (walks p 1 (c (nest a_loop None (front i (suc d) k inner body) out) (lbs xs))
+      (c (front i (suc d) k inner body) (loop_label 0 (front i (suc d) k inner body) out ∷ lbs xs)) refl) (omega arith))) (omega arith)) (omega arith)
   seeks _ _ _ (in_then {k = k} {c = x} {fa = fa} {a = a} {fb = fb} {b = b} {behind = behind} {rest = rest} {xs = xs} h pl) bo le lt =
       let r = seeks k (if_unit x fa a fb b behind rest) xs pl bo.1 le (omega arith) in
       let d = length xs in
       let nx = front i d (k + numbers_in a + numbers_in b) behind rest in
       let bb = front i (suc d) (k + numbers_in a) fb b in
       goes_on k (if_unit x fa a fb b behind rest) xs k fa a (in_a_block h (k + numbers_in a + numbers_in b) _ (arm b fb bb) behind rest ∷ xs) r 7
-      (subst (λ z. Within p (c (whole p st f s fn under ls n state t index d k r.first x fa a fb b behind rest (lbs xs)) (lbs xs)) 7 (c (front i (suc d) k fa a) (block_label z 0 nx (arm b fb bb) ∷ lbs xs))) (sym bo.0)
+      (subst (λ z. Within p (c (whole p st f s fn under ls n state t index d k r.first x fa a fb b behind rest (lbs xs)) (lbs xs)) 7
+      (c (front i (suc d) k fa a) (block_label z 0 nx (arm b fb bb) ∷ lbs xs))) (sym bo.0)
       (picks_then p st f s fn under ls n state t index d k r.first x fa a fb b behind rest (lbs xs) lt (counted a k t le lt))) (omega arith)
   seeks _ _ _ (in_else {k = k} {c = x} {fa = fa} {a = a} {fb = fb} {b = b} {behind = behind} {rest = rest} {xs = xs} h pl) bo le lt =
       let r = seeks k (if_unit x fa a fb b behind rest) xs pl bo.1 (omega arith) (omega arith) in
       let d = length xs in
       let nx = front i d (k + numbers_in a + numbers_in b) behind rest in
       goes_on k (if_unit x fa a fb b behind rest) xs (k + numbers_in a) fb b (in_a_block h (k + numbers_in a + numbers_in b) done done behind rest ∷ xs) r 7
-      (subst (λ z. Within p (c (whole p st f s fn under ls n state t index d k r.first x fa a fb b behind rest (lbs xs)) (lbs xs)) 7 (c (front i (suc d) (k + numbers_in a) fb b) (block_label z 0 nx done ∷ lbs xs))) (sym bo.0)
+      (subst (λ z. Within p (c (whole p st f s fn under ls n state t index d k r.first x fa a fb b behind rest (lbs xs)) (lbs xs)) 7
+      (c (front i (suc d) (k + numbers_in a) fb b) (block_label z 0 nx done ∷ lbs xs))) (sym bo.0)
       (picks_else p st f s fn under ls n state t index d k r.first x fa a fb b behind rest (lbs xs) le (counted b (k + numbers_in a) t le lt))) (omega arith)
 
   pub reaches : (slots : List ℕ) (x : Callee) (to : Option ℕ) (behind : Code) (rest : Units) (xs : List Enclosing) → BodyPlace st f t (call_unit slots x to behind rest) xs
@@ -143,7 +152,8 @@ module _ (p : Module) (st : ℕ) (f : GuardedFunc) (s : Store) (fn : ℕ) (under
       let w1 = r.within in
       let lb' = block_label 0 0 (call_code st f (length xs) t slots x to behind) (raised 0 2 r.first) ∷ call_label st f 0 (length xs) t rest ∷ lbs xs in
       gets_on (passing f.first f.body) (gets r.cost r.comes (omega arith))
-      (gets_on 8 (gets 6 (to_test p st f s fn under ls n state t index (length xs) t r.first slots x to behind rest (lbs xs) 0 (ne_zero t)) (omega arith)) (gets 2 (walks p 2 (running s fn under ls (V.I32 0 ∷ []) (plain (br_if 1) done) lb') _ refl) (omega arith)) (omega arith)) (omega arith)
+      (gets_on 8 (gets 6 (to_test p st f s fn under ls n state t index (length xs) t r.first slots x to behind rest (lbs xs) 0 (ne_zero t)) (omega arith))
+      (gets 2 (walks p 2 (running s fn under ls (V.I32 0 ∷ []) (plain (br_if 1) done) lb') _ refl) (omega arith)) (omega arith)) (omega arith)
 
 pub seeks_law : Seeks
 seeks_law p st n k f s fn under ls slots x to behind rest xs state index ok pl bo = reaches p st f s fn under ls n state k index ok slots x to behind rest xs pl bo

@@ -78,7 +78,13 @@ module _ (w : Sides) where
 
   pub no_lag : {r : Role} (x : Ctx w r) (ops : List Value) (code : Code) (labels : List Label) (code' : Code) (labels' : List Label) → SamePoint w r ops code labels code' labels'
       → Near w 0 (cq x ops code labels) (cp x ops code' labels')
-  no_lag x ops code labels code' labels' st = record { lag = 0; short = omega arith; mid = cp x ops code' labels'; goes = (none w.written (cp x ops code' labels')).by; is_aligned = exactly_at x ops code labels code' labels' st }
+  no_lag x ops code labels code' labels' st = record {
+    lag = 0;
+    short = omega arith;
+    mid = cp x ops code' labels';
+    goes = (none w.written (cp x ops code' labels')).by;
+    is_aligned = exactly_at x ops code labels code' labels' st;
+  }
 
   -- some reductions before
   pub later : (j b n : ℕ) (c c' c2 : Configuration) → Comes w.written c' j c2 → Near w b c c2 → j + b ≤ n → Near w n c c'
@@ -95,7 +101,8 @@ module _ (w : Sides) where
   abbrev pub Arounds : GuardedFunc → List Enclosing → Type 0
   Arounds f [] = Unit {0}
   Arounds f (in_a_block h k sk sk' behind rest ∷ xs) = BodyPlace w.state f k rest xs × Calls w.free behind × Arounds f xs
-  Arounds f (in_a_loop h k0 first body k behind rest ∷ xs) = BodyPlace w.state f k0 body (in_a_loop h k0 first body k behind rest ∷ xs) × Calls w.free first × BodyPlace w.state f k rest xs × Calls w.free behind × Arounds f xs
+  Arounds f (in_a_loop h k0 first body k behind rest ∷ xs) = BodyPlace w.state f k0 body
+      (in_a_loop h k0 first body k behind rest ∷ xs) × Calls w.free first × BodyPlace w.state f k rest xs × Calls w.free behind × Arounds f xs
 
   module _ (f : GuardedFunc) (pc : PiecesCall w.free f.body) where
     pub calls_at : (k : ℕ) (us : Units) (xs : List Enclosing) → BodyPlace w.state f k us xs → PiecesCall w.free us
@@ -129,7 +136,8 @@ module _ (w : Sides) where
     -- a state of 0 is read
     pub reads : {r : Role} (x : Ctx w r) (ops : List Value) (next : Code) (labels : List Label)
         → Comes w.written (cp x ops (plain (basic (global_get w.state)) next) labels) 1 (cp x (V.I32 0 ∷ ops) next labels)
-    reads x ops next labels = subst (λ v. Comes w.written (cp x ops (plain (basic (global_get w.state)) next) labels) 1 (cp x (v ∷ ops) next labels)) (ok.normal x.s x.s' x.alike) (walks w.written 1 _ _ refl)
+    reads x ops next labels = subst (λ v. Comes w.written (cp x ops (plain (basic (global_get w.state)) next) labels) 1 (cp x (v ∷ ops) next labels)) (ok.normal x.s x.s' x.alike)
+        (walks w.written 1 _ _ refl)
 
     -- a test of the state
     pub to_else : {r : Role} (x : Ctx w r) (ops : List Value) (f : GuardedFunc) (a b next : Code) (labels : List Label)
@@ -143,15 +151,19 @@ module _ (w : Sides) where
       -- an `if` begins with the piece in front of it
       begins_if : (ops : List Value) (k : ℕ) (c : Operand) (fa : Code) (a : Units) (fb : Code) (b : Units) (behind : Code) (rest : Units) (xs : List Enclosing) (first : Code)
           → BodyPlace w.state f k (if_unit c fa a fb b behind rest) xs → Calls w.free first
-          → Near w 4 (cq x ops (followed_by first (flat_units (if_unit c fa a fb b behind rest))) (flat_labels f xs)) (cp x ops (front i (length xs) k first (if_unit c fa a fb b behind rest)) (written_labels w.state f xs))
+          → Near w 4 (cq x ops (followed_by first (flat_units (if_unit c fa a fb b behind rest))) (flat_labels f xs))
+          (cp x ops (front i (length xs) k first (if_unit c fa a fb b behind rest)) (written_labels w.state f xs))
       begins_if ops k c fa a fb b behind rest xs first pl ca =
-          let next : Code = branch None (arm a fa (front i (suc (length xs)) k fa a)) (arm b fb (front i (suc (length xs)) (k + numbers_in a) fb b)) (front i (length xs) (k + numbers_in a + numbers_in b) behind rest) in
+          let next : Code = branch None (arm a fa (front i (suc (length xs)) k fa a)) (arm b fb (front i (suc (length xs)) (k + numbers_in a) fb b))
+          (front i (length xs) (k + numbers_in a + numbers_in b) behind rest) in
           let piece : Code = followed_by first (got c done) in
           let from = cp x ops (front i (length xs) k first (if_unit c fa a fb b behind rest)) (written_labels w.state f xs) in
           let two : Comes w.written from 2 (cp x ops (raised 0 1 piece) (block_label (length ops) 1 next done ∷ written_labels w.state f xs)) =
           on w.written 1 1 _ _ _ (reads x ops (branch (Some I32) (choice i k a b) (raised 0 1 piece) next) (written_labels w.state f xs)) (walks w.written 1 _ _ refl) in
-          let at_piece = no_lag x ops _ _ _ _ (in_piece (before_if (length ops) pl) outside piece (calls_pruned w.free piece (calls_then w.free first (got c done) ca (calls_got w.free c done tt))) (goes_got first c)) in
-          subst (λ z. Near w 4 (cq x ops z (flat_labels f xs)) from) (joined_got first c (branch None (followed_by fa (flat_units a)) (followed_by fb (flat_units b)) (followed_by behind (flat_units rest))))
+          let at_piece = no_lag x ops _ _ _ _ (in_piece (before_if (length ops) pl) outside piece
+          (calls_pruned w.free piece (calls_then w.free first (got c done) ca (calls_got w.free c done tt))) (goes_got first c)) in
+          subst (λ z. Near w 4 (cq x ops z (flat_labels f xs)) from) (joined_got first c (branch None (followed_by fa (flat_units a)) (followed_by fb (flat_units b))
+          (followed_by behind (flat_units rest))))
           (later 2 0 4 _ _ _ two at_piece (omega arith))
 
       -- at a unit, with nothing in front of it
@@ -169,25 +181,29 @@ module _ (w : Sides) where
       settle_units ops k (nest_unit a_block first body behind rest) xs pl = wider 0 4 _ _ (no_lag x ops _ _ _ _ (at_block pl)) (omega arith)
       settle_units ops k (nest_unit a_loop first body behind rest) xs pl = wider 0 4 _ _ (no_lag x ops _ _ _ _ (at_loop pl)) (omega arith)
       settle_units ops k (if_unit c fa a fb b behind rest) xs pl =
-          subst (λ z. Near w 4 (cq x ops z (flat_labels f xs)) (cp x ops (front i (length xs) k done (if_unit c fa a fb b behind rest)) (written_labels w.state f xs))) (none_then (flat_units (if_unit c fa a fb b behind rest)))
+          subst (λ z. Near w 4 (cq x ops z (flat_labels f xs)) (cp x ops (front i (length xs) k done (if_unit c fa a fb b behind rest)) (written_labels w.state f xs)))
+          (none_then (flat_units (if_unit c fa a fb b behind rest)))
           (begins_if ops k c fa a fb b behind rest xs done pl tt)
 
       -- a piece that isn't empty begins
       begins_guard : (ops : List Value) (k : ℕ) (us : Units) (xs : List Enclosing) (first : Code) → BodyPlace w.state f k us xs → Calls w.free first → GoesOn 0 first
-          → Near w 4 (cq x ops (followed_by first (flat_units us)) (flat_labels f xs)) (cp x ops (by_state i.state done (raised 0 1 first) (front i (length xs) k done us)) (written_labels w.state f xs))
+          → Near w 4 (cq x ops (followed_by first (flat_units us)) (flat_labels f xs))
+          (cp x ops (by_state i.state done (raised 0 1 first) (front i (length xs) k done us)) (written_labels w.state f xs))
       begins_guard ops k us xs first pl ca go =
           later 2 0 4 _ _ _ (to_else x ops f done (raised 0 1 first) (front i (length xs) k done us) (written_labels w.state f xs))
           (no_lag x ops _ _ _ _ (in_piece (guard_end (length ops) pl) outside first (calls_pruned w.free first ca) go)) (omega arith)
 
       begins_call : (ops : List Value) (k : ℕ) (slots : List ℕ) (c : Callee) (to : Option ℕ) (behind : Code) (rest : Units) (xs : List Enclosing) (first : Code)
           → BodyPlace w.state f k (call_unit slots c to behind rest) xs → Calls w.free first → GoesOn 0 first
-          → Near w 4 (cq x ops (followed_by first (flat_units (call_unit slots c to behind rest))) (flat_labels f xs)) (cp x ops (front i (length xs) k first (call_unit slots c to behind rest)) (written_labels w.state f xs))
+          → Near w 4 (cq x ops (followed_by first (flat_units (call_unit slots c to behind rest))) (flat_labels f xs))
+          (cp x ops (front i (length xs) k first (call_unit slots c to behind rest)) (written_labels w.state f xs))
       begins_call ops k slots c to behind rest xs first pl ca go =
           let lb' = call_label w.state f (length ops) (length xs) k rest ∷ written_labels w.state f xs in
           let code' = call_code w.state f (length xs) k slots c to behind in
           let from = cp x ops (front i (length xs) k first (call_unit slots c to behind rest)) (written_labels w.state f xs) in
           let one_ : Comes w.written from 1 (cp x ops (sought i k first code') lb') = walks w.written 1 _ _ refl in
-          let three : Comes w.written from 3 (cp x ops (raised 0 2 first) (block_label (length ops) 0 code' done ∷ lb')) = on w.written 1 2 _ _ _ one_ (to_else x ops f _ (raised 0 2 first) code' lb') in
+          let three : Comes w.written from 3 (cp x ops (raised 0 2 first) (block_label (length ops) 0 code' done ∷ lb')) = on w.written 1 2 _ _ _ one_
+          (to_else x ops f _ (raised 0 2 first) code' lb') in
           later 3 0 4 _ _ _ three (no_lag x ops _ _ _ _ (in_piece (before_call (length ops) (length ops) pl) outside first (calls_pruned w.free first ca) go)) (omega arith)
 
       -- a sequence begins

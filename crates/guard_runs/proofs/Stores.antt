@@ -45,7 +45,8 @@ written_above : (low held high piece : List ℕ) (j : ℕ) → overwritten (low 
 written_above low held high piece j =
     let z : length low + (length held + j) + length piece ≡ length low + (length held + (j + length piece)) = omega arith in
     let t = up_to_two low held high j in
-    let d : drop (length low + (length held + j) + length piece) (low ++ (held ++ high)) ≡ drop (j + length piece) high = ap (λ n. drop n (low ++ (held ++ high))) z ∙ past_two low held high (j + length piece) in
+    let d : drop (length low + (length held + j) + length piece) (low ++ (held ++ high)) ≡ drop (j + length piece) high = ap (λ n. drop n (low ++ (held ++ high))) z
+    ∙ past_two low held high (j + length piece) in
     ap (λ x. x ++ piece ++ drop (length low + (length held + j) + length piece) (low ++ (held ++ high))) t
     ∙ ap (λ x. (low ++ (held ++ take j high)) ++ piece ++ x) d
     ∙ joins
@@ -102,22 +103,26 @@ module _ (low held held' high : List ℕ) (same : length held' ≡ length held) 
       let w = wrote (take (length low) x) (drop (length low) x) lt in
       let split : take (length low) x ++ drop (length low) x ≡ x = take-append-drop (length low) x in
       let one_ : take (length low) x ++ (held ++ drop (length low) x) ≡ x = ap (λ (y : List ℕ). take (length low) x ++ (y ++ drop (length low) x)) z ∙ split in
-      let two_ : take (length low) x ++ (held' ++ drop (length low) x) ≡ overwritten m' a piece = ap (λ (y : List ℕ). take (length low) x ++ (y ++ drop (length low) x)) z' ∙ split ∙ sym (ap (λ (y : List ℕ). overwritten y a piece) (one_memory e)) in
+      let two_ : take (length low) x ++ (held' ++ drop (length low) x) ≡ overwritten m' a piece = ap (λ (y : List ℕ). take (length low) x ++ (y ++ drop (length low) x)) z' ∙ split
+      ∙ sym (ap (λ (y : List ℕ). overwritten y a piece) (one_memory e)) in
       subst (λ (y : List ℕ). Wrote (Some y) (Some (overwritten m' a piece))) one_ (subst (λ (y : List ℕ). Wrote (Some (take (length low) x ++ (held ++ drop (length low) x))) (Some y)) two_ w)
   written_too a piece in_ (inr (inl le)) =
       let e = written_below low (held ++ high) piece a le in
       let e' = written_below low (held' ++ high) piece a le in
-      subst (λ (y : List ℕ). Wrote (Some y) (Some (overwritten m' a piece))) (sym e) (subst (λ (y : List ℕ). Wrote (Some (overwritten low a piece ++ (held ++ high))) (Some y)) (sym e') (wrote (overwritten low a piece) high (length-overwritten low a piece le)))
+      subst (λ (y : List ℕ). Wrote (Some y) (Some (overwritten m' a piece))) (sym e)
+      (subst (λ (y : List ℕ). Wrote (Some (overwritten low a piece ++ (held ++ high))) (Some y)) (sym e') (wrote (overwritten low a piece) high (length-overwritten low a piece le)))
   written_too a piece in_ (inr (inr le)) =
       let j = a - length low - length held in
       let z : a ≡ length low + (length held + j) = omega arith in
       let z' : a ≡ length low + (length held' + j) = omega arith in
       let e : overwritten m a piece ≡ low ++ (held ++ overwritten high j piece) = ap (λ (x : ℕ). overwritten m x piece) z ∙ written_above low held high piece j in
       let e' : overwritten m' a piece ≡ low ++ (held' ++ overwritten high j piece) = ap (λ (x : ℕ). overwritten m' x piece) z' ∙ written_above low held' high piece j in
-      subst (λ (y : List ℕ). Wrote (Some y) (Some (overwritten m' a piece))) (sym e) (subst (λ (y : List ℕ). Wrote (Some (low ++ (held ++ overwritten high j piece))) (Some y)) (sym e') (wrote low (overwritten high j piece) refl))
+      subst (λ (y : List ℕ). Wrote (Some y) (Some (overwritten m' a piece))) (sym e)
+      (subst (λ (y : List ℕ). Wrote (Some (low ++ (held ++ overwritten high j piece))) (Some y)) (sym e') (wrote low (overwritten high j piece) refl))
 
   pub put_too : (a : ℕ) (piece : List ℕ) → (a + length piece ≤ length m → Off a (length piece)) → Wrote (with_piece m a piece) (with_piece m' a piece)
-  put_too a piece h = subst (λ (k : ℕ). Wrote (with_piece m a piece) (if nat_le (a + length piece) k then Some (overwritten m' a piece) else None)) (sym long) (by (nat_le (a + length piece) (length m)) refl)
+  put_too a piece h = subst (λ (k : ℕ). Wrote (with_piece m a piece) (if nat_le (a + length piece) k then Some (overwritten m' a piece) else None)) (sym long)
+      (by (nat_le (a + length piece) (length m)) refl)
     where
       by : (b : Bool) → nat_le (a + length piece) (length (low ++ (held ++ high))) ≡ b
           → Wrote (if b then Some (overwritten (low ++ (held ++ high)) a piece) else None) (if b then Some (overwritten (low ++ (held' ++ high)) a piece) else None)
@@ -155,7 +160,8 @@ module _ (v : Setting) where
   load_too s s' a None h so = tt
   load_too s s' a (Some row) h so =
       let e : number_at s'.memory a (width_of row) ≡ number_at s.memory a (width_of row) =
-      ap (λ (x : List ℕ). number_at x a (width_of row)) h.memory' ∙ numbers_too h.low h.held h.held' h.high (h.held_size' ∙ sym h.held_size) a (width_of row) (stays s s' h a (width_of row) (pow_pos row.natural) so) ∙ sym (ap (λ (x : List ℕ). number_at x a (width_of row)) h.memory) in
+      ap (λ (x : List ℕ). number_at x a (width_of row)) h.memory' ∙ numbers_too h.low h.held h.held' h.high (h.held_size' ∙ sym h.held_size) a (width_of row)
+      (stays s s' h a (width_of row) (pow_pos row.natural) so) ∙ sym (ap (λ (x : List ℕ). number_at x a (width_of row)) h.memory) in
       subst (λ o. DidToo like (loaded s row (number_at s.memory a (width_of row))) (loaded s' row o)) (sym e) (loaded_too s s' row (number_at s.memory a (width_of row)) h)
 
   with_bytes : (s s' : Store) (h : like s s') (o o' : Option (List ℕ)) → Wrote h.low h.held h.held' h.high (h.held_size' ∙ sym h.held_size) o o'
@@ -211,7 +217,8 @@ module _ (v : Setting) where
   grew_too : (most : Option ℕ) (s s' : Store) (n : ℕ) → like s s'
       → DidToo like (grew s (grown (record { bytes = s.memory; max = most }) n)) (grew s' (grown (record { bytes = s'.memory; max = most }) n))
   grew_too most s s' n h =
-      subst (λ k. DidToo like (grew s (grown (record { bytes = s.memory; max = most }) n)) (grew s' (if nat_le (k / page_size + n) (page_bound most) then Some (record { bytes = s'.memory ++ replicate (n * page_size) 0; max = most }) else None))) (sym (long_too s s' h))
+      subst (λ k. DidToo like (grew s (grown (record { bytes = s.memory; max = most }) n))
+      (grew s' (if nat_le (k / page_size + n) (page_bound most) then Some (record { bytes = s'.memory ++ replicate (n * page_size) 0; max = most }) else None))) (sym (long_too s s' h))
       (by (nat_le (pages_of s.memory + n) (page_bound most)))
     where
       zeros : List ℕ
@@ -226,7 +233,8 @@ module _ (v : Setting) where
       pages : pages_of s'.memory ≡ pages_of s.memory
       pages = ap (λ (k : ℕ). k / page_size) (long_too s s' h)
 
-      by : (b : Bool) → DidToo (Alike v) (grew s (if b then Some (record { bytes = s.memory ++ zeros; max = most }) else None)) (grew s' (if b then Some (record { bytes = s'.memory ++ zeros; max = most }) else None))
+      by : (b : Bool) → DidToo (Alike v) (grew s (if b then Some (record { bytes = s.memory ++ zeros; max = most }) else None))
+          (grew s' (if b then Some (record { bytes = s'.memory ++ zeros; max = most }) else None))
       by true = (
         ap (λ (k : ℕ). V.I32 k ∷ []) pages,
         record {

@@ -72,11 +72,14 @@ pub data BehindPiece (w : Sides) : Role → (by : ℕ) → (tail : Code) → (ou
       → BehindPiece w (with_guards f) 1 (flat_units us) (flat_labels f xs) (block_label h 0 (front (indices_of w.state f) (length xs) k done us) done ∷ written_labels w.state f xs)
   before_call : {f : GuardedFunc} {k : ℕ} {slots : List ℕ} {x : Callee} {to : Option ℕ} {behind : Code} {rest : Units} {xs : List Enclosing} → (h h2 : ℕ)
       → BodyPlace w.state f k (call_unit slots x to behind rest) xs
-      → BehindPiece w (with_guards f) 2 (flat_units (call_unit slots x to behind rest)) (flat_labels f xs) (block_label h 0 (call_code w.state f (length xs) k slots x to behind) done ∷ call_label w.state f h2 (length xs) k rest ∷ written_labels w.state f xs)
+      → BehindPiece w (with_guards f) 2 (flat_units (call_unit slots x to behind rest)) (flat_labels f xs)
+      (block_label h 0 (call_code w.state f (length xs) k slots x to behind) done ∷ call_label w.state f h2 (length xs) k rest ∷ written_labels w.state f xs)
   before_if : {f : GuardedFunc} {k : ℕ} {c : Operand} {fa : Code} {a : Units} {fb : Code} {b : Units} {behind : Code} {rest : Units} {xs : List Enclosing} → (h : ℕ)
       → BodyPlace w.state f k (if_unit c fa a fb b behind rest) xs
       → BehindPiece w (with_guards f) 1 (branch None (followed_by fa (flat_units a)) (followed_by fb (flat_units b)) (followed_by behind (flat_units rest))) (flat_labels f xs)
-      (block_label h 1 (branch None (arm a fa (front (indices_of w.state f) (suc (length xs)) k fa a)) (arm b fb (front (indices_of w.state f) (suc (length xs)) (k + numbers_in a) fb b)) (front (indices_of w.state f) (length xs) (k + numbers_in a + numbers_in b) behind rest)) done ∷ written_labels w.state f xs)
+      (block_label h 1 (branch None (arm a fa (front (indices_of w.state f) (suc (length xs)) k fa a))
+      (arm b fb (front (indices_of w.state f) (suc (length xs)) (k + numbers_in a) fb b)) (front (indices_of w.state f) (length xs) (k + numbers_in a + numbers_in b) behind rest))
+      done ∷ written_labels w.state f xs)
   arm_end : {f : GuardedFunc} {k : ℕ} {xs : List Enclosing} → BodyPlace w.state f k no_unit xs
       → BehindPiece w (with_guards f) 0 done (flat_labels f xs) (written_labels w.state f xs)
   func_end : {r : Role} → BehindPiece w r 0 done [] []
@@ -105,20 +108,25 @@ pub data SamePoint (w : Sides) : Role → (ops : List Value) → (code : Code) �
       → SamePoint w r ops (followed_by c (tail_at d tail)) labels (raised d by c) labels'
   at_args : {ops : List Value} {f : GuardedFunc} {k : ℕ} {slots : List ℕ} {x : Callee} {to : Option ℕ} {behind : Code} {rest : Units} {xs : List Enclosing} → (h : ℕ)
       → (left : List ℕ) → BodyPlace w.state f k (call_unit slots x to behind rest) xs
-      → SamePoint w (with_guards f) ops (slots_got left (plain (call_to x) (set_to to (followed_by behind (flat_units rest))))) (flat_labels f xs) (call_code w.state f (length xs) k left x to behind) (call_label w.state f h (length xs) k rest ∷ written_labels w.state f xs)
+      → SamePoint w (with_guards f) ops (slots_got left (plain (call_to x) (set_to to (followed_by behind (flat_units rest))))) (flat_labels f xs)
+      (call_code w.state f (length xs) k left x to behind) (call_label w.state f h (length xs) k rest ∷ written_labels w.state f xs)
   at_block : {ops : List Value} {f : GuardedFunc} {k : ℕ} {first : Code} {body : Units} {behind : Code} {rest : Units} {xs : List Enclosing}
       → BodyPlace w.state f k (nest_unit a_block first body behind rest) xs
-      → SamePoint w (with_guards f) ops (flat_units (nest_unit a_block first body behind rest)) (flat_labels f xs) (front (indices_of w.state f) (length xs) k done (nest_unit a_block first body behind rest)) (written_labels w.state f xs)
+      → SamePoint w (with_guards f) ops (flat_units (nest_unit a_block first body behind rest)) (flat_labels f xs)
+      (front (indices_of w.state f) (length xs) k done (nest_unit a_block first body behind rest)) (written_labels w.state f xs)
   at_loop : {ops : List Value} {f : GuardedFunc} {k : ℕ} {first : Code} {body : Units} {behind : Code} {rest : Units} {xs : List Enclosing}
       → BodyPlace w.state f k (nest_unit a_loop first body behind rest) xs
-      → SamePoint w (with_guards f) ops (flat_units (nest_unit a_loop first body behind rest)) (flat_labels f xs) (front (indices_of w.state f) (length xs) k done (nest_unit a_loop first body behind rest)) (written_labels w.state f xs)
+      → SamePoint w (with_guards f) ops (flat_units (nest_unit a_loop first body behind rest)) (flat_labels f xs)
+      (front (indices_of w.state f) (length xs) k done (nest_unit a_loop first body behind rest)) (written_labels w.state f xs)
   at_choice : {ops : List Value} {f : GuardedFunc} {k : ℕ} {c : Operand} {fa : Code} {a : Units} {fb : Code} {b : Units} {behind : Code} {rest : Units} {xs : List Enclosing}
       → BodyPlace w.state f k (if_unit c fa a fb b behind rest) xs
       → SamePoint w (with_guards f) ops (branch None (followed_by fa (flat_units a)) (followed_by fb (flat_units b)) (followed_by behind (flat_units rest))) (flat_labels f xs)
-      (branch None (arm a fa (front (indices_of w.state f) (suc (length xs)) k fa a)) (arm b fb (front (indices_of w.state f) (suc (length xs)) (k + numbers_in a) fb b)) (front (indices_of w.state f) (length xs) (k + numbers_in a + numbers_in b) behind rest)) (written_labels w.state f xs)
+      (branch None (arm a fa (front (indices_of w.state f) (suc (length xs)) k fa a)) (arm b fb (front (indices_of w.state f) (suc (length xs)) (k + numbers_in a) fb b))
+      (front (indices_of w.state f) (length xs) (k + numbers_in a + numbers_in b) behind rest)) (written_labels w.state f xs)
   at_end : {ops : List Value} {f : GuardedFunc} {k : ℕ} {xs : List Enclosing} → BodyPlace w.state f k no_unit xs
       → SamePoint w (with_guards f) ops done (flat_labels f xs) done (written_labels w.state f xs)
-  at_body : {f : GuardedFunc} → SamePoint w (with_guards f) [] (flat_code (with_guards f)) [] (nest a_block None (front (indices_of w.state f) 0 0 f.first f.body) (by_state w.state f.saving done (result_got f.result))) []
+  at_body : {f : GuardedFunc} → SamePoint w (with_guards f) [] (flat_code (with_guards f)) []
+      (nest a_block None (front (indices_of w.state f) 0 0 f.first f.body) (by_state w.state f.saving done (result_got f.result))) []
   at_return : {ops : List Value} {r : Role} → SamePoint w r ops done [] done []
 
 -- ---- whole configurations
@@ -143,7 +151,8 @@ pub data BothWait (w : Sides) (g : ℕ) : Activation → Activation → Type 0 w
   at_number : {f : GuardedFunc} {k : ℕ} {slots : List ℕ} {x : Callee} {to : Option ℕ} {behind : Code} {rest : Units} {xs : List Enclosing} → (fn : ℕ) → fn < w.funcs
       → w.role fn ≡ with_guards f → (ls extra ops taken : List Value) → Locals (with_guards f) ls extra
       → (h : ℕ) → BodyPlace w.state f k (call_unit slots x to behind rest) xs → GoesTo w g taken x
-      → BothWait w g (waiting fn ls ops taken (set_to to (followed_by behind (flat_units rest))) (flat_labels f xs)) (waiting fn (ls ++ extra) ops taken (noted_code w.state f (length xs) k to behind) (call_label w.state f h (length xs) k rest ∷ written_labels w.state f xs))
+      → BothWait w g (waiting fn ls ops taken (set_to to (followed_by behind (flat_units rest))) (flat_labels f xs))
+      (waiting fn (ls ++ extra) ops taken (noted_code w.state f (length xs) k to behind) (call_label w.state f h (length xs) k rest ∷ written_labels w.state f xs))
 
 -- The activations below function g on both sides, the outermost being the host's.
 pub data Callers (w : Sides) : ℕ → List Activation → List Activation → Type 0 where

@@ -40,7 +40,8 @@ NoneBelow (in_a_loop h k0 first body k behind rest ∷ xs) = (h ≡ 0) × NoneBe
 -- they were, and the labels of its place.
 abbrev pub Seeks : Type 0
 Seeks =
-    (p : Module) (st n k : ℕ) (f : GuardedFunc) (s : Store) (fn : ℕ) (under : List Activation) (ls : List Value) (slots : List ℕ) (x : Callee) (to : Option ℕ) (behind : Code) (rest : Units) (xs : List Enclosing)
+    (p : Module) (st n k : ℕ) (f : GuardedFunc) (s : Store) (fn : ℕ) (under : List Activation) (ls : List Value) (slots : List ℕ) (x : Callee) (to : Option ℕ) (behind : Code)
+    (rest : Units) (xs : List Enclosing)
     → value_at s.globals st ≡ V.I32 (suc n) → value_at ls f.size ≡ V.I32 k → ArmsHold f.body → BodyPlace st f k (call_unit slots x to behind rest) xs → NoneBelow xs
     → Within p (running s fn under ls [] (front (indices_of st f) 0 0 f.first f.body) (written_labels st f [])) (passing f.first f.body)
     (running s fn under ls [] (call_code st f (length xs) k slots x to behind) (call_label st f 0 (length xs) k rest ∷ written_labels st f xs))

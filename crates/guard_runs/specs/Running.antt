@@ -8,6 +8,7 @@ use Rattle.wa_model.specs.Alone.{Goes}
 use Rattle.wa_model.specs.Configuration.{Activation, Configuration, running}
 use Rattle.wa_model.specs.Step.{Next, steps, asks, returns, traps, stuck, entered, param_count, step}
 use Rattle.wa_model.specs.Store.{Store}
+use Rattle.wa_model.specs.Touches.{next_touch}
 use Rattle.guard_runs.specs.Alike.{Setting, Alike, sides_of, Paired}
 use Rattle.guard_runs.specs.Beside.{Sides, Callers, Near, Asked, Matched, Proper}
 use Rattle.guard_runs.specs.Silent.{Silently}
@@ -29,13 +30,14 @@ pub data ComesToo (w : Sides) (c' : Configuration) : Next → Type 0 where
 abbrev pub EachStep : Type 0
 EachStep = (v : Setting) (c c' : Configuration) → Paired v → Near (sides_of v) 9 c c' → Proper (sides_of v) c → ComesToo (sides_of v) c' (step v.flat c)
 
--- In detail: the written side is late by reductions that change no store, and then makes the same one.
+-- In detail: the written side is late by reductions that touch nothing, and then makes the same one, which touches the same.
 pub record Moves (v : Setting) (c c' : Configuration) : Type 0 where
   pub lag : ℕ
   pub short : lag ≤ 9
   pub mid : Configuration
   pub late : Silently v.written c' lag mid
   pub same : Matched (sides_of v) (step v.flat c) (step v.written mid)
+  pub touch : next_touch mid ≡ next_touch c
 
 abbrev pub EachMove : Type 0
 EachMove = (v : Setting) (c c' : Configuration) → Paired v → Near (sides_of v) 9 c c' → Proper (sides_of v) c → Moves v c c'

@@ -13,5 +13,5 @@ mod stack_laws;
 
 pub use module_laws::{fitting_is_proper, modules_are_paired};
 pub use rewinding_laws::{calls_are_left, calls_are_sought, code_is_passed};
-pub use running_laws::{answers_go_on, calls_begin, running_is_followed};
+pub use running_laws::{answers_go_on, calls_begin, running_is_followed, touches_are_followed};
 pub use stack_laws::{stacks_stop, stores_meet_again};

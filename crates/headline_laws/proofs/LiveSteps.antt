@@ -96,8 +96,8 @@ module _ (w : World) (Live : Configuration → Configuration → Type 0) (L : (t
           record { func = fe.func; defined = fe.defined; func' = fe.func'; defined' = fe.defined'; known = fe.known; count = fe.count; on = record { n = on.n; few = on.few; to = on.to; goes = on.goes; link = record { chosen = entered s [] args x f; live = lv.same (entered s [] args x f); link = on.link } } };
       poked_good = law.poked_good;
       numbers = λ top i d f h nums. law.numbers top i h.chosen f h.waits (lv.numbered d h.chosen h.live nums);
-      stands = λ top i d f us' st h nums.
-          let fs = law.stands top i h.chosen f us' st h.waits (lv.numbered d h.chosen h.live nums) in
+      stands = λ top i d f us' st h nums fit.
+          let fs = law.stands top i h.chosen f us' st h.waits (lv.numbered d h.chosen h.live nums) fit in
           record { may = fs.may; stand = lv.stand d h.chosen _ h.live fs.stand; weigh = lv.weigh d h.chosen _ _ h.live fs.weigh };
       again = λ top i d f a us h nums same us' st fit.
           let ag = law.again top i h.chosen f a us h.waits (lv.numbered d h.chosen h.live nums) same us' st fit in

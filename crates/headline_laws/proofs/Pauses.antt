@@ -13,7 +13,7 @@ use Rattle.guard_runs.proofs.StoppedStacks.{stops_law, waits_law}
 use Rattle.guard_runs.specs.Alike.{Alike}
 use Rattle.guard_runs.specs.Stopped.{Stopped}
 use Rattle.headline_laws.proofs.Asks.{Called, Given_on, Pausing, answer_fits, give, left_fits, no_bad_poke, same_d, tested_now, went_on}
-use Rattle.headline_laws.proofs.FlatStretches.{Sm, gl, pr, sides, xp}
+use Rattle.headline_laws.proofs.FlatStretches.{Sil, Sm, gl, pr, sides, xp}
 use Rattle.headline_laws.specs.StoreLaws.{StoreLaws}
 use Rattle.headline_laws.proofs.FromSimulation.{dear_cons}
 use Rattle.headline_laws.proofs.OuterLevels.{inner_calls, outer_all, under_deep, weigh_all}
@@ -24,18 +24,18 @@ use Rattle.pause_laws.proofs.Pausing.{answers_law, pauses_law, traps_law}
 use Rattle.pause_laws.specs.Pause.{AnswersAt, AreaReady, EntersEntry, Overruns, PausesAt, at_import}
 use Rattle.pause_laws.specs.UnseenMoves.{GoesUnseen}
 use Rattle.run_laws.proofs.Keeping.{same_on}
-use Rattle.std.proofs.Common.{All, Bool, List, None, Some, [], ap, arith, false, length, map, refl, subst, suc, sym, true, zero, ℕ, ◌*◌, ◌+◌, ◌<◌, ◌^◌, ◌∙◌, ◌∷◌, ◌≡◌, ◌≤◌}
+use Rattle.std.proofs.Common.{All, Bool, List, None, Some, [], ap, arith, false, length, map, refl, subst, suc, sym, true, zero, ℕ, ◌*◌, ◌+◌, ◌<◌, ◌^◌, ◌∙◌, ◌∷◌, ◌≡◌, ◌≤◌, ◌++◌}
 use Rattle.std.proofs.lemmas.Bool.{ltb-false, ltb-true}
 use Rattle.std.proofs.lemmas.List.{length-map}
 use Rattle.std.specs.List.{sum_by}
 use Rattle.std.specs.Option.{option_to_list}
 use Rattle.std.specs.Prelude.{if◌then◌else◌, nat_lt}
-use Rattle.wa_model.proofs.Runs.{leads_run}
+use Rattle.wa_model.proofs.Runs.{leads_on, leads_run}
 use Rattle.wa_model.specs.Behaves.{SameNote, PausesNumbered, StandsNumbered}
 use Rattle.wa_model.specs.Blocking.{Left, Note, State, Task, an_entry, call_note, go_on, halts, inside, note, pause_of, poked, resumed, runs, store_of, tested, with_outcomes}
 use Rattle.wa_model.specs.Configuration.{Activation, Configuration, stack_of}
 use Rattle.wa_model.specs.Expected.{pause_note, trap_note}
-use Rattle.wa_model.specs.Machine.{Leads, Ran, goes, run, stays}
+use Rattle.wa_model.specs.Machine.{Leads, Ran, goes, moves, run, stays}
 use Rattle.wa_model.specs.Outside.{Answer, answered, ended, paused}
 use Rattle.wa_model.specs.Plan.{Entry, Outcome, given}
 use Rattle.wa_model.specs.Protocol.{Held, answer_note, busy, call_again, calling, give_zero, is_running, over, protocol, rewinds, store_held, unwinds, with_words}
@@ -70,7 +70,9 @@ module _ (w : World) (ft : WorldFits w) (sl : StoreLaws w) (L : ℕ → Configur
     (n top : ℕ) (e : Entry) (c b : Configuration) (l : Left) (is_top : TopOf w (an_entry e) top) (lk : Link w ft sl L W G law top c b) (lf : LeftFits w l) (al : Allowed w n (runs (an_entry e) c l))
     (k i : ℕ) (args : List Value) (d : Configuration) (is : step (base w) c ≡ asks k i args d) (cd : Called w ft sl L W G law top (an_entry e) l c.store b k i args d)
     (a : Answer) (os : List Outcome) (ticks : ℕ) (eo : l.outcomes ≡ given a ∷ os) (ef : Rattle.headline_laws.proofs.Asks.fault w ft sl L W G law n top (an_entry e) c b l is_top lk lf al k i args d is cd a ≡ None) (et : pause_of a.ticks ≡ Some ticks)
-    (came : (c2 : Configuration) (l2 : Left) (cost : ℕ) (es : List Note) → Leads (pr w) (busy (is_running (an_entry e)) b l) cost es (busy (is_running (an_entry e)) c2 l2) → AllLocalsFit w.written (c2.here ∷ c2.under)) where
+    (came : (c2 : Configuration) (l2 : Left) (cost : ℕ) (es : List Note) → Leads (pr w) (busy (is_running (an_entry e)) b l) cost es (busy (is_running (an_entry e)) c2 l2) → AllLocalsFit w.written (c2.here ∷ c2.under))
+    (unwinds_so : (s2 : Store) (x2 : ℕ) (args2 : List Value) (c2 : Configuration) (l2 : Left) (cost : ℕ) (es : List Note)
+    → Leads (pr w) (busy (is_running (an_entry e)) b l) cost es (calling (unwinds e i a) s2 x2 args2 (give_zero c2) l2) → AllLocalsFit w.written (c2.here ∷ c2.under)) where
   abbrev lo : Left
   lo = with_outcomes l os
 
@@ -133,6 +135,12 @@ module _ (w : World) (ft : WorldFits w) (sl : StoreLaws w) (L : ℕ → Configur
       let lt : 0 < length (x1 ∷ note (answered a.value) (poked d.store a.pokes) ∷ []) = omega arith in
       h 0 x1 lt
 
+  -- its locals fit where it is about to unwind
+  unwound : AllLocalsFit w.written ((cd.at).here ∷ (cd.at).under)
+  unwound =
+      unwinds_so (with_words s1 w.plan.area) (xp w).start_unwind (V.I32 w.plan.area.at ∷ []) cd.at lo _ _
+      (leads_on Held Note (pr w) b0 b1 b2 cd.cost (suc cd.j + 0) [] ((y1 ∷ []) ++ []) (cd.silent).leads (moves mv stays refl refl))
+
   -- what is known of the stack
   record Standing : Type 0 where
     st : Stopped (setting w top) i ((cd.flat_at).here ∷ (cd.flat_at).under) ((cd.at).here ∷ (cd.at).under)
@@ -157,7 +165,7 @@ module _ (w : World) (ft : WorldFits w) (sl : StoreLaws w) (L : ℕ → Configur
       st = stops_law (setting w top) i _ _ cd.stack (law.numbers top i d cd.flat_at cd.waits nums)
 
       fs : FlatStands w (λ c d. c ≡ d) L W G top i d cd.flat_at ((cd.at).here ∷ (cd.at).under) st
-      fs = law.stands top i d cd.flat_at ((cd.at).here ∷ (cd.at).under) st cd.waits nums
+      fs = law.stands top i d cd.flat_at ((cd.at).here ∷ (cd.at).under) st cd.waits nums unwound
 
       lv : AreLevels (gl w) w.plan.area (setting w top) ((cd.at).here ∷ (cd.at).under) (levels_of (setting w top) w.lay st)
       lv = stopped_are_levels (gl w) w.plan.area (setting w top) w.lay i _ _ st (ft.paired top) fs.may
@@ -217,9 +225,49 @@ module _ (w : World) (ft : WorldFits w) (sl : StoreLaws w) (L : ℕ → Configur
 
   -- ---- the frames fit: paused, and answered
 
-  pause_at : (enough : suc k ≤ n) → Room w.original w.settings.policy S ≤ w.plan.area.len
-      → Rattle.headline_laws.proofs.Reductions.M w ft sl L W G law n k (x1 ∷ pause_note ticks (Room w.original w.settings.policy S) d.store S ∷ note (answered a.value) (poked d.store a.pokes) ∷ []) a0 a2 b0
-  pause_at enough fits_len =
+  abbrev x2 : Note
+  x2 = pause_note ticks (Room w.original w.settings.policy S) d.store S
+
+  abbrev x3 : Note
+  x3 = note (answered a.value) (poked d.store a.pokes)
+
+  abbrev Same : Note → Note → Type 0
+  Same = SameNote w.original w.settings w.which w.plan.area
+
+  -- the stack was suspended, and came back to where it waits in this store
+  abbrev back_at : Configuration → Store → Held
+  back_at wt s = busy (is_running (an_entry e)) (resumed wt (poked s a.pokes) (option_to_list a.value)) lo
+
+  record Returned : Type 0 where
+    pc : ℕ
+    p2 : Held
+    y2 : Note
+    b4 : Held
+    ac : ℕ
+    p4 : Held
+    y3 : Note
+    wt : Configuration
+    s5 : Store
+    to_pause : Sil w d.store b2 pc p2
+    pauses : pr w p2 ≡ goes 0 (y2 ∷ []) b4
+    same2 : Same x2 y2
+    to_answer : Sil w d.store b4 ac p4
+    answers : pr w p4 ≡ goes 0 (y3 ∷ []) (back_at wt s5)
+    same3 : Same x3 y3
+    seen : Sm w (poked d.store a.pokes) (poked s5 a.pokes)
+    like : Alike (setting w top) d.store s5
+    new : List Activation
+    same_flat : AllSameFlat w.lay ((cd.flat_at).here ∷ (cd.flat_at).under) new
+    stopped : Stopped (setting w top) i new (wt.here ∷ wt.under)
+    un : ℕ
+    sl2 : ℕ
+    rw2 : ℕ
+    unwound_in : pc ≤ 28 + un
+    rewound_in : ac ≤ 29 + length e.args + 2 * sl2 + rw2
+    weighs : un + param_count (func_type_at w.flat top) + 2 * sl2 + rw2 ≤ sum_by (activation_bound w.original) S
+
+  returned_so : suc k ≤ n → Room w.original w.settings.policy S ≤ w.plan.area.len → Returned
+  returned_so enough fits_len =
       let z = standing enough in
       let hd = z.held in
       let zfs = z.fs in
@@ -257,9 +305,7 @@ module _ (w : World) (ft : WorldFits w) (sl : StoreLaws w) (L : ℕ → Configur
       let reb : AllCameBack (levels_of (setting w top) w.lay z.st) ((an.waits).here ∷ (an.waits).under) =
       subst (λ ws. AllCameBack ws ((an.waits).here ∷ (an.waits).under)) (sym z.are) (record { locals = an.locals; kept_same = an.kept_same; is = here_as }, subst (AllCameBack z.vs) (sym under_as) an.came_back) in
       let fa : FlatAgain (setting w top) w.lay i ((cd.flat_at).here ∷ (cd.flat_at).under) ((an.waits).here ∷ (an.waits).under) = stacks_return (setting w top) w.lay i _ _ _ z.st zfs.may reb in
-      let x2 : Note = pause_note ticks (Room w.original w.settings.policy S) d.store S in
       let y2 : Note = note (paused a.ticks (8 + total_size (z.v ∷ z.vs))) pa.store in
-      let x3 : Note = note (answered a.value) (poked d.store a.pokes) in
       let y3 : Note = answer_note a.value (poked an.store a.pokes) pa.store in
       let sus = pa.suspended in
       let arnd = pa.around in
@@ -269,33 +315,78 @@ module _ (w : World) (ft : WorldFits w) (sl : StoreLaws w) (L : ℕ → Configur
       let size4 = same4.size in
       let al3 : SameNote w.original w.settings w.which w.plan.area x3 y3 =
       record { event = refl; ends = same5; image = tt; kept = λ at q. let eq : pa.store ≡ at = some_is pa.store at q in subst (λ u. Rattle.wa_model.specs.Behaves.AreaKept ar u (poked an.store a.pokes)) eq (sl.poked_area pa.store an.store a an.lowered ft.least (subst (λ u. Rattle.wa_model.specs.Blocking.bad_poke u ar a.pokes ≡ None) size4 no_bad)) } in
-      let b5 : Held = busy (is_running (an_entry e)) (resumed an.waits (poked an.store a.pokes) (option_to_list a.value)) lo in
-      let r3 : Told w.original w.settings w.which w.written (xp w) w.plan d.store (x3 ∷ []) b4 (an.cost + 1 + 0) (y3 ∷ []) b5 =
-      told [] x3 q2 an.tells (al3, tt) (no_more (silent_none w.original w.settings w.which w.written (xp w) w.plan (poked d.store a.pokes) b5 same5)) refl refl refl in
-      let r2 : Told w.original w.settings w.which w.written (xp w) w.plan d.store (x2 ∷ x3 ∷ []) b2 (pa.cost + 1 + (an.cost + 1 + 0)) (y2 ∷ y3 ∷ []) b5 = told [] x2 q1 pa.tells (al2, tt) r3 refl refl refl in
-      let r1 : Told w.original w.settings w.which w.written (xp w) w.plan c.store (x1 ∷ x2 ∷ x3 ∷ []) b0 (cd.cost + suc cd.j + (pa.cost + 1 + (an.cost + 1 + 0))) (y1 ∷ y2 ∷ y3 ∷ []) b5 = told [] x1 cd.silent mv (al1, tt) r2 refl refl refl in
-      let known : AllLocalsFit w.written ((an.waits).here ∷ (an.waits).under) = came (resumed an.waits (poked an.store a.pokes) (option_to_list a.value)) lo _ _ (told_leads w.original w.settings w.which w.written (xp w) w.plan c.store _ _ b0 b5 _ r1) in
-      let gv = anew fa.new (an.waits) an.store known fa.same fa.stopped alike4 in
-      let t3 : Told w.original w.settings w.which w.written (xp w) w.plan d.store (x3 ∷ []) b4 (an.cost + 1 + gv.cost) (y3 ∷ []) (busy (is_running (an_entry e)) gv.to lo) = told [] x3 q2 an.tells (al3, tt) (no_more gv.silent) refl refl refl in
-      let t2 : Told w.original w.settings w.which w.written (xp w) w.plan d.store (x2 ∷ x3 ∷ []) b2 (pa.cost + 1 + (an.cost + 1 + gv.cost)) (y2 ∷ y3 ∷ []) (busy (is_running (an_entry e)) gv.to lo) = told [] x2 q1 pa.tells (al2, tt) t3 refl refl refl in
-      let t1 : Told w.original w.settings w.which w.written (xp w) w.plan c.store (x1 ∷ x2 ∷ x3 ∷ []) b0 (cd.cost + suc cd.j + (pa.cost + 1 + (an.cost + 1 + gv.cost))) (y1 ∷ y2 ∷ y3 ∷ []) (busy (is_running (an_entry e)) gv.to lo) = told [] x1 cd.silent mv (al1, tt) t2 refl refl refl in
-      let w1 = cd.few in let w2 = pa.within in let w3 = an.within in let w4 = gv.few in
-      let w5 = weigh_all w.original (param_count (func_type_at w.flat top)) z.v z.vs S z.weigh in
-      let w6 = is_top.2 in
+      record {
+        pc = pa.cost;
+        p2 = pa.at;
+        y2 = y2;
+        b4 = b4;
+        ac = an.cost;
+        p4 = an.at;
+        y3 = y3;
+        wt = an.waits;
+        s5 = an.store;
+        to_pause = q1;
+        pauses = pa.tells;
+        same2 = al2;
+        to_answer = q2;
+        answers = an.tells;
+        same3 = al3;
+        seen = same5;
+        like = alike4;
+        new = fa.new;
+        same_flat = fa.same;
+        stopped = fa.stopped;
+        un = unwinding_all z.v z.vs;
+        sl2 = length (z.v).site.slots;
+        rw2 = rewinding_all z.v z.vs;
+        unwound_in = pa.within;
+        rewound_in = an.within;
+        weighs = weigh_all w.original (param_count (func_type_at w.flat top)) z.v z.vs S z.weigh;
+      }
+
+  -- all three notes are told on the way from the call to behind the answer
+  three : (r : Returned) (to : Held) (gc : ℕ) → Sil w (poked d.store a.pokes) (back_at r.wt r.s5) gc to
+      → Told w.original w.settings w.which w.written (xp w) w.plan c.store (x1 ∷ x2 ∷ x3 ∷ []) b0 (cd.cost + suc cd.j + (r.pc + 1 + (r.ac + 1 + gc))) (y1 ∷ r.y2 ∷ r.y3 ∷ []) to
+  three r to gc q3 =
+      let t3 : Told w.original w.settings w.which w.written (xp w) w.plan d.store (x3 ∷ []) r.b4 (r.ac + 1 + gc) (r.y3 ∷ []) to = told [] x3 r.to_answer r.answers (r.same3, tt) (no_more q3) refl refl refl in
+      let t2 : Told w.original w.settings w.which w.written (xp w) w.plan d.store (x2 ∷ x3 ∷ []) b2 (r.pc + 1 + (r.ac + 1 + gc)) (r.y2 ∷ r.y3 ∷ []) to = told [] x2 r.to_pause r.pauses (r.same2, tt) t3 refl refl refl in
+      told [] x1 cd.silent mv (al1, tt) t2 refl refl refl
+
+  -- where it came back its locals fit
+  known_there : (r : Returned) → AllLocalsFit w.written ((r.wt).here ∷ (r.wt).under)
+  known_there r =
+      let t = three r (back_at r.wt r.s5) 0 (silent_none w.original w.settings w.which w.written (xp w) w.plan (poked d.store a.pokes) (back_at r.wt r.s5) r.seen) in
+      came (resumed r.wt (poked r.s5 a.pokes) (option_to_list a.value)) lo (cd.cost + suc cd.j + (r.pc + 1 + (r.ac + 1 + 0))) (y1 ∷ r.y2 ∷ r.y3 ∷ [])
+      (told_leads w.original w.settings w.which w.written (xp w) w.plan c.store (x1 ∷ x2 ∷ x3 ∷ []) (y1 ∷ r.y2 ∷ r.y3 ∷ []) b0 (back_at r.wt r.s5) (cd.cost + suc cd.j + (r.pc + 1 + (r.ac + 1 + 0))) t)
+
+  -- the answer is given to a stack that came back: the flat one is chosen anew
+  anew : (enough : suc k ≤ n) → (new : List Activation) (wt : Configuration) (s : Store) → AllLocalsFit w.written (wt.here ∷ wt.under) → AllSameFlat w.lay ((cd.flat_at).here ∷ (cd.flat_at).under) new → Stopped (setting w top) i new (wt.here ∷ wt.under) → Alike (setting w top) d.store s
+      → Given_on w ft sl L W G law n top (an_entry e) c b l is_top lk lf al k i args d is cd lo (poked d.store a.pokes) (resumed d (poked d.store a.pokes) (option_to_list a.value)) (resumed wt (poked s a.pokes) (option_to_list a.value))
+  anew enough [] wt s fit same st like = absurd same
+  anew enough (f2 ∷ us2) wt s fit same st like =
+      let ag = law.again top i d cd.flat_at f2 us2 cd.waits (numbered_now enough) same (wt.here ∷ wt.under) st fit in
+      let wt2 = subst (λ q. W top i q (record { store = (cd.flat_at).store; here = f2; under = us2 })) (sym ag.live) ag.waits in
+      give w ft sl L W G law n top (an_entry e) c b l is_top lk lf al k i args d is cd lo a (record { store = (cd.flat_at).store; here = f2; under = us2 }) (record { store = s; here = wt.here; under = wt.under }) wt2 like
+      (waits_law (setting w top) i _ _ st) (answer_fits w ft sl L W G law n top (an_entry e) c b l is_top lk lf al k i args d is cd a os eo) ef
+
+  abbrev Given : Configuration → Store → Type 0
+  Given wt s = Given_on w ft sl L W G law n top (an_entry e) c b l is_top lk lf al k i args d is cd lo (poked d.store a.pokes) (resumed d (poked d.store a.pokes) (option_to_list a.value)) (resumed wt (poked s a.pokes) (option_to_list a.value))
+
+  matched : (r : Returned) → Given r.wt r.s5 → Rattle.headline_laws.proofs.Reductions.M w ft sl L W G law n k (x1 ∷ x2 ∷ x3 ∷ []) a0 a2 b0
+  unfolding three
+  matched r gv =
+      let to : Held = busy (is_running (an_entry e)) gv.to lo in
       let dear : dear_of w.original (x1 ∷ x2 ∷ x3 ∷ []) ≡ 256 + sum_by (activation_bound w.original) S + dear_of w.original (x2 ∷ x3 ∷ []) = dear_cons w.original x1 (x2 ∷ x3 ∷ []) in
-      by_told w.original w.settings w.which w.written (xp w) w.plan (nn w) (R w ft sl L W G law) n k (cd.cost + suc cd.j + (pa.cost + 1 + (an.cost + 1 + gv.cost))) (x1 ∷ x2 ∷ x3 ∷ []) (y1 ∷ y2 ∷ y3 ∷ []) a0 a2 b0 (busy (is_running (an_entry e)) gv.to lo) t1 cd.least (paid_enough (cd.cost + suc cd.j) k (pa.cost + 1 + (an.cost + 1 + gv.cost)) cd.least)
-      (pause_bound (cd.cost + suc cd.j) k pa.cost an.cost gv.cost (unwinding_all z.v z.vs) (length e.args) (length (z.v).site.slots) (rewinding_all z.v z.vs) (sum_by (activation_bound w.original) S) (dear_of w.original (x1 ∷ x2 ∷ x3 ∷ [])) (dear_of w.original (x2 ∷ x3 ∷ [])) (param_count (func_type_at w.flat top)) w1 w2 w3 w4 w5 w6 dear)
+      by_told w.original w.settings w.which w.written (xp w) w.plan (nn w) (R w ft sl L W G law) n k (cd.cost + suc cd.j + (r.pc + 1 + (r.ac + 1 + gv.cost))) (x1 ∷ x2 ∷ x3 ∷ []) (y1 ∷ r.y2 ∷ r.y3 ∷ []) a0 a2 b0 to
+      (three r to gv.cost gv.silent) cd.least (paid_enough (cd.cost + suc cd.j) k (r.pc + 1 + (r.ac + 1 + gv.cost)) cd.least)
+      (pause_bound (cd.cost + suc cd.j) k r.pc r.ac gv.cost r.un (length e.args) r.sl2 r.rw2 (sum_by (activation_bound w.original) S) (dear_of w.original (x1 ∷ x2 ∷ x3 ∷ [])) (dear_of w.original (x2 ∷ x3 ∷ []))
+      (param_count (func_type_at w.flat top)) cd.few r.unwound_in r.rewound_in gv.few r.weighs is_top.2 dear)
       (r_runs top is_top gv.link (left_fits w ft sl L W G law n top (an_entry e) c b l is_top lk lf al k i args d is cd a os eo) (allowed_on w n k _ a0 a2 was al))
-    where
-      -- the answer is given to a stack that came back: the flat one is chosen anew
-      anew : (new : List Activation) (wt : Configuration) (s : Store) → AllLocalsFit w.written (wt.here ∷ wt.under) → AllSameFlat w.lay ((cd.flat_at).here ∷ (cd.flat_at).under) new → Stopped (setting w top) i new (wt.here ∷ wt.under) → Alike (setting w top) d.store s
-          → Given_on w ft sl L W G law n top (an_entry e) c b l is_top lk lf al k i args d is cd lo (poked d.store a.pokes) (resumed d (poked d.store a.pokes) (option_to_list a.value)) (resumed wt (poked s a.pokes) (option_to_list a.value))
-      anew [] wt s fit same st like = absurd same
-      anew (f2 ∷ us2) wt s fit same st like =
-          let ag = law.again top i d cd.flat_at f2 us2 cd.waits (numbered_now enough) same (wt.here ∷ wt.under) st fit in
-          let wt2 = subst (λ q. W top i q (record { store = (cd.flat_at).store; here = f2; under = us2 })) (sym ag.live) ag.waits in
-          give w ft sl L W G law n top (an_entry e) c b l is_top lk lf al k i args d is cd lo a (record { store = (cd.flat_at).store; here = f2; under = us2 }) (record { store = s; here = wt.here; under = wt.under }) wt2 like
-          (waits_law (setting w top) i _ _ st) (answer_fits w ft sl L W G law n top (an_entry e) c b l is_top lk lf al k i args d is cd a os eo) ef
+
+  pause_at : suc k ≤ n → Room w.original w.settings.policy S ≤ w.plan.area.len → Rattle.headline_laws.proofs.Reductions.M w ft sl L W G law n k (x1 ∷ x2 ∷ x3 ∷ []) a0 a2 b0
+  pause_at enough fits_len =
+      let r = returned_so enough fits_len in
+      matched r (anew enough r.new r.wt r.s5 (known_there r) r.same_flat r.stopped r.like)
 
   -- both, by the room
   pub pausing : Owes w ft sl L W G law n a0 b0 (sh w (tested (base w) k i args (inside (an_entry e) d) lo a None))

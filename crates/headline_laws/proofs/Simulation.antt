@@ -24,7 +24,7 @@ use Rattle.wa_model.specs.Configuration.{Configuration}
 use Rattle.wa_model.specs.Machine.{Leads, Ran, Turn, goes, run, stays, stops}
 use Rattle.wa_model.specs.Outside.{Answer, answered, ended}
 use Rattle.wa_model.specs.Plan.{AreLawful, Entry, EntryFits, Outcome, OutcomeFits, Plan, given, refused}
-use Rattle.wa_model.specs.Protocol.{Held, busy, busy_enters, free, held_asked, held_ends, held_given, held_next, held_on, held_start, held_tested, is_running, over, starting, store_held}
+use Rattle.wa_model.specs.Protocol.{Held, busy, busy_enters, calling, give_zero, unwinds, free, held_asked, held_ends, held_given, held_next, held_on, held_start, held_tested, is_running, over, starting, store_held}
 use Rattle.wa_model.specs.Step.{Next, asks, entered, returns, step, steps, stuck, traps}
 use Rattle.wa_model.specs.Store.{Store}
 use Rattle.wa_model.specs.declared.events.End.{End}
@@ -76,7 +76,8 @@ module _ (w : World) (ft : WorldFits w) (sl : StoreLaws w) (L : ℕ → Configur
       let cd = to_call w ft sl L W G law n top (an_entry e) c b l is_top lk lf al k i args d fs in
       asks_case w ft sl L W G law n top (an_entry e) c b l is_top lk lf al k i args d is cd
       (λ a os ticks eo ef et. pausing w ft sl L W G law n top e c b l is_top lk lf al k i args d is cd a os ticks eo ef et
-          (λ c2 l2 cost es lds. wl.locals (an_entry e) c2 l2 (known_on (busy (is_running (an_entry e)) b l) (busy (is_running (an_entry e)) c2 l2) cost es kn lds)))
+      (λ c2 l2 cost es lds. wl.locals (an_entry e) c2 l2 (known_on (busy (is_running (an_entry e)) b l) (busy (is_running (an_entry e)) c2 l2) cost es kn lds))
+      (λ s2 x2 args2 c2 l2 cost es lds. wl.waits e i a s2 x2 args2 c2 l2 (known_on (busy (is_running (an_entry e)) b l) (calling (unwinds e i a) s2 x2 args2 (give_zero c2) l2) cost es kn lds)))
 
   runs_owes : (n top : ℕ) (task : Task) (c b : Configuration) (l : Left) → 0 < n → TopOf w task top → Link w ft sl L W G law top c b → LeftFits w l → Allowed w n (runs task c l) → Known (busy (is_running task) b l) → Ow n (runs task c l) (busy (is_running task) b l) (nn w (runs task c l))
   runs_owes n top task c b l pos is_top lk lf al kn = by_next (step (base w) c) refl (law.reduces top c lk.flat_at lk.link (al.calm 0 [] (runs task c l) stays pos))

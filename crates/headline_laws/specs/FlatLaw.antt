@@ -156,6 +156,7 @@ module _ (w : World) (Live : Configuration → Configuration → Type 0) (L : (t
     pub enters : (x : ℕ) (args : List Value) (f : Func) (s : Store) → AreLawful (func_type_at (base w) x).params args → G s → defined_at (base w) x ≡ Some f → FlatEnters x args f s
     pub poked_good : (i : ℕ) (s : Store) (start : Bool) (a : Answer) → G s → AnswerFits a → fault_of (func_type_at (base w) i).results (length s.memory) w.plan start i a ≡ None → G (poked s a.pokes)
     pub numbers : (top i : ℕ) (d f : Configuration) → W top i d f → All (StandsNumbered w.original w.settings w.which) (stack_of (base w) d) → AllNumbered (setting w top) i (f.here ∷ f.under)
-    pub stands : (top i : ℕ) (d f : Configuration) (us' : List Activation) (st : Stopped (setting w top) i (f.here ∷ f.under) us') → W top i d f → All (StandsNumbered w.original w.settings w.which) (stack_of (base w) d) → FlatStands top i d f us' st
+    pub stands : (top i : ℕ) (d f : Configuration) (us' : List Activation) (st : Stopped (setting w top) i (f.here ∷ f.under) us') → W top i d f → All (StandsNumbered w.original w.settings w.which) (stack_of (base w) d)
+        → AllLocalsFit w.written us' → FlatStands top i d f us' st
     pub again : (top i : ℕ) (d f : Configuration) (a : Activation) (us : List Activation) → W top i d f → All (StandsNumbered w.original w.settings w.which) (stack_of (base w) d)
         → AllSameFlat w.lay (f.here ∷ f.under) (a ∷ us) → (us' : List Activation) → Stopped (setting w top) i (a ∷ us) us' → AllLocalsFit w.written us' → FlatAgain top i d f a us

@@ -94,7 +94,8 @@ pub stored_step : (old mid new : List Instr) (sp : ℕ) (ps : List Place) (i : �
     → Puts old new (locals_stored sp (take (i + 1) ps))
 stored_step old mid new sp ps i d lt h k rest =
     let p : Place = get_or ps i d in
-    k rest ∙ h (plain (local_get sp) (plain (local_get p.local) (stored_value p.ty p.offset rest))) ∙ ap (onto old) (sym (stored_append sp (take i ps) p rest)) ∙ ap (λ z. onto old (locals_stored sp z rest)) (sym (take_more ps i d lt))
+    k rest ∙ h (plain (local_get sp) (plain (local_get p.local) (stored_value p.ty p.offset rest))) ∙ ap (onto old) (sym (stored_append sp (take i ps) p rest))
+    ∙ ap (λ z. onto old (locals_stored sp z rest)) (sym (take_more ps i d lt))
 
 pub stored_end : (old new : List Instr) (sp : ℕ) (ps : List Place) (i : ℕ) → length ps ≤ i → Puts old new (locals_stored sp (take i ps)) → Puts old new (locals_stored sp ps)
 stored_end old new sp ps i le h rest = h rest ∙ ap (λ z. onto old (locals_stored sp z rest)) (take_all i ps le)
@@ -109,7 +110,8 @@ pub loaded_step : (old mid new : List Instr) (sp : ℕ) (ps : List Place) (i : �
     → Puts old new (locals_loaded sp (take (i + 1) ps))
 loaded_step old mid new sp ps i d lt h k rest =
     let p : Place = get_or ps i d in
-    k rest ∙ h (plain (local_get sp) (loaded_value p.ty p.offset (plain (local_set p.local) rest))) ∙ ap (onto old) (sym (loaded_append sp (take i ps) p rest)) ∙ ap (λ z. onto old (locals_loaded sp z rest)) (sym (take_more ps i d lt))
+    k rest ∙ h (plain (local_get sp) (loaded_value p.ty p.offset (plain (local_set p.local) rest))) ∙ ap (onto old) (sym (loaded_append sp (take i ps) p rest))
+    ∙ ap (λ z. onto old (locals_loaded sp z rest)) (sym (take_more ps i d lt))
 
 pub loaded_end : (old new : List Instr) (sp : ℕ) (ps : List Place) (i : ℕ) → length ps ≤ i → Puts old new (locals_loaded sp (take i ps)) → Puts old new (locals_loaded sp ps)
 loaded_end old new sp ps i le h rest = h rest ∙ ap (λ z. onto old (locals_loaded sp z rest)) (take_all i ps le)

@@ -41,7 +41,8 @@ abbrev m : Module
 m = record {
   types = record { params = []; results = [] } ∷ record { params = []; results = I32 ∷ [] } ∷ [];
   imports = record { «module» = codes "env"; base = codes "pause"; kind = K.Func 0 } ∷ [];
-  funcs = record { sort = 1; locals = record { count = 3; ty = I32 } ∷ record { count = 1; ty = I64 } ∷ []; body = function_code 0 outer } ∷ record { sort = 0; locals = record { count = 2; ty = I32 } ∷ record { count = 1; ty = I64 } ∷ []; body = function_code 0 inner } ∷ [];
+  funcs = record { sort = 1; locals = record { count = 3; ty = I32 } ∷ record { count = 1; ty = I64 } ∷ []; body = function_code 0 outer } ∷ record
+      { sort = 0; locals = record { count = 2; ty = I32 } ∷ record { count = 1; ty = I64 } ∷ []; body = function_code 0 inner } ∷ [];
   tables = [];
   memories = [];
   globals = [];
@@ -56,7 +57,8 @@ abbrev plan : ℕ → Plan
 plan len = record { globals = []; entries = []; area = record { at = 4; len = len }; listed = None }
 
 abbrev begun : Held
-begun = busy (is_running (an_entry (record { func = 1; args = [] }))) (entered (record { globals = V.I32 0 ∷ V.I32 0 ∷ []; memory = replicate 40 9; table = [] }) [] [] 1 (record { sort = 1; locals = record { count = 3; ty = I32 } ∷ record { count = 1; ty = I64 } ∷ []; body = function_code 0 outer }))
+begun = busy (is_running (an_entry (record { func = 1; args = [] }))) (entered (record { globals = V.I32 0 ∷ V.I32 0 ∷ []; memory = replicate 40 9; table = [] }) [] [] 1
+    (record { sort = 1; locals = record { count = 3; ty = I32 } ∷ record { count = 1; ty = I64 } ∷ []; body = function_code 0 outer }))
     (record { number = 0; entries = []; outcomes = given (record { value = None; pokes = []; ticks = 5 }) ∷ [] })
 
 abbrev events : ℕ → List Event

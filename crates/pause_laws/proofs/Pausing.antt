@@ -24,7 +24,7 @@ use Rattle.frame_laws.specs.FrameMemory.{AreaAt}
 use Rattle.frame_laws.specs.Function.{function_code, site_code}
 use Rattle.frame_laws.specs.Stack.{Level, AllFit, total_size, fit_of, level_size, behind_call, outer_of, CallsTo, Chain}
 use Rattle.pause_laws.specs.Pause.{RuntimeAt, AreaReady, SameAround, SuspendedIn, at_import, PausesAt, Pauses, Overruns, TrapsThere, EntersEntry, AnswersAt, Answers}
-use Rattle.frame_laws.proofs.UnwoundStacks.{unwind_all_law, stop_all_law}
+use Rattle.frame_laws.proofs.UnwoundStacks.{fit_above, unwind_all_law, stop_all_law}
 use Rattle.frame_laws.proofs.RewoundStacks.{rewind_all_law, ask_again_law, area_lowered}
 use Rattle.pause_laws.proofs.RuntimeCalls.{stopped, started, starts, stops, tells, to_return, past_return}
 use Rattle.pause_laws.proofs.UnseenMoves.{Through, th_one, th_on, in_unwinding, in_rewinding}
@@ -82,14 +82,30 @@ module _ (g st adr : ℕ) (area : Area) where
       get_or-set_other (slice_set s.globals st (V.I32 n)) adr st (V.I32 area.at) (V.I32 0) ne2 ∙ get_or-set_same s.globals st (V.I32 n) (V.I32 0) lt
 
   area_stopped : (s : Store) (loc : ℕ) → adr ≢ st → AreaAt adr area s loc → AreaAt adr area (stopped st s) loc
-  area_stopped s loc ne ar = record { address = get_or-set_other s.globals st adr (V.I32 0) (V.I32 0) ne ∙ ar.address; location = ar.location; limit = ar.limit; low = ar.low; high = ar.high; inside = ar.inside; small = ar.small }
+  area_stopped s loc ne ar = record {
+    address = get_or-set_other s.globals st adr (V.I32 0) (V.I32 0) ne ∙ ar.address;
+    location = ar.location;
+    limit = ar.limit;
+    low = ar.low;
+    high = ar.high;
+    inside = ar.inside;
+    small = ar.small;
+  }
 
   area_started : (s : Store) (n loc : ℕ) → adr < length s.globals → HoldsBytes s.memory area.at (word loc) → HoldsBytes s.memory (area.at + 4) (word (area.at + area.len))
       → area.at + 8 ≤ loc → loc ≤ area.at + area.len → area.at + area.len ≤ length s.memory → length s.memory < 2 ^ 32
       → AreaAt adr area (started st adr n area.at s) loc
   area_started s n loc lt h1 h2 low high inside small =
       let k1 = length-set s.globals st (V.I32 n) in
-      record { address = get_or-set_same (slice_set s.globals st (V.I32 n)) adr (V.I32 area.at) (V.I32 0) (omega arith); location = h1; limit = h2; low = low; high = high; inside = inside; small = small }
+      record {
+        address = get_or-set_same (slice_set s.globals st (V.I32 n)) adr (V.I32 area.at) (V.I32 0) (omega arith);
+        location = h1;
+        limit = h2;
+        low = low;
+        high = high;
+        inside = inside;
+        small = small;
+      }
 
   -- the memory alone changed in between
   around : (s s1 : Store) (n : ℕ) (mem : List ℕ) → AreaReady g st adr area s → s1 ≡ started st adr n area.at (with_memory s mem) → (after : List ℕ)
@@ -122,12 +138,39 @@ module _ (g st adr : ℕ) (p : Module) (x : Exports) (plan : Plan) where
 
   -- up to where the entry runs on, unwinding
   to_unwind : (e : Entry) (i : ℕ) (a : Answer) (l : Left) (s : Store) (v : Level) (vs : List Level) → RuntimeAt p x st adr → AreaReady g st adr plan.area s
-      → (n : ℕ) × T (calling (unwinds e i a) (with_words s plan.area) x.start_unwind (V.I32 plan.area.at ∷ []) (give_zero (at_import s v vs)) l) n (busy (unwinds e i a) (behind_call (begun g st adr plan.area s) v (zeros_of p i ++ v.ops) vs) l) × (n ≤ 14)
+      → (n : ℕ) × T (calling (unwinds e i a) (with_words s plan.area) x.start_unwind (V.I32 plan.area.at ∷ []) (give_zero (at_import s v vs)) l) n
+      (busy (unwinds e i a) (behind_call (begun g st adr plan.area s) v (zeros_of p i ++ v.ops) vs) l) × (n ≤ 14)
   to_unwind e i a l s v vs run r =
       let area = plan.area in
       let runs = starts g area p x.start_unwind st adr 1 (area.at + 8) run.sort (with_words s area) r.state_above r.address_above (area_begun g st adr area s r) in
-      let w = runs.within in
-      (suc 1 + runs.cost + 1, past_return g area p x plan (unwinds e i a) (give_zero (at_import s v vs)) l (with_words s area) (begun g st adr area s) x.start_unwind 11 (V.I32 area.at ∷ []) (take (result_count p x.start_unwind) []) (runtime_func run.sort (start_code 1 st adr)) (busy (unwinds e i a) (behind_call (begun g st adr area s) v (zeros_of p i ++ v.ops) vs) l) run.start_unwind runs refl, omega arith)
+      let w = runs.within in (
+        suc 1 + runs.cost + 1,
+        past_return g area p x plan (unwinds e i a) (give_zero (at_import s v vs)) l (with_words s area) (begun g st adr area s) x.start_unwind 11
+            (V.I32 area.at ∷ []) (take (result_count p x.start_unwind) []) (runtime_func run.sort (start_code 1 st adr))
+            (busy (unwinds e i a) (behind_call (begun g st adr area s) v (zeros_of p i ++ v.ops) vs) l) run.start_unwind runs refl,
+        omega arith,
+      )
+
+  words_size : (s : Store) → 8 ≤ plan.area.len → plan.area.at + plan.area.len ≤ length s.memory → length (with_words s plan.area).memory ≡ length s.memory
+  words_size s least inside =
+      let at = plan.area.at in
+      let w1 = word (at + 8) in
+      let n1 : length (overwritten s.memory at w1) ≡ length s.memory = length-overwritten s.memory at w1 (omega arith) in
+      length-overwritten (overwritten s.memory at w1) (at + 4) (word (at + plan.area.len)) (omega arith) ∙ n1
+
+  -- behind its two words the memory is as before
+  words_outside : (s : Store) (b w : ℕ) → 8 ≤ plan.area.len → plan.area.at + plan.area.len ≤ length s.memory → (b + w ≤ plan.area.at) ⊎ (plan.area.at + 8 ≤ b)
+      → bytes_at (with_words s plan.area).memory b w ≡ bytes_at s.memory b w
+  words_outside s b w least inside h =
+      let at = plan.area.at in
+      let w1 = word (at + 8) in
+      let w2 = word (at + plan.area.len) in
+      let m1 = overwritten s.memory at w1 in
+      let n1 : length m1 ≡ length s.memory = length-overwritten s.memory at w1 (omega arith) in
+      ⊎_elim
+      (λ lo. bytes_at-overwritten_below m1 (at + 4) w2 b w (omega arith) (omega arith) ∙ bytes_at-overwritten_below s.memory at w1 b w lo (omega arith))
+      (λ hi. bytes_at-overwritten_behind m1 (at + 4) w2 b w (omega arith) (omega arith) ∙ bytes_at-overwritten_behind s.memory at w1 b w (omega arith) (omega arith))
+      h
 
   pub pauses : (e : Entry) (i : ℕ) (a : Answer) (l : Left) (s : Store) (v : Level) (vs : List Level) → RuntimeAt p x st adr → AreaReady g st adr plan.area s
       → AllFit g plan.area p st adr (v ∷ vs) → 8 + total_size (v ∷ vs) ≤ plan.area.len → PausesAt g st adr p x plan e i a l s v vs
@@ -142,7 +185,8 @@ module _ (g st adr : ℕ) (p : Module) (x : Exports) (plan : Plan) where
       let u = unwind_all_law g area p st 0 adr v vs s1 (zeros_of p i ++ v.ops) (area.at + 8) fit (state_started g st adr area (with_words s area) 1 r.apart r.state_there) ar1 (omega arith) in
       let uw = u.goes.within in
       let s2 = with_memory s1 u.after in
-      let n1 : length s1.memory ≡ length s.memory = length-overwritten (overwritten s.memory area.at (word (area.at + 8))) (area.at + 4) (word (area.at + area.len)) (let z = length-overwritten s.memory area.at (word (area.at + 8)) (omega arith) in omega arith) ∙ length-overwritten s.memory area.at (word (area.at + 8)) (omega arith) in
+      let n1 : length s1.memory ≡ length s.memory = length-overwritten (overwritten s.memory area.at (word (area.at + 8))) (area.at + 4) (word (area.at + area.len))
+      (let z = length-overwritten s.memory area.at (word (area.at + 8)) (omega arith) in omega arith) ∙ length-overwritten s.memory area.at (word (area.at + 8)) (omega arith) in
       let n2 = u.others.size in
       let ar2 : AreaAt adr area s2 (area.at + 8 + total_size (v ∷ vs)) = record {
         address = ar1.address;
@@ -156,7 +200,8 @@ module _ (g st adr : ℕ) (p : Module) (x : Exports) (plan : Plan) where
       let t2 = in_unwinding g area p x plan e i a l here u.end u.goes.cost u.goes.goes in
       let t3 = th_one g area p x plan 0 (busy ph u.end l) (calling ph s2 x.get_state [] test_unwound l) u.may (ap (busy_step p x plan ph l) u.ends) in
       let told = tells g area p x.get_state st 1 run.state_sort s2 (state_started g st adr area (with_words s area) 1 r.apart r.state_there) run.tells in
-      let t4 = past_return g area p x plan ph test_unwound l s2 s2 x.get_state 1 [] (V.I32 1 ∷ []) (runtime_func run.state_sort (state_code st)) (calling ph s2 x.stop_unwind [] pause_there l) run.get_state told refl in
+      let t4 = past_return g area p x plan ph test_unwound l s2 s2 x.get_state 1 [] (V.I32 1 ∷ []) (runtime_func run.state_sort (state_code st))
+      (calling ph s2 x.stop_unwind [] pause_there l) run.get_state told refl in
       let tw = told.within in
       let s3 = stopped st s2 in
       let ar3 = area_stopped g st adr area s2 (area.at + 8 + total_size (v ∷ vs)) r.apart ar2 in
@@ -165,7 +210,8 @@ module _ (g st adr : ℕ) (p : Module) (x : Exports) (plan : Plan) where
       let t5 = to_return g area p x plan ph pause_there l s2 s3 x.stop_unwind 9 [] (take (result_count p x.stop_unwind) []) (runtime_func run.stop_sort (stop_code st adr)) run.stop_unwind halt in
       let z : area.at + 8 + total_size (v ∷ vs) ≡ area.at + (8 + total_size (v ∷ vs)) = omega arith in
       let used : used_of s3 area ≡ 8 + total_size (v ∷ vs) = used_is s3 area (8 + total_size (v ∷ vs)) (subst (λ k. HoldsBytes u.after area.at (word k)) z u.location) (omega arith) in
-      let whole = th_on g area p x plan t1.0 _ _ _ _ t1.1 (th_on g area p x plan u.goes.cost _ _ _ _ t2 (th_on g area p x plan 1 _ _ _ _ t3 (th_on g area p x plan (suc 0 + told.cost + 1) _ _ _ _ t4 t5))) in
+      let whole = th_on g area p x plan t1.0 _ _ _ _ t1.1 (th_on g area p x plan u.goes.cost _ _ _ _ t2
+      (th_on g area p x plan 1 _ _ _ _ t3 (th_on g area p x plan (suc 0 + told.cost + 1) _ _ _ _ t4 t5))) in
       let few = t1.2 in
       record {
         cost = t1.0 + (u.goes.cost + (1 + (suc 0 + told.cost + 1 + (suc 0 + halt.cost))));
@@ -173,26 +219,14 @@ module _ (g st adr : ℕ) (p : Module) (x : Exports) (plan : Plan) where
         at = aside ph halt.end pause_there l;
         before = whole.by;
         store = s3;
-        tells = ap (aside_step p x plan ph pause_there l) halt.returns_there ∙ ap (λ k. goes 0 (note (paused a.ticks k) s3 ∷ []) (calling (rewinds e i a s3) s3 x.start_rewind (V.I32 area.at ∷ []) call_again l)) used;
+        tells = ap (aside_step p x plan ph pause_there l) halt.returns_there
+            ∙ ap (λ k. goes 0 (note (paused a.ticks k) s3 ∷ []) (calling (rewinds e i a s3) s3 x.start_rewind (V.I32 area.at ∷ []) call_again l)) used;
         around = around g st adr area s s1 1 (with_words s area).memory r refl u.after (n2 ∙ n1) (λ b w h.
             let h1 : (b + w ≤ area.at) ⊎ (area.at + 4 ≤ b) = ⊎_elim (λ lo. inl lo) (λ hi. inr (omega arith)) h in
             let h2 : (b + w ≤ area.at + 8) ⊎ (area.at + 8 + total_size (v ∷ vs) ≤ b) = ⊎_elim (λ lo. inl (omega arith)) (λ hi. inr (omega arith)) h in
-            u.others.same b w h1 h2 ∙ words_outside s b w least inside h);
+            u.others.same b w h1 h2 ∙ words_outside s b w least inside (⊎_elim (λ lo. inl lo) (λ hi. inr (omega arith)) h));
         suspended = record { frames = u.frames; location = u.location; limit = ar2.limit };
       }
-    where
-      words_outside : (s : Store) (b w : ℕ) → 8 ≤ plan.area.len → plan.area.at + plan.area.len ≤ length s.memory → (b + w ≤ plan.area.at) ⊎ (plan.area.at + plan.area.len ≤ b)
-          → bytes_at (with_words s plan.area).memory b w ≡ bytes_at s.memory b w
-      words_outside s b w least inside h =
-          let at = plan.area.at in
-          let w1 = word (at + 8) in
-          let w2 = word (at + plan.area.len) in
-          let m1 = overwritten s.memory at w1 in
-          let n1 : length m1 ≡ length s.memory = length-overwritten s.memory at w1 (omega arith) in
-          ⊎_elim
-          (λ lo. bytes_at-overwritten_below m1 (at + 4) w2 b w (omega arith) (omega arith) ∙ bytes_at-overwritten_below s.memory at w1 b w lo (omega arith))
-          (λ hi. bytes_at-overwritten_behind m1 (at + 4) w2 b w (omega arith) (omega arith) ∙ bytes_at-overwritten_behind s.memory at w1 b w (omega arith) (omega arith))
-          h
 
   pub overruns : (e : Entry) (i : ℕ) (a : Answer) (l : Left) (s : Store) (v : Level) (vs : List Level) → RuntimeAt p x st adr → AreaReady g st adr plan.area s
       → AllFit g plan.area p st adr (v ∷ vs) → plan.area.len < 8 + total_size (v ∷ vs) → Overruns g p x plan e i a l s v vs
@@ -209,6 +243,7 @@ module _ (g st adr : ℕ) (p : Module) (x : Exports) (plan : Plan) where
       let t2 = in_unwinding g area p x plan e i a l here q.at q.cost q.goes in
       let s3 = with_memory s1 k.after in
       let bound = fit_below area.len 8 (v ∷ vs) least in
+      let above = fit_above area.len 8 (v ∷ vs) in
       let used : used_of s3 area ≡ fit_of area.len 8 (v ∷ vs) = used_is s3 area (fit_of area.len 8 (v ∷ vs)) k.location (omega arith) in
       let whole = th_on g area p x plan t1.0 q.cost _ _ _ t1.1 t2 in
       let few = t1.2 in
@@ -221,6 +256,13 @@ module _ (g st adr : ℕ) (p : Module) (x : Exports) (plan : Plan) where
         config = q.at;
         is = refl;
         traps_there = q.traps_there;
+        frames = k.frames;
+        location = k.location;
+        size = k.others.size ∙ (words_size s least inside);
+        others = λ b w h.
+            let h1 : (b + w ≤ area.at) ⊎ (area.at + 4 ≤ b) = ⊎_elim (λ lo. inl lo) (λ hi. inr (omega arith)) h in
+            let h2 : (b + w ≤ area.at + 8) ⊎ (area.at + 8 + (fit_of area.len 8 (v ∷ vs) - 8) ≤ b) = ⊎_elim (λ lo. inl (omega arith)) (λ hi. inr (omega arith)) h in
+            k.others.same b w h1 h2 ∙ words_outside s b w least inside (⊎_elim (λ lo. inl lo) (λ hi. inr (omega arith)) h);
         tells = ap (busy_step p x plan ph l) q.traps_there ∙ ap (λ n. goes 0 (note (ended (UnwindTrap Unreachable n area.len)) s3 ∷ []) (over s3)) used;
       }
 
@@ -237,11 +279,13 @@ module _ (g st adr : ℕ) (p : Module) (x : Exports) (plan : Plan) where
       let ar5 = area_started g st adr area s 2 top r.address_there su.location su.limit (omega arith) (omega arith) inside small in
       let begin = starts g area p x.start_rewind st adr 2 top run.sort s r.state_above r.address_above ar5 in
       let bw = begin.within in
-      let t1 = past_return g area p x plan ph call_again l s s5 x.start_rewind 11 (V.I32 area.at ∷ []) (take (result_count p x.start_rewind) []) (runtime_func run.sort (start_code 2 st adr)) (entering ph e s5 l) run.start_rewind begin refl in
+      let t1 = past_return g area p x plan ph call_again l s s5 x.start_rewind 11 (V.I32 area.at ∷ []) (take (result_count p x.start_rewind) [])
+      (runtime_func run.sort (start_code 2 st adr)) (entering ph e s5 l) run.start_rewind begin refl in
       let outer = outer_of v vs in
       let ls = e.args ++ map zero_of (declared_locals en.func.locals) in
       let entry = running s5 outer.func [] ls [] (function_code st outer.fn) [] in
-      let ls_size : length ls ≡ length outer.locals = length-append e.args (map zero_of (declared_locals en.func.locals)) ∙ ap (λ k. length e.args + k) (length-map (declared_locals en.func.locals) zero_of) ∙ en.size in
+      let ls_size : length ls ≡ length outer.locals = length-append e.args (map zero_of (declared_locals en.func.locals))
+      ∙ ap (λ k. length e.args + k) (length-map (declared_locals en.func.locals) zero_of) ∙ en.size in
       let defined : defined_at p e.func ≡ Some en.func = ap (defined_at p) en.is ∙ en.defined in
       let enters : protocol p x plan (entering ph e s5 l) ≡ goes (length e.args) [] (busy ph entry l) =
       ap (busy_enters ph e s5 l) defined
@@ -263,13 +307,17 @@ module _ (g st adr : ℕ) (p : Module) (x : Exports) (plan : Plan) where
       let t5 = th_one g area p x plan again.count (busy ph again.at l) (calling ph s6 x.get_state [] (test_rewound waits) l) again.may asked in
       let told = tells g area p x.get_state st 2 run.state_sort s6 (state_started g st adr area s 2 r.apart r.state_there) run.tells in
       let tw = told.within in
-      let t6 = past_return g area p x plan ph (test_rewound waits) l s6 s6 x.get_state 1 [] (V.I32 2 ∷ []) (runtime_func run.state_sort (state_code st)) (calling ph s6 x.stop_rewind [] (give_answer waits) l) run.get_state told refl in
+      let t6 = past_return g area p x plan ph (test_rewound waits) l s6 s6 x.get_state 1 [] (V.I32 2 ∷ []) (runtime_func run.state_sort (state_code st))
+      (calling ph s6 x.stop_rewind [] (give_answer waits) l) run.get_state told refl in
       let ar6 = area_lowered g area p adr s5 (area.at + 8) top w.after ar5 w.lowered (omega arith) (omega arith) in
       let s7 = stopped st s6 in
       let halt = stops g area p x.stop_rewind st adr (area.at + 8) run.stop_sort s6 r.state_above (area_stopped g st adr area s6 (area.at + 8) r.apart ar6) in
       let hw = halt.within in
-      let t7 = to_return g area p x plan ph (give_answer waits) l s6 s7 x.stop_rewind 9 [] (take (result_count p x.stop_rewind) []) (runtime_func run.stop_sort (stop_code st adr)) run.stop_rewind halt in
-      let whole = th_on g area p x plan (suc 1 + begin.cost + 1) _ _ _ _ t1 (th_on g area p x plan (suc (length e.args)) _ _ _ _ t2 (th_on g area p x plan w.goes.cost _ _ _ _ t3 (th_on g area p x plan again.goes.cost _ _ _ _ t4 (th_on g area p x plan (suc again.count) _ _ _ _ t5 (th_on g area p x plan (suc 0 + told.cost + 1) _ _ _ _ t6 t7))))) in
+      let t7 = to_return g area p x plan ph (give_answer waits) l s6 s7 x.stop_rewind 9 [] (take (result_count p x.stop_rewind) [])
+      (runtime_func run.stop_sort (stop_code st adr)) run.stop_rewind halt in
+      let whole = th_on g area p x plan (suc 1 + begin.cost + 1) _ _ _ _ t1
+      (th_on g area p x plan (suc (length e.args)) _ _ _ _ t2 (th_on g area p x plan w.goes.cost _ _ _ _ t3
+      (th_on g area p x plan again.goes.cost _ _ _ _ t4 (th_on g area p x plan (suc again.count) _ _ _ _ t5 (th_on g area p x plan (suc 0 + told.cost + 1) _ _ _ _ t6 t7))))) in
       let lo = w.lowered in
       record {
         cost = suc 1 + begin.cost + 1 + (suc (length e.args) + (w.goes.cost + (again.goes.cost + (suc again.count + (suc 0 + told.cost + 1 + (suc 0 + halt.cost))))));
@@ -308,4 +356,13 @@ ready_again g st adr area s t r a =
     let there2 = r.address_there in
     let inside = r.inside in
     let small = r.small in
-    record { state_above = r.state_above; address_above = r.address_above; apart = r.apart; state_there = omega arith; address_there = omega arith; least = r.least; inside = omega arith; small = omega arith }
+    record {
+      state_above = r.state_above;
+      address_above = r.address_above;
+      apart = r.apart;
+      state_there = omega arith;
+      address_there = omega arith;
+      least = r.least;
+      inside = omega arith;
+      small = omega arith;
+    }

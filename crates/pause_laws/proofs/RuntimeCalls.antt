@@ -75,7 +75,9 @@ module _ (g : ℕ) (area : Area) (p : Module) (fn : ℕ) where
       let a4 = load_value g area p fn [] s ls (V.I32 loc ∷ []) [] area.at 4 (V.I32 end) I32 c4 refl (omega arith) ar.limit (omega arith) in
       let q : nat_lt end loc ≡ false = lt_false end loc high in
       let a5 : C (running s fn [] ls (V.I32 end ∷ V.I32 loc ∷ []) c4 []) 2 (running s fn [] ls [] done (block_label 0 0 done done ∷ [])) =
-      subst (λ b. C (running s fn [] ls (V.I32 end ∷ V.I32 loc ∷ []) c4 []) 2 (choose (of_bool b) (running s fn [] ls [] (plain unreachable done) (block_label 0 0 done done ∷ [])) (running s fn [] ls [] done (block_label 0 0 done done ∷ [])))) q (walks (keeps g area) p 2 _ _ refl) in
+      subst (λ b. C (running s fn [] ls (V.I32 end ∷ V.I32 loc ∷ []) c4 []) 2
+      (choose (of_bool b) (running s fn [] ls [] (plain unreachable done) (block_label 0 0 done done ∷ [])) (running s fn [] ls [] done (block_label 0 0 done done ∷ [])))) q
+      (walks (keeps g area) p 2 _ _ refl) in
       let a6 : C (running s fn [] ls [] done (block_label 0 0 done done ∷ [])) 1 (running s fn [] ls [] done []) = walks (keeps g area) p 1 _ _ refl in
       on (keeps g area) p 1 6 _ _ _ a1 (on (keeps g area) p 1 5 _ _ _ a2 (on (keeps g area) p 1 4 _ _ _ a3 (on (keeps g area) p 1 3 _ _ _ a4 (on (keeps g area) p 2 1 _ _ _ a5 a6))))
 
@@ -89,7 +91,8 @@ module _ (g : ℕ) (area : Area) (p : Module) (fn : ℕ) where
       let b1 : C (running s fn [] ls [] (start_code n st adr) []) 1 (running s fn [] ls (V.I32 n ∷ []) (plain (basic (global_set st)) c2) []) = walks (keeps g area) p 1 _ _ refl in
       let b2 : C (running s fn [] ls (V.I32 n ∷ []) (plain (basic (global_set st)) c2) []) 1 (running s1 fn [] ls [] c2 []) = set_global s ls [] st (V.I32 n) c2 le in
       let b3 : C (running s1 fn [] ls [] c2 []) 1 (running s1 fn [] ls (V.I32 area.at ∷ []) (plain (basic (global_set adr)) (test_code adr)) []) = walks (keeps g area) p 1 _ _ refl in
-      let b4 : C (running s1 fn [] ls (V.I32 area.at ∷ []) (plain (basic (global_set adr)) (test_code adr)) []) 1 (running s2 fn [] ls [] (test_code adr) []) = set_global s1 ls [] adr (V.I32 area.at) (test_code adr) le2 in
+      let b4 : C (running s1 fn [] ls (V.I32 area.at ∷ []) (plain (basic (global_set adr)) (test_code adr)) []) 1 (running s2 fn [] ls [] (test_code adr) []) = set_global s1 ls [] adr
+      (V.I32 area.at) (test_code adr) le2 in
       let b5 = tests adr loc s2 ls ar in
       record {
         cost = 11;
@@ -107,11 +110,25 @@ module _ (g : ℕ) (area : Area) (p : Module) (fn : ℕ) where
       let b1 : C (running s fn [] [] [] (stop_code st adr) []) 1 (running s fn [] [] (V.I32 0 ∷ []) (plain (basic (global_set st)) c2) []) = walks (keeps g area) p 1 _ _ refl in
       let b2 : C (running s fn [] [] (V.I32 0 ∷ []) (plain (basic (global_set st)) c2) []) 1 (running (stopped st s) fn [] [] [] c2 []) = set_global s [] [] st (V.I32 0) c2 le in
       let b5 = tests adr loc (stopped st s) [] ar in
-      record { cost = 9; within = omega arith; end = running (stopped st s) fn [] [] [] done []; goes = (on (keeps g area) p 1 8 _ _ _ b1 (on (keeps g area) p 1 7 _ _ _ b2 b5)).by; may = refl; returns_there = refl }
+      record {
+        cost = 9;
+        within = omega arith;
+        end = running (stopped st s) fn [] [] [] done [];
+        goes = (on (keeps g area) p 1 8 _ _ _ b1 (on (keeps g area) p 1 7 _ _ _ b2 b5)).by;
+        may = refl;
+        returns_there = refl;
+      }
 
   pub tells : (st n sort : ℕ) (s : Store) → value_at s.globals st ≡ V.I32 n → result_count p fn ≡ 1 → Runs g area p s fn [] (runtime_func sort (state_code st)) 1 (V.I32 n ∷ []) s
   tells st n sort s e one_result =
-      record { cost = 1; within = omega arith; end = running s fn [] [] (V.I32 n ∷ []) done []; goes = (get_global s [] [] st (V.I32 n) done e).by; may = refl; returns_there = ap (λ k. returns 0 (take k (V.I32 n ∷ [])) s) one_result }
+      record {
+        cost = 1;
+        within = omega arith;
+        end = running s fn [] [] (V.I32 n ∷ []) done [];
+        goes = (get_global s [] [] st (V.I32 n) done e).by;
+        may = refl;
+        returns_there = ap (λ k. returns 0 (take k (V.I32 n ∷ [])) s) one_result;
+      }
 
 -- under the protocol: up to its return
 module _ (g : ℕ) (area : Area) (p : Module) (x : Exports) (plan : Plan) where
@@ -126,4 +143,5 @@ module _ (g : ℕ) (area : Area) (p : Module) (x : Exports) (plan : Plan) where
       → (r : Runs g area p s f args func bound values t)
       → aside_step p x plan ph th l (returns 0 values t) ≡ goes 0 [] b → Through g area p x plan (calling ph s f args th l) (suc (length args) + r.cost + 1) b
   past_return ph th l s t f bound args values func b def r next =
-      th_on g area p x plan (suc (length args) + r.cost) 1 _ _ _ (to_return ph th l s t f bound args values func def r) (th_one g area p x plan 0 (aside ph r.end th l) b r.may (ap (aside_step p x plan ph th l) r.returns_there ∙ next))
+      th_on g area p x plan (suc (length args) + r.cost) 1 _ _ _ (to_return ph th l s t f bound args values func def r)
+      (th_one g area p x plan 0 (aside ph r.end th l) b r.may (ap (aside_step p x plan ph th l) r.returns_there ∙ next))

@@ -136,8 +136,11 @@ module _ (g : ℕ) (area : Area) (p : Module) (x : Exports) (plan : Plan) where
       let z : j ≡ suc (k + (j - suc k)) = omega arith in
       let once : run (protocol p x plan) j a
       ≡ after [] (run (protocol p x plan) (j - suc k) t) = ap (λ i. run (protocol p x plan) i a) z ∙ one_move Held Note (protocol p x plan) k (j - suc k) [] a t mv in
-      let ih = inside t b n1 fs rest e2 (j - suc k) (omega arith) in
-      (ap (λ r. r.events) once ∙ ih.0, subst (λ (r : Ran Held Note). Same (store_held a) (store_held r.last)) (sym once) (same_on g area (store_held a) (store_held t) (store_held (run (protocol p x plan) (j - suc k) t).last) same ih.1)))
+      let ih = inside t b n1 fs rest e2 (j - suc k) (omega arith) in (
+        ap (λ r. r.events) once ∙ ih.0,
+        subst (λ (r : Ran Held Note). Same (store_held a) (store_held r.last)) (sym once)
+            (same_on g area (store_held a) (store_held t) (store_held (run (protocol p x plan) (j - suc k) t).last) same ih.1),
+      ))
       (cases_lt j (suc k))
 
   plainly : (a b : Held) (n : ℕ) (es : List Note) → Leads (watched g area p x plan) a n es b → Leads (protocol p x plan) a n es b

@@ -21,7 +21,7 @@ use Rattle.wa_model.specs.declared.answers.Area.{Area}
 use Rattle.wa_model.specs.declared.events.End.TheVariants.{UnwindTrap}
 use Rattle.frame_laws.specs.FrameMemory.{Lowered}
 use Rattle.frame_laws.specs.Function.{function_code}
-use Rattle.frame_laws.specs.Stack.{Level, activation_of, AllFit, total_size, HoldsStack, unwinding_all, outer_of, fit_of, CallsTo, Chain, SameKept, AllCameBack, rewinding_all}
+use Rattle.frame_laws.specs.Stack.{Level, activation_of, AllFit, total_size, HoldsStack, unwinding_all, outer_of, fit_of, fitting, CallsTo, Chain, SameKept, AllCameBack, rewinding_all}
 use Rattle.pause_laws.specs.UnseenMoves.{GoesUnseen}
 
 -- The five exports of a module are those of the runtime.
@@ -89,7 +89,8 @@ Pauses =
 
 -- ---- to the trap
 
--- Where the stack doesn't fit, the one move tells the trap, and how much of the area is in use.
+-- Where the stack doesn't fit, the one move tells the trap, and how much of the area is in use: the frames that fit stand there, and
+-- no other byte has changed.
 pub record Overruns (g : ℕ) (p : Module) (x : Exports) (plan : Plan) (e : Entry) (i : ℕ) (a : Answer) (l : Left) (s : Store) (v : Level) (vs : List Level) : Type 0 where
   pub cost : ℕ
   pub within : cost ≤ 14 + unwinding_all v vs
@@ -99,6 +100,10 @@ pub record Overruns (g : ℕ) (p : Module) (x : Exports) (plan : Plan) (e : Entr
   pub config : Configuration
   pub is : at ≡ busy (unwinds e i a) config l
   pub traps_there : step p config ≡ traps 0 Unreachable store
+  pub frames : HoldsStack store.memory (plan.area.at + 8) (fitting plan.area.len 8 (v ∷ vs))
+  pub location : HoldsBytes store.memory plan.area.at (word (plan.area.at + fit_of plan.area.len 8 (v ∷ vs)))
+  pub size : length store.memory ≡ length s.memory
+  pub others : (b w : ℕ) → (b + w ≤ plan.area.at) ⊎ (plan.area.at + fit_of plan.area.len 8 (v ∷ vs) ≤ b) → bytes_at store.memory b w ≡ bytes_at s.memory b w
   pub tells : protocol p x plan at ≡ goes 0 (note (ended (UnwindTrap Unreachable (fit_of plan.area.len 8 (v ∷ vs)) plan.area.len)) store ∷ []) (over store)
 
 -- Where it doesn't.

@@ -12,7 +12,7 @@ use Rattle.wa_types.specs.declared.syntax.Export.{Export}
 use Rattle.wa_types.specs.declared.syntax.Import.{Import}
 use Rattle.wa_types.specs.Syntax.{Func, Module}
 use Rattle.wa_types.specs.Modules.{imported, imported_func, func_imports, defined_at}
-use Rattle.wa_types.specs.Validity.{same_name, all_differ}
+use Rattle.wa_types.specs.Validity.{Valid, same_name, all_differ}
 use Rattle.wa_types.specs.Runtime.{func_space, global_space, runtime_funcs, runtime_exports, runtime_names, with_runtime}
 use Rattle.wa_model.specs.Protocol.{index_of, exported_as}
 use Rattle.wa_model.specs.Quiet.{FreeOfNames}
@@ -28,7 +28,7 @@ same_is (x ∷ xs) (y ∷ ys) h = let b = and_parts (x == y) (same_name xs ys) h
 abbrev NoRuntimeName : Export → Type 0
 NoRuntimeName e = Contains runtime_names e.name → ⊥
 
-none_found : (es : List Export) (name : List ℕ) → Contains runtime_names name → All NoRuntimeName es → find (λ (e : Export). same_name e.name name) es ≡ None
+pub none_found : (es : List Export) (name : List ℕ) → Contains runtime_names name → All NoRuntimeName es → find (λ (e : Export). same_name e.name name) es ≡ None
 none_found [] name c h = refl
 none_found (e ∷ es) name c h = by_name (same_name e.name name) refl (none_found es name c (All-tail NoRuntimeName e es h)) (All-head NoRuntimeName e es h)
   where
@@ -116,11 +116,18 @@ free_names first (e ∷ es) h =
         split ∙ ap (λ b. list_any (same_name e.name) (map (λ (e : Export). e.name) es) || b) there ∙ or_true (list_any (same_name e.name) (map (λ (e : Export). e.name) es)) in
         both_ways (list_any (same_name e.name) (map (λ (e : Export). e.name) (es ++ runtime_exports first))) none found
 
-pub rewritten_exported : RewrittenIsExported
-rewritten_exported m s p r =
-    let free : FreeOfNames m = free_names (func_space m) m.exports (ap (λ es. all_differ (map (λ (e : Export). e.name) es)) (sym (r.exports ∙ grown_exports m)) ∙ r.valid_rewritten.names) in
+-- a valid module with the original's exports and the runtime's
+pub exports_free : (m p : Module) → p.exports ≡ (with_runtime m).exports → Valid p → FreeOfNames m
+exports_free m p exports valid = free_names (func_space m) m.exports (ap (λ es. all_differ (map (λ (e : Export). e.name) es)) (sym (exports ∙ grown_exports m)) ∙ valid.names)
+
+-- and one that has the runtime's functions behind the original's
+pub parts_exported : (m p : Module) → p.imports ≡ m.imports → p.exports ≡ (with_runtime m).exports → drop (length m.funcs) p.funcs ≡ drop (length m.funcs) (with_runtime m).funcs → Valid p → RuntimeExported m p
+parts_exported m p imports exports runtime valid =
     let more : List Func = runtime_funcs (length m.types) (global_space m) (global_space m + 1) in
-    let behind : drop (length m.funcs) p.funcs ≡ more = r.runtime ∙ ap (drop (length m.funcs)) (grown_funcs m) ∙ drop-append_seam m.funcs more in
-    let same : func_imports p ≡ func_imports m = ap (λ xs. length (filter_map (λ (i : Import). imported_func i.kind) xs)) r.imports in
+    let behind : drop (length m.funcs) p.funcs ≡ more = runtime ∙ ap (drop (length m.funcs)) (grown_funcs m) ∙ drop-append_seam m.funcs more in
+    let same : func_imports p ≡ func_imports m = ap (λ xs. length (filter_map (λ (i : Import). imported_func i.kind) xs)) imports in
     let funcs : p.funcs ≡ take (length m.funcs) p.funcs ++ more = sym (take-append-drop (length m.funcs) p.funcs) ∙ ap (λ xs. take (length m.funcs) p.funcs ++ xs) behind in
-    exported m p (take (length m.funcs) p.funcs) free same (taken_length (length m.funcs) p.funcs _ _ behind) funcs (r.exports ∙ grown_exports m)
+    exported m p (take (length m.funcs) p.funcs) (exports_free m p exports valid) same (taken_length (length m.funcs) p.funcs _ _ behind) funcs (exports ∙ grown_exports m)
+
+pub rewritten_exported : RewrittenIsExported
+rewritten_exported m s p r = parts_exported m p r.imports r.exports r.runtime r.valid_rewritten

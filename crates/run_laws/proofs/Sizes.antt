@@ -16,7 +16,7 @@ use Rattle.run_laws.specs.RuntimeParts.{RuntimeKeepsSizes}
 
 -- ---- parameters of calls
 
-one_more : (ts : List FuncType) (sort : ℕ) → params_of_type (ts ++ runtime_types) sort ≤ params_of_type ts sort + 1
+pub one_more : (ts : List FuncType) (sort : ℕ) → params_of_type (ts ++ runtime_types) sort ≤ params_of_type ts sort + 1
 one_more [] zero = omega arith
 one_more [] (suc zero) = omega arith
 one_more [] (suc (suc zero)) = omega arith
@@ -92,7 +92,7 @@ module _ (m : Module) where
   call_more return = omega arith
   call_more unreachable = omega arith
 
-  params_more : (k : Code) → code_params (with_runtime m) k ≤ code_params m k + code_items k
+  pub params_more : (k : Code) → code_params (with_runtime m) k ≤ code_params m k + code_items k
   unfolding code_params code_items
   params_more done = omega arith
   params_more (plain p rest) = let a = call_more p in let b = params_more rest in omega (arith, a, b)
@@ -101,7 +101,7 @@ module _ (m : Module) where
 
   -- ---- lists
 
-  lists_more : (k : Code) → code_lists (2 ^ 31) k → code_lists (2 ^ 32) k
+  pub lists_more : (k : Code) → code_lists (2 ^ 31) k → code_lists (2 ^ 32) k
   lists_more done h = tt
   lists_more (plain p rest) h = (plain_more p h.0, lists_more rest h.1)
     where
@@ -122,7 +122,7 @@ module _ (m : Module) where
 
   -- ---- functions
 
-  func_more : (f : Func) → FuncSizes (2 ^ 31) (2 ^ 31) m f → FuncSizes (2 ^ 32) (2 ^ 56) (with_runtime m) f
+  pub func_more : (f : Func) → FuncSizes (2 ^ 31) (2 ^ 31) m f → FuncSizes (2 ^ 32) (2 ^ 56) (with_runtime m) f
   func_more f h =
       let runs = h.runs in
       let total = h.total in

@@ -73,7 +73,7 @@ place_listed {X} test n (y ∷ xs) (suc i) x e h =
 
 -- ---- chained stacks
 
-stack_chained : (m : Module) (table : List (Option ℕ)) (root x : ℕ) (stack : List Activation) → CallersAt m table root x stack → Chained m table root x (map (suspended m) stack)
+pub stack_chained : (m : Module) (table : List (Option ℕ)) (root x : ℕ) (stack : List Activation) → CallersAt m table root x stack → Chained m table root x (map (suspended m) stack)
 stack_chained m table root x [] h = h
 stack_chained m table root x (a ∷ stack) h =
     let w = h.2 in

@@ -1,4 +1,6 @@
-use Rattle.std.proofs.Common.{sym, subst, ap, ◌∙◌}
+use Rattle.guard_form.specs.Bounds.{reads, reads_bound}
+use Rattle.guard_form.proofs.UnitCounts.{guarded_reads}
+use Rattle.std.proofs.Common.{◌≤◌, sym, subst, ap, ◌∙◌}
 use Rattle.wa_types.specs.View.{code}
 use Rattle.wa_model.specs.FlatView.{flat_func_of, stmts}
 use Rattle.guard_form.specs.Guarded.{guarded_code}
@@ -18,5 +20,11 @@ pub returns-clause-body : goal.returns-clause-body
 returns-clause-body c =
     let g : Guards = record { alloc = c.args.alloc; numbers = c.in_ok-from_slice.field-0; state = c.args.state; index = c.len.result } in
     let f = flat_func_of c.args.func.now in
-    whole_is g f c.in_ok-part.part (code c.in_ok-body.body.items) (c.len.ensures ∙ c.args.func.now.locals.ok.0) (subst (λ xs. IsPart (indices g) g.numbers.items 0 0 0 (stmts xs) c.in_ok-part.part) c.deref.ensures.value c.in_ok-part.ensures) c.in_ok-body.ensures
+    whole_is g f c.in_ok-part.part (code c.in_ok-body.body.items) (c.len.ensures ∙ c.args.func.now.locals.ok.0)
+    (subst (λ xs. IsPart (indices g) g.numbers.items 0 0 0 (stmts xs) c.in_ok-part.part) c.deref.ensures.value c.in_ok-part.ensures) c.in_ok-body.ensures
     ∙ ap (λ xs. guarded_code c.args.state xs f) c.in_ok-from_slice.ensures.items
+
+pub returns-clause-reads : goal.returns-clause-reads
+returns-clause-reads c none =
+    let f = flat_func_of c.args.func.now in
+    subst (λ x. reads c.args.state x ≤ reads_bound c.args.numbers.now f.body) (sym (returns-clause-body c)) (guarded_reads c.args.state c.args.numbers.now f none)

@@ -2,7 +2,7 @@ use Rattle.std.proofs.Common.{ap, sym, ◌∙◌}
 use Rattle.wa_types.specs.View.{onto, code}
 use Rattle.guard_form.specs.Guarded.{guarded}
 use Rattle.flow_rewrite.specs.Emitting.{indices}
-use Rattle.flow_rewrite.proofs.StmtLemmas.{if_true}
+use Rattle.flat_pieces.proofs.StmtLemmas.{if_true}
 use Rattle.flow_rewrite.proofs.SequenceLemmas.{finished}
 use Rattle.flow_rewrite.proofs.sequence.finish.Goals as goal
 

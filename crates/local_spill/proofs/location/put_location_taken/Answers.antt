@@ -3,4 +3,6 @@ use Rattle.local_spill.proofs.location.put_location_taken.Goals as goal
 
 pub returns : goal.returns
 returns c =
-    put_on _ _ _ _ _ (put_on _ _ _ _ _ (put_on _ _ _ _ _ (put_on _ _ _ _ _ (put_on _ _ _ _ _ (put_one _ _ _ _ c.in_ok-push.ensures.items (global_is _)) (c.in_ok-put_location.ensures)) (put_one _ _ _ _ c.in_ok-push-2.ensures.items (const_is _))) (put_one _ _ _ _ c.in_ok-push-3.ensures.items (num_is _))) (put_one _ _ _ _ c.in_ok-push-4.ensures.items (tee_is _))) (put_one _ _ _ _ c.in_ok-push-5.ensures.items c.store_of.ensures)
+    put_on _ _ _ _ _ (put_on _ _ _ _ _ (put_on _ _ _ _ _ (put_on _ _ _ _ _ (put_on _ _ _ _ _ (put_one _ _ _ _ c.in_ok-push.ensures.items (global_is _)) (c.in_ok-put_location.ensures))
+    (put_one _ _ _ _ c.in_ok-push-2.ensures.items (const_is _))) (put_one _ _ _ _ c.in_ok-push-3.ensures.items (num_is _)))
+    (put_one _ _ _ _ c.in_ok-push-4.ensures.items (tee_is _))) (put_one _ _ _ _ c.in_ok-push-5.ensures.items c.store_of.ensures)

@@ -4,4 +4,5 @@ use Rattle.local_spill.proofs.spilling.unless_normal.Goals as goal
 
 pub returns : goal.returns
 returns c =
-    put_first _ _ _ c.new-out.ensures.items (put_on _ _ _ _ _ (put_one _ _ _ _ c.in_ok-push.ensures.items (global_is _)) (put_one _ _ _ _ c.in_ok-push-2.ensures.items (if_is _ _ _ _ refl (no_code _ c.new.ensures.items))))
+    put_first _ _ _ c.new-out.ensures.items (put_on _ _ _ _ _ (put_one _ _ _ _ c.in_ok-push.ensures.items (global_is _))
+    (put_one _ _ _ _ c.in_ok-push-2.ensures.items (if_is _ _ _ _ refl (no_code _ c.new.ensures.items))))

@@ -1,0 +1,2 @@
+pub mod FlatNumbers
+pub mod NumberingLemmas

@@ -1,0 +1,7 @@
+ghost use Rattle.call_numbers.specs.Numbering.{FlatNumbers};
+
+/// Where the calls of a flat function are those of a function's pruned body, in order of code, the places of its
+/// numbered calls are that function's.
+pub fn flat_numbers()
+    ensures { FlatNumbers }
+{}

@@ -1,0 +1,5 @@
+mod Lean
+mod Matching
+mod Moves
+mod Standing
+mod Whole

@@ -1,0 +1,7 @@
+//! Whole bodies in flat form, construct by construct.
+#![tactic(auto)]
+
+mod body;
+mod start;
+
+pub use start::flat_body;

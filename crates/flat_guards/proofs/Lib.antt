@@ -1,0 +1,11 @@
+pub mod Behaving
+pub mod CallSlots
+pub mod FlatSide
+pub mod KeptFields
+pub mod NumberedCalls
+pub mod NumberedStacks
+pub mod NumberedStmts
+pub mod PairedFlat
+pub mod PairedStacks
+pub mod PlaceSlots
+pub mod Staying

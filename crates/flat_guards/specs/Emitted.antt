@@ -1,0 +1,97 @@
+-- The written module of one whose functions may pause, for the policy that saves all: each function that may pause is its flat
+-- function with guards and frames, every other one stays, and the runtime's parts stand behind.
+use Rattle.std.specs.Prelude.{◌≡◌, ℕ, suc, ◌+◌, ◌<◌, ◌++◌, List, [], ◌∷◌, length, map, drop, Option, Some, None, Bool, true, false, All, Contains, slice_get, if◌then◌else◌}
+use Rattle.wa_types.specs.Base.{Base}
+use Rattle.wa_types.specs.Frames.{Place, Saved}
+use Rattle.wa_types.specs.Modules.{declared_locals, func_imports, locals_of}
+use Rattle.wa_types.specs.Pausing.{Settings, Numbered, is_told, save_all}
+use Rattle.wa_types.specs.Points.{func_call_points}
+use Rattle.wa_types.specs.Runtime.{global_space, with_runtime}
+use Rattle.wa_types.specs.Syntax.{done, Func, Module}
+use Rattle.wa_types.specs.declared.values.ValType.{ValType}
+use Rattle.wa_types.specs.declared.values.ValType.TheVariants.{I32, I64}
+use Rattle.wa_model.specs.Flat.{FlatFunc}
+use Rattle.flat_laws.specs.FlatModule.{flat_func}
+use Rattle.flat_laws.specs.Flatten.{flattened, names, slots}
+use Rattle.frame_laws.specs.Layout.{FrameField, kept, gap, Layout, save_code, restore_code}
+use Rattle.guard_form.specs.Functions.{GuardedFunc, Role, as_is, with_guards, written_code}
+use Rattle.guard_form.specs.Pieces.{first_piece, units}
+
+-- the saved locals that pass are kept, in the places of the others stand gaps
+abbrev pub fields_of : (ℕ → Bool) → List Place → List FrameField
+fields_of keep [] = []
+fields_of keep (p ∷ ps) = (if keep p.local then kept p.local p.ty else gap p.ty) ∷ fields_of keep ps
+
+module _ (m : Module) (s : Settings) (which : List Bool) (keep : (func local : ℕ) → Bool) where
+  -- the flat function of this index
+  abbrev pub flat_of : ℕ → Func → FlatFunc
+  flat_of x f = flattened (Base m) x f
+
+  -- Its frames, the same for each call: the address stands behind the state's global, the call index and the scratch local behind the
+  -- flat locals.
+  abbrev pub layout_of : ℕ → Func → Layout
+  layout_of x f = record {
+    address = suc (global_space m);
+    index = length (flat_of x f).locals;
+    scratch = suc (length (flat_of x f).locals);
+    fields = fields_of (keep x) (Saved (Base m) save_all f 0);
+  }
+
+  -- The flat function with guards around its numbered calls, and with the code of its frames.
+  abbrev pub guarded_of : ℕ → Func → GuardedFunc
+  guarded_of x f = record {
+    size = length (flat_of x f).locals;
+    restoring = restore_code (layout_of x f) done;
+    saving = save_code (layout_of x f) done;
+    result = (flat_of x f).result;
+    first = first_piece (Numbered m s which f) 0 (flat_of x f).body;
+    body = units (Numbered m s which f) 0 (flat_of x f).body;
+  }
+
+  -- the function of an index: guarded where it is told, else as it is
+  abbrev pub role_at : Bool → ℕ → Option Func → Role
+  role_at told x None = as_is 0 done
+  role_at true x (Some f) = with_guards (guarded_of x f)
+  role_at false x (Some f) = as_is (length (locals_of m f)) f.body
+
+  abbrev pub lay_at : ℕ → Option Func → Layout
+  lay_at x None = record { address = 0; index = 0; scratch = 0; fields = [] }
+  lay_at x (Some f) = layout_of x f
+
+  -- A function that is told, as it is written.
+  pub record Guarded (x : ℕ) (f g : Func) : Type 0 where
+    pub sort : g.sort ≡ f.sort
+    pub locals : declared_locals g.locals ≡ declared_locals (flat_func (Base m) x f).locals ++ I32 ∷ I32 ∷ I64 ∷ []
+    pub body : g.body ≡ written_code (global_space m) (with_guards (guarded_of x f))
+
+  -- one that isn't told
+  pub record Stays (f g : Func) : Type 0 where
+    pub sort : g.sort ≡ f.sort
+    pub locals : declared_locals g.locals ≡ declared_locals f.locals
+    pub body : g.body ≡ f.body
+
+  abbrev pub WrittenAs : Bool → ℕ → (f g : Func) → Type 0
+  WrittenAs true x f g = Guarded x f g
+  WrittenAs false x f g = Stays f g
+
+  -- Frames keep each parameter and declared local, and each slot of an operand that stands at a numbered call.
+  pub record KeepsEnough (x : ℕ) (f : Func) : Type 0 where
+    pub own : (y : ℕ) → y < length (locals_of m f) → keep x y ≡ true
+    pub stacked : (place : ℕ) (ops : List ValType) → Contains (Numbered m s which f) place → slice_get (func_call_points (Base m) f) place ≡ Some ops
+        → All (λ y. keep x y ≡ true) (slots (names (Base m) f) ops)
+
+  -- p is such a module.
+  pub record Emitted (p : Module) : Type 0 where
+    pub types : p.types ≡ (with_runtime m).types
+    pub imports : p.imports ≡ m.imports
+    pub tables : p.tables ≡ m.tables
+    pub memories : p.memories ≡ (with_runtime m).memories
+    pub globals : p.globals ≡ (with_runtime m).globals
+    pub exports : p.exports ≡ (with_runtime m).exports
+    pub start : p.start ≡ m.start
+    pub elems : p.elems ≡ m.elems
+    pub segments : p.segments ≡ m.segments
+    pub runtime : drop (length m.funcs) p.funcs ≡ drop (length m.funcs) (with_runtime m).funcs
+    pub sorts : map (λ (f : Func). f.sort) p.funcs ≡ map (λ (f : Func). f.sort) (with_runtime m).funcs
+    pub written : (j : ℕ) (f g : Func) → slice_get m.funcs j ≡ Some f → slice_get p.funcs j ≡ Some g → WrittenAs (is_told (slice_get which (func_imports m + j))) (func_imports m + j) f g
+    pub keeps : (j : ℕ) (f : Func) → slice_get m.funcs j ≡ Some f → is_told (slice_get which (func_imports m + j)) ≡ true → KeepsEnough (func_imports m + j) f

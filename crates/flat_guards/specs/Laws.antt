@@ -1,0 +1,19 @@
+-- What the emitted module owes its original.
+use Rattle.std.specs.Prelude.{◌≡◌, ℕ, List, Bool, false, slice_get}
+use Rattle.wa_types.specs.Pausing.{Settings, TellsMayPause, is_told}
+use Rattle.wa_types.specs.Sizes.{WellFormed}
+use Rattle.wa_types.specs.Syntax.{Module}
+use Rattle.wa_types.specs.Validity.{Valid}
+use Rattle.wa_model.specs.Behaves.{BehavesOn, Compared, PausesNumbered, expected_notes}
+use Rattle.wa_model.specs.Blocking.{Blocking}
+use Rattle.wa_model.specs.Plan.{Outcome, Plan}
+use Rattle.range_laws.specs.Ranges.{CodesIn}
+use Rattle.flat_guards.specs.Emitted.{Emitted}
+
+-- A module with the runtime's parts whose functions all stay behaves like its original, on runs whose pauses find numbered calls
+-- only: there are none where no function is told.
+abbrev pub StayingBehave : Type 0
+StayingBehave =
+    (m : Module) (s : Settings) (which : List Bool) (keep : (func local : ℕ) → Bool) (p : Module) → Valid m → Valid p → WellFormed m → CodesIn p → TellsMayPause m s which
+    → ((x : ℕ) → is_told (slice_get which x) ≡ false) → Emitted m s which keep p → (plan : Plan) (os : List Outcome) (n : ℕ)
+    → Compared m s plan os n → PausesNumbered m s which (Blocking m plan os n).events → BehavesOn m s p plan os n which (expected_notes m s plan os n)

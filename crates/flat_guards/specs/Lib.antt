@@ -1,0 +1,3 @@
+pub mod CoreOf
+pub mod Emitted
+pub mod Laws

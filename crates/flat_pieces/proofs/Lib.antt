@@ -1,0 +1,4 @@
+pub mod FitLemmas
+pub mod PutLemmas
+pub mod RaiseLemmas
+pub mod StmtLemmas

@@ -1,0 +1,3 @@
+pub mod Putting
+pub mod Raising
+pub mod Statements

@@ -1,0 +1,5 @@
+mod BehindCalls
+mod LiveFlat
+mod OwnLemmas
+mod PrunedFlat
+mod StackReads

@@ -1,0 +1,13 @@
+ghost use Rattle.flat_rules.specs.Behind.{StackAloneIsRead};
+ghost use Rattle.flat_rules.specs.OwnUses.{OwnUsesStay};
+
+/// Each access of a parameter or declared local has its place in flat code, among the calls and under the same control, and
+/// there is no other.
+pub fn own_locals_stay()
+    ensures { OwnUsesStay }
+{}
+
+/// Behind a call no result local is read before it is written, and no slot but those of the call's stack.
+pub fn stack_alone_is_read()
+    ensures { StackAloneIsRead }
+{}

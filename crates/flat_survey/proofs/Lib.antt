@@ -1,0 +1,3 @@
+pub mod FindLemmas
+pub mod SurveyLemmas
+pub mod SurveyedLemmas

@@ -1,0 +1,15 @@
+use Rattle.std.proofs.Common.{drop, ◌+◌, ◌*◌}
+use Rattle.wa_types.specs.Syntax.{done}
+use Rattle.wa_types.specs.Sizes.{code_items}
+use Rattle.wa_types.specs.View.{code, in_front}
+use Rattle.flat_survey.proofs.SurveyedLemmas.{Went}
+use Rattle.flat_survey.proofs.survey.+survey_body.Given as goal
+
+abbrev pub invariant-survey_body-loop-instr : goal.invariant-survey_body-loop-instr
+invariant-survey_body-loop-instr l = Went l.fn.typing l.typing (code l.body) (code (drop l.instr-index l.body)) l.fn.found l.found
+
+abbrev pub decreases-survey_body : goal.decreases-survey_body
+decreases-survey_body l = 2 * code_items (code l.body.now) + 1
+
+abbrev pub decreases-survey_instr : goal.decreases-survey_instr
+decreases-survey_instr l = 2 * code_items (in_front l.instr.now done)

@@ -1,0 +1,7 @@
+//! The slots and result locals of a body, found in one pass over it.
+#![tactic(auto)]
+
+mod find;
+mod survey;
+
+pub use find::find_names;

@@ -1,0 +1,4 @@
+pub mod Points
+pub mod Lives
+pub mod Slots
+pub mod Frames

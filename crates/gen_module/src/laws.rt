@@ -1,0 +1,11 @@
+ghost use Rattle.gen_module.specs.GeneratedLaws.{GeneratedIsSmall, GeneratedIsValid};
+
+/// Generated modules are valid (standard, section 3.4).
+pub fn generated_modules_are_valid()
+    ensures { GeneratedIsValid }
+{}
+
+/// They keep the stricter size rule.
+pub fn generated_modules_are_small()
+    ensures { GeneratedIsSmall }
+{}

@@ -1,0 +1,11 @@
+//! A module of any number of functions, for trying: each calls the one before it, and the first an import.
+//!
+//! The calls stand below an operand, in an arm of an `if` and in a loop, in turns, so that each form of pause is met
+//! (`specs/Generated.antt`).
+#![tactic(auto)]
+
+mod generating;
+mod laws;
+
+pub use generating::generate;
+pub use laws::{generated_modules_are_small, generated_modules_are_valid};

@@ -1,0 +1,2 @@
+pub mod StateReads
+pub mod Sizes

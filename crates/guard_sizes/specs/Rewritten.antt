@@ -1,0 +1,48 @@
+-- Functions flattened, guarded and given frames: how large and how deep they are, what they cost at a pause, and how often they
+-- read the state.
+use Rattle.std.specs.Prelude.{◌≡◌, ◌≢◌, ◌≤◌, ℕ, ◌+◌, ◌*◌, List, length, Some, slice_get}
+use Rattle.wa_types.specs.Bounds.{Weight}
+use Rattle.wa_types.specs.Counts.{depth_of}
+use Rattle.wa_types.specs.Frames.{SlotPairs}
+use Rattle.wa_types.specs.Modules.{around, locals_of, defined_at}
+use Rattle.wa_types.specs.Pruned.{pruned}
+use Rattle.wa_types.specs.Syntax.{Func, Module}
+use Rattle.wa_types.specs.Validity.{Valid}
+use Rattle.wa_model.specs.Rewrites.{instructions_and_labels}
+use Rattle.flat_laws.specs.Flatten.{flattened}
+use Rattle.guard_form.specs.Bounds.{passing, reads, reads_bound}
+use Rattle.guard_form.specs.Guarded.{guarded_code}
+use Rattle.guard_form.specs.Pieces.{first_piece, units}
+use Rattle.frame_laws.specs.Function.{WrittenFunc, function_code, unwinding, rewinding}
+use Rattle.frame_laws.specs.Layout.{Layout, kept_count}
+
+-- what becomes of a function of a module, where the calls at these places are numbered, and frames have this layout
+abbrev pub rewritten : Module → (x : ℕ) → Func → (state : ℕ) → (places : List ℕ) → Layout → WrittenFunc
+rewritten m x f st places l = record { layout = l; body = guarded_code st places (flattened m x f); result = (flattened m x f).result }
+
+-- frames keep no more than parameters, locals and slots
+abbrev pub KeepsFew : Module → Func → Layout → Type 0
+KeepsFew m f l = kept_count l.fields ≤ length (locals_of m f) + length (SlotPairs m f)
+
+-- what rewinding its guarded code costs at most
+abbrev pub seek_cost : Module → (x : ℕ) → Func → (places : List ℕ) → ℕ
+seek_cost m x f places = passing (first_piece places 0 (flattened m x f).body) (units places 0 (flattened m x f).body)
+
+-- The bounds of a rewritten function: on its size and its nesting, prologue and epilogue included; and on its cost at a pause, for
+-- unwinding and rewinding together.
+pub record IsSmall (m : Module) (x : ℕ) (f : Func) (st : ℕ) (places : List ℕ) (l : Layout) : Type 0 where
+  pub size : instructions_and_labels (function_code st (rewritten m x f st places l)) ≤ 112 * (Weight m f + 4)
+  pub nesting : depth_of (function_code st (rewritten m x f st places l)) ≤ 3 * depth_of (pruned f.body) + 8
+  pub cost : unwinding (rewritten m x f st places l) 4 + rewinding (rewritten m x f st places l) (seek_cost m x f places) ≤ 112 * (Weight m f + 4)
+
+-- ---- laws
+
+abbrev pub RewrittenIsSmall : Type 0
+RewrittenIsSmall =
+    (m : Module) (i x : ℕ) (f : Func) (st : ℕ) (places : List ℕ) (l : Layout) → Valid m → slice_get m.funcs i ≡ Some f → KeepsFew m f l → IsSmall m x f st places l
+
+-- The state, which stands behind the module's own globals, is read at most so often.
+abbrev pub RewrittenReadsFew : Type 0
+RewrittenReadsFew =
+    (m : Module) (x : ℕ) (f : Func) (st : ℕ) (places : List ℕ) (l : Layout) → Valid m → defined_at m x ≡ Some f → length (around m f).globals ≤ st → l.address ≢ st
+    → reads st (function_code st (rewritten m x f st places l)) ≤ reads_bound places (flattened m x f).body
