@@ -1,16 +1,14 @@
 -- Entries and their functions, place by place.
-use Rattle.std.proofs.Common.{◌≡◌, ℕ, ◌<◌, Option, Some, None, List, [], ◌∷◌, length, map, get_or, slice_get, sym, ap, ◌∙◌, refl, subst, Bool, true, Result, Vec, Global, position, if◌then◌else◌}
-use Rattle.std.specs.Option.{option_map, unwrap_or, is_none}
+use Rattle.std.proofs.Common.{◌≡◌, ℕ, ◌<◌, Option, Some, None, List, length, map, get_or, slice_get, sym, ap, ◌∙◌, refl, subst, Bool, true, Result, Vec, Global, if◌then◌else◌}
+use Rattle.std.specs.Option.{option_map, unwrap_or}
 use Rattle.std.proofs.lemmas.Option.{slice_get-map, slice_get_read}
 use Rattle.std.proofs.lemmas.List.{length-map}
 use Rattle.wa_types.specs.Syntax.{Module}
-use Rattle.wa_types.specs.Modules.{func_imports}
 use Rattle.wa_model.specs.declared.answers.Area.{Area}
 use Rattle.host_setup.specs.declared.entries.Entry.{Entry}
 use Rattle.host_setup.specs.declared.faults.SetupFault.{SetupFault}
-use Rattle.host_setup.specs.SetUp.{NamedEntry, Fault, area_bad, no_export, entry_missing, entry_is_import, arg_types, is_area_in, least_pages, needed, is_there, entry_func, entry_funcs}
-use Rattle.host_setup.specs.SetUp.{have_args, is_imported}
-use Rattle.host_setup.specs.SetUp.{first_false, first_told, fault_at, unless_fault, set_up}
+use Rattle.wa_model.specs.ScriptLines.{or_else}
+use Rattle.host_setup.specs.SetUp.{NamedEntry, Fault, area_bad, is_area_in, least_pages, entry_func, entry_funcs, all_told, entries_fault, module_fault, unless_fault, set_up}
 use Rattle.host_setup.specs.Views.{Reads, entry_of}
 
 -- the item at a place, of a list that is made by a map of another
@@ -22,10 +20,7 @@ mapped_at f os xs i x e lt at =
 -- ---- answers, of equal parts
 
 abbrev answer : (imports : ℕ) → List (Option ℕ) → List Bool → Result (List ℕ) Fault
-answer imports funcs tests =
-    unless_fault
-    (first_told (fault_at entry_missing (position is_none funcs) ∷ fault_at entry_is_import (position (is_imported imports) funcs) ∷ fault_at arg_types (first_false tests) ∷ []))
-    (map (λ (f : Option ℕ). unwrap_or f 0) funcs)
+answer imports funcs tests = unless_fault (entries_fault imports funcs tests) (all_told funcs)
 
 abbrev ReadsFuncs : Result (Vec ℕ Global) SetupFault → Result (List ℕ) Fault → Type 0
 ReadsFuncs r told = Reads (λ (v : Vec ℕ Global). v.items) r told
@@ -36,16 +31,7 @@ same_answer r imports imports' funcs funcs' tests tests' f t i h =
     subst (ReadsFuncs r) (ap (λ (n : ℕ). answer n funcs tests) i ∙ ap (λ (x : List (Option ℕ)). answer imports' x tests) f ∙ ap (answer imports' funcs') t) h
 
 abbrev in_area : Bool → Module → List NamedEntry → Result (List ℕ) Fault
-in_area t p es =
-    unless_fault
-    (first_told (
-    (if t then None else Some area_bad)
-    ∷ fault_at no_export (first_false (map (is_there p) needed))
-    ∷ fault_at entry_missing (position is_none (entry_funcs p es))
-    ∷ fault_at entry_is_import (position (is_imported (func_imports p)) (entry_funcs p es))
-    ∷ fault_at arg_types (first_false (have_args p es))
-    ∷ []))
-    (map (λ (f : Option ℕ). unwrap_or f 0) (entry_funcs p es))
+in_area t p es = unless_fault (or_else (if t then None else Some area_bad) (module_fault p es)) (all_told (entry_funcs p es))
 
 -- over a lawful area the rest decides
 pub area_is_fine : (r : Result (Vec ℕ Global) SetupFault) (p q : Module) (area : Area) (pages : ℕ) (es : List NamedEntry) → pages ≡ least_pages p → p ≡ q → is_area_in pages area ≡ true

@@ -15,6 +15,7 @@ use Rattle.wa_types.specs.Validity.{same_name}
 use Rattle.wa_ops.specs.Operate.{are_of}
 use Rattle.wa_model.specs.declared.answers.Area.{Area}
 use Rattle.wa_model.specs.Instantiation.{least_of}
+use Rattle.wa_model.specs.ScriptLines.{or_else}
 use Rattle.wa_model.specs.Step.{same_func_type}
 use Rattle.std.specs.Str.{bytes_eq}
 
@@ -104,11 +105,6 @@ abbrev pub fault_at : (ℕ → Fault) → Option ℕ → Option Fault
 fault_at fault None = None
 fault_at fault (Some i) = Some (fault i)
 
-abbrev pub first_told : List (Option Fault) → Option Fault
-first_told [] = None
-first_told (Some f ∷ faults) = Some f
-first_told (None ∷ faults) = first_told faults
-
 -- the place of the first test that fails
 abbrev pub first_false : List Bool → Option ℕ
 first_false tests = position (λ (t : Bool). not t) tests
@@ -119,21 +115,32 @@ entry_funcs p entries = map (λ (e : NamedEntry). entry_func p e.name) entries
 abbrev pub have_args : Module → List NamedEntry → List Bool
 have_args p entries = map (λ (e : NamedEntry). are_args p e.args (entry_func p e.name)) entries
 
--- the first fault: each kind is asked of all entries before the next
+-- The first fault: each kind is asked of all entries before the next. `tests` tells of each entry whether it has arguments of
+-- its function's types.
+abbrev pub args_fault : (tests : List Bool) → Option Fault
+args_fault tests = fault_at arg_types (first_false tests)
+
+abbrev pub calls_fault : (imports : ℕ) → (funcs : List (Option ℕ)) → (tests : List Bool) → Option Fault
+calls_fault imports funcs tests = or_else (fault_at entry_is_import (position (is_imported imports) funcs)) (args_fault tests)
+
+abbrev pub entries_fault : (imports : ℕ) → (funcs : List (Option ℕ)) → (tests : List Bool) → Option Fault
+entries_fault imports funcs tests = or_else (fault_at entry_missing (position is_none funcs)) (calls_fault imports funcs tests)
+
+abbrev pub module_fault : Module → List NamedEntry → Option Fault
+module_fault p entries =
+    or_else (fault_at no_export (first_false (map (is_there p) needed)))
+    (entries_fault (func_imports p) (entry_funcs p entries) (have_args p entries))
+
 abbrev pub first_fault : Module → Area → List NamedEntry → Option Fault
-first_fault p area entries =
-    first_told (
-    (if is_area_in (least_pages p) area then None else Some area_bad)
-    ∷ fault_at no_export (first_false (map (is_there p) needed))
-    ∷ fault_at entry_missing (position is_none (entry_funcs p entries))
-    ∷ fault_at entry_is_import (position (is_imported (func_imports p)) (entry_funcs p entries))
-    ∷ fault_at arg_types (first_false (have_args p entries))
-    ∷ [])
+first_fault p area entries = or_else (if is_area_in (least_pages p) area then None else Some area_bad) (module_fault p entries)
 
 abbrev pub unless_fault : {A : Type 0} → Option Fault → A → Result A Fault
 unless_fault None x = Ok x
 unless_fault (Some f) x = Err f
 
+abbrev pub all_told : List (Option ℕ) → List ℕ
+all_told funcs = map (λ (f : Option ℕ). unwrap_or f 0) funcs
+
 -- The functions of the entries, in order, or the first fault.
 abbrev pub set_up : Module → Area → List NamedEntry → Result (List ℕ) Fault
-set_up p area entries = unless_fault (first_fault p area entries) (map (λ (f : Option ℕ). unwrap_or f 0) (entry_funcs p entries))
+set_up p area entries = unless_fault (first_fault p area entries) (all_told (entry_funcs p entries))

@@ -4,7 +4,8 @@ ghost use Rattle.std.specs.Option.{is_none, unwrap_or};
 ghost use Rattle.wa_types.specs.Modules.{func_imports, func_sorts};
 ghost use Rattle.wa_types.specs.Syntax.{Module as PlainModule};
 ghost use Rattle.wa_types.specs.View.{module_of};
-ghost use Rattle.host_setup.specs.SetUp.{arg_types, entry_func, entry_funcs, entry_is_import, entry_missing, fault_at, first_false, first_told, func_named, have_args, is_area_in, is_five, is_imported, is_there, needed, no_export, set_up, unless_fault};
+ghost use Rattle.host_setup.specs.SetUp.{all_told, args_fault, calls_fault, entries_fault, entry_func, entry_funcs, first_false, func_named, have_args, is_area_in, is_five, is_imported, is_there};
+ghost use Rattle.host_setup.specs.SetUp.{module_fault, needed, set_up, unless_fault};
 ghost use Rattle.host_setup.specs.Views.{IsTableOf, Reads, entry_of};
 
 use crate::exports::by_name;
@@ -57,7 +58,7 @@ fn is_area(area: Area, pages: u32) -> bool
 
 fn with_area(alloc: Global, module: &Module, entries: &[Entry]) -> Result<Vec<u32>, SetupFault>
     requires { length entries.now < 2 ^ 32 }
-    ensures { let p = module_of «module».now in let es = map entry_of entries.now in Reads (λ funcs. funcs.items) result (unless_fault (first_told (fault_at no_export (first_false (map (is_there p) needed)) ∷ fault_at entry_missing (position is_none (entry_funcs p es)) ∷ fault_at entry_is_import (position (is_imported (func_imports p)) (entry_funcs p es)) ∷ fault_at arg_types (first_false (have_args p es)) ∷ [])) (map (λ f. unwrap_or f 0) (entry_funcs p es))) }
+    ensures { let p = module_of «module».now in let es = map entry_of entries.now in Reads (λ funcs. funcs.items) result (unless_fault (module_fault p es) (all_told (entry_funcs p es))) }
 {
     let imports = imported_sorts(alloc, module)?.len();
     let sorts = all_sorts(alloc, module)?;
@@ -178,7 +179,7 @@ fn with_exports(
     requires sorts { sorts.now ≡ func_sorts (module_of «module».now) }
     requires imports { imports ≡ func_imports (module_of «module».now) }
     requires names { IsTableOf names.now («module».now).exports.items }
-    ensures { let p = module_of «module».now in let es = map entry_of entries.now in Reads (λ funcs. funcs.items) result (unless_fault (first_told (fault_at entry_missing (position is_none (entry_funcs p es)) ∷ fault_at entry_is_import (position (is_imported (func_imports p)) (entry_funcs p es)) ∷ fault_at arg_types (first_false (have_args p es)) ∷ [])) (map (λ f. unwrap_or f 0) (entry_funcs p es))) }
+    ensures { let p = module_of «module».now in let es = map entry_of entries.now in Reads (λ funcs. funcs.items) result (unless_fault (entries_fault (func_imports p) (entry_funcs p es) (have_args p es)) (all_told (entry_funcs p es))) }
 {
     let funcs = entry_funcs(alloc, names, entries)?;
     let have_args = have_args(alloc, module, sorts, &funcs, entries)?;
@@ -194,7 +195,7 @@ fn with_functions(
 ) -> Result<Vec<u32>, SetupFault>
     requires funcs { length funcs.now < 2 ^ 32 }
     requires tests { length have_args.now < 2 ^ 32 }
-    ensures { Reads (λ told. told.items) result (unless_fault (first_told (fault_at entry_missing (position is_none funcs.now) ∷ fault_at entry_is_import (position (is_imported imports) funcs.now) ∷ fault_at arg_types (first_false have_args.now) ∷ [])) (map (λ f. unwrap_or f 0) funcs.now)) }
+    ensures { Reads (λ told. told.items) result (unless_fault (entries_fault imports funcs.now have_args.now) (all_told funcs.now)) }
 {
     match first_missing(funcs) {
         Some(entry) => Err(SetupFault::EntryMissing {
@@ -212,7 +213,7 @@ fn with_defined(
 ) -> Result<Vec<u32>, SetupFault>
     requires funcs { length funcs.now < 2 ^ 32 }
     requires tests { length have_args.now < 2 ^ 32 }
-    ensures { Reads (λ told. told.items) result (unless_fault (first_told (fault_at entry_is_import (position (is_imported imports) funcs.now) ∷ fault_at arg_types (first_false have_args.now) ∷ [])) (map (λ f. unwrap_or f 0) funcs.now)) }
+    ensures { Reads (λ told. told.items) result (unless_fault (calls_fault imports funcs.now have_args.now) (all_told funcs.now)) }
 {
     match first_imported(funcs, imports) {
         Some(entry) => Err(SetupFault::EntryIsImport {
@@ -228,7 +229,7 @@ fn with_args(
     have_args: &[bool],
 ) -> Result<Vec<u32>, SetupFault>
     requires { length have_args.now < 2 ^ 32 }
-    ensures { Reads (λ told. told.items) result (unless_fault (first_told (fault_at arg_types (first_false have_args.now) ∷ [])) (map (λ f. unwrap_or f 0) funcs.now)) }
+    ensures { Reads (λ told. told.items) result (unless_fault (args_fault have_args.now) (all_told funcs.now)) }
 {
     match first_false(have_args) {
         Some(entry) => Err(SetupFault::ArgTypes {
@@ -336,7 +337,7 @@ fn is_imported(func: Option<u32>, imports: usize) -> bool
 }
 
 fn told(alloc: Global, funcs: &[Option<u32>]) -> Result<Vec<u32>, AllocError>
-    ensures { IfOk result (λ told. told.items ≡ map (λ f. unwrap_or f 0) funcs.now) }
+    ensures { IfOk result (λ told. told.items ≡ all_told funcs.now) }
 {
     funcs.iter().map(|func| func.unwrap_or(0)).collect(alloc)
 }
