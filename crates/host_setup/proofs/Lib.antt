@@ -1,0 +1,3 @@
+pub mod IndexTypes
+pub mod Found
+pub mod Positions
