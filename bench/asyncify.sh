@@ -50,7 +50,7 @@ elif shape == "locals":
 elif shape == "small":
     bodies = [body(PAUSE + plain(1))] * (7_500 * quarters)
 elif shape == "long":
-    bodies = [body(PAUSE + plain(40_000 * quarters))]
+    bodies = [body(PAUSE + plain(36_000 * quarters))]
 elif shape == "results":
     code = PAUSE
     for _ in range(250 * quarters - 5):
