@@ -1,7 +1,8 @@
+pub mod AloneLines
 pub mod Counting
-pub mod Tails
-pub mod Shows
-pub mod Stories
 pub mod Meeting
 pub mod Rows
+pub mod Shows
+pub mod Stories
+pub mod Tails
 pub mod Worlds

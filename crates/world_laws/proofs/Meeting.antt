@@ -72,10 +72,10 @@ meets_same w v same import args lines ds o lines' ds' h =
     (by_bound (unwrap_or (slice_get w.binds import) None) h)
   where
     bases : base_names w.source ≡ base_names v.source
-    bases = ap (λ (is : List Import). filter_map (λ (i : Import). name_if i.base (imported_func i.kind)) is) same.imports
+    bases = ap (λ (imports : List Import). filter_map (λ (i : Import). name_if i.base (imported_func i.kind)) imports) same.imports
 
     joined : import_names w.source ≡ import_names v.source
-    joined = ap (λ (is : List Import). filter_map (λ (i : Import). name_if (joined_name i) (imported_func i.kind)) is) same.imports
+    joined = ap (λ (imports : List Import). filter_map (λ (i : Import). name_if (joined_name i) (imported_func i.kind)) imports) same.imports
 
     by_bound : (b : Option (List ℕ)) → MeetsBound w.source import args b lines ds o lines' ds' → MeetsBound v.source import args b lines ds o lines' ds'
     by_bound (Some name) g = (subst (λ (ns : List (List ℕ)). MeetsDevice import (name_at ns import) name args ds o ds') bases g.0, g.1)
@@ -122,40 +122,40 @@ Met a = AnswersFit a.answers → (rest : List Outcome) × Takes (new_calls a.not
 
 abbrev pub EachMet : List Actor → Type 0
 EachMet [] = Unit {0}
-EachMet (a ∷ as) = Met a × EachMet as
+EachMet (a ∷ acts) = Met a × EachMet acts
 
-met_there : (as : List Actor) (i : ℕ) (a b : Actor) → slice_get as i ≡ Some a → EachMet (slice_set as i b) → Met b
+met_there : (acts : List Actor) (i : ℕ) (a b : Actor) → slice_get acts i ≡ Some a → EachMet (slice_set acts i b) → Met b
 met_there [] i a b e h = cc
-met_there (c ∷ as) zero a b e h = h.0
-met_there (c ∷ as) (suc i) a b e h = met_there as i a b e h.1
+met_there (c ∷ acts) zero a b e h = h.0
+met_there (c ∷ acts) (suc i) a b e h = met_there acts i a b e h.1
 
-met_before : (as : List Actor) (i : ℕ) (a b : Actor) → slice_get as i ≡ Some a → Met a → EachMet (slice_set as i b) → EachMet as
+met_before : (acts : List Actor) (i : ℕ) (a b : Actor) → slice_get acts i ≡ Some a → Met a → EachMet (slice_set acts i b) → EachMet acts
 met_before [] i a b e m h = tt
-met_before (c ∷ as) zero a b e m h = let same : a ≡ c = sym (some_same e) in (subst Met same m, h.1)
+met_before (c ∷ acts) zero a b e m h = let same : a ≡ c = sym (some_same e) in (subst Met same m, h.1)
   where
     some_same : Some c ≡ Some a → c ≡ a
     some_same e = cc
-met_before (c ∷ as) (suc i) a b e m h = (h.0, met_before as i a b e m h.1)
+met_before (c ∷ acts) (suc i) a b e m h = (h.0, met_before acts i a b e m h.1)
 
-over_met : (as : List Actor) → IsOver as → EachMet as
+over_met : (acts : List Actor) → IsOver acts → EachMet acts
 over_met [] h = tt
-over_met (a ∷ as) h = (one (All-head (λ (a : Actor). a.notes ≡ []) a as h), over_met as (All-tail (λ (a : Actor). a.notes ≡ []) a as h))
+over_met (a ∷ acts) h = (one (All-head (λ (a : Actor). a.notes ≡ []) a acts h), over_met acts (All-tail (λ (a : Actor). a.notes ≡ []) a acts h))
   where
     one : a.notes ≡ [] → Met a
     one e fit = (a.outcomes, ([], refl, sym (ap new_calls e), All-nil OutcomeFits))
 
 -- Where a world's run is over, each program's calls have met outcomes in range.
-pub events_met : (programs : List Program) (detaches : List Detach) (number : ℕ) (as : List Actor) (ds : List Device) (lines : List Line) (last : List Actor) (ds' : List Device)
-    → Events programs detaches number as ds lines last ds' → IsOver last → EachMet as
-events_met programs detaches number as ds lines last ds' no_event over = over_met as over
-events_met programs detaches number as ds lines last ds' (an_event {actors' = as'} {ds' = ds1} {more = more} play rest e) over =
-    let behind : EachMet as' = events_met programs detaches (suc number) as' ds1 more last ds' rest over in
+pub events_met : (programs : List Program) (detaches : List Detach) (number : ℕ) (acts : List Actor) (ds : List Device) (lines : List Line) (last : List Actor) (ds' : List Device)
+    → Events programs detaches number acts ds lines last ds' → IsOver last → EachMet acts
+events_met programs detaches number acts ds lines last ds' no_event over = over_met acts over
+events_met programs detaches number acts ds lines last ds' (an_event {actors' = acts'} {ds' = ds1} {more = more} play rest e) over =
+    let behind : EachMet acts' = events_met programs detaches (suc number) acts' ds1 more last ds' rest over in
     let b : Actor = record { due = play.a.due + put_off (turn_of play.a.notes); notes = behind_turn play.a.notes; outcomes = play.outcomes; answers = play.answers } in
-    let each : EachMet (slice_set as play.i b) = subst EachMet play.after behind in
-    met_before as play.i play.a b play.next.there
+    let each : EachMet (slice_set acts play.i b) = subst EachMet play.after behind in
+    met_before acts play.i play.a b play.next.there
     (λ fit.
     let t = calls_take play.w (turn_of play.a.notes) play.a.outcomes play.a.answers (detached number detaches ds) play.outcomes play.answers ds1 play.calls fit in
-    let on = met_there as play.i play.a b play.next.there each t.1 in
+    let on = met_there acts play.i play.a b play.next.there each t.1 in
     (on.0, takes_on (new_calls (turn_of play.a.notes)) (new_calls (behind_turn play.a.notes)) (new_calls play.a.notes) play.a.outcomes play.outcomes on.0 (turn_calls play.a.notes) t.0 on.1))
     each
 
@@ -174,11 +174,11 @@ calls_trimmed looks w v same (x ∷ xs) (y ∷ ys) al us rest lines ds os' lines
     abbrev On : List Outcome → List AnswerLine → List Device → Type 0
     On us l d = (us' : List Outcome) × CallsMeet v xs us l d us' lines' ds' × (os' ≡ us' ++ rest) × (length us ≡ new_calls ys + length us')
 
-    head_same : (a b : Outcome) (as bs : List Outcome) → a ∷ as ≡ b ∷ bs → b ≡ a
-    head_same a b as bs e = cc
+    head_same : (a b : Outcome) (acts bs : List Outcome) → a ∷ acts ≡ b ∷ bs → b ≡ a
+    head_same a b acts bs e = cc
 
-    tail_same : (a b : Outcome) (as bs : List Outcome) → a ∷ as ≡ b ∷ bs → bs ≡ as
-    tail_same a b as bs e = cc
+    tail_same : (a b : Outcome) (acts bs : List Outcome) → a ∷ acts ≡ b ∷ bs → bs ≡ acts
+    tail_same a b acts bs e = cc
 
     by_call : ((us : List Outcome) (lines : List AnswerLine) (ds : List Device) → CallsMeet w ys (us ++ rest) lines ds os' lines' ds' → new_calls ys ≤ length us → On us lines ds)
         → (c : Option Call) (us : List Outcome) → NoteMeets w c (us ++ rest) lines ds (λ o l d. CallsMeet w ys o l d os' lines' ds') → one_if c + new_calls ys ≤ length us

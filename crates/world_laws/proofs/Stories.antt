@@ -41,10 +41,7 @@ none_ignored o os may none un = record {
 -- where each on the right has one beside it, as many on the left do
 zip_of : {X : Type 0} (R : X → X → Type 0) (xs ys : List X) → ((i : ℕ) (y : X) → slice_get ys i ≡ Some y → (x : X) × (slice_get xs i ≡ Some x) × R x y) → AllZip R (take (length ys) xs) ys
 zip_of {X} R xs [] h = tt
-zip_of {X} R [] (y ∷ ys) h = none (h 0 y refl)
-  where
-    none : (x : X) × (slice_get ([] : List X) 0 ≡ Some x) × R x y → ⊥
-    none w = let e = w.1 in cc
+zip_of {X} R [] (y ∷ ys) h = let w = h 0 y refl in let e : None ≡ Some w.0 = w.1 in cc
 zip_of {X} R (x ∷ xs) (y ∷ ys) h = (first (h 0 y refl), zip_of R xs ys (λ i z e. h (suc i) z e))
   where
     first : (z : X) × (slice_get (x ∷ xs) 0 ≡ Some z) × R z y → R x y
@@ -164,10 +161,7 @@ module _ (o : Original) (p : Module) (os : List Outcome) (which : List Bool) whe
     here = behaves N (omega arith)
 
     beside : AllZip Same (take (length (P N)) (E N)) (P N)
-    beside = zip_of Same (E N) (P N) (λ i y e. one (here.notes i y e))
-      where
-        one : {i : ℕ} {y : Note} → (x : Note) × (slice_get (E N) i ≡ Some x) × SameNote m s which plan.area x y → (x : Note) × (slice_get (E N) i ≡ Some x) × Same x y
-        one w = (w.0, w.1, record { event = w.2.event; ends = w.2.ends })
+    beside = zip_of Same (E N) (P N) (λ i y e. let w = here.notes i y e in (w.0, w.1, record { event = w.2.event; ends = w.2.ends }))
 
     -- all is over behind an end
     at_end : Ends (P N) → IsStory (P N ++ [])
@@ -212,7 +206,7 @@ module _ (o : Original) (p : Module) (os : List Outcome) (which : List Bool) whe
               (record { event = refl; ends = subst (λ (g : Held). SameEnd (global_space m) plan.area mo.1 (store_held g)) e mo.4 }),
         )
 
-    pub told : ((h : Held) → (Protocol p plan os N).last ≡ h → Tells (length os) (P N) h → new_calls (P N) ≤ length os → IsStory (P N ++ unless_over N h))
+    pub told : (h : Held) → (Protocol p plan os N).last ≡ h → Tells (length os) (P N) h → new_calls (P N) ≤ length os → IsStory (P N ++ unless_over N h)
     told (free s l) e t few = cut (free s l) e t.0
     told (starting f s l) e t few = cut (starting f s l) e t.0
     told (busy ph c l) e t few = cut (busy ph c l) e t.0

@@ -6,7 +6,7 @@ use Rattle.wa_types.specs.declared.values.Value.{Value}
 use Rattle.wa_types.specs.Syntax.{Func, Module}
 use Rattle.wa_types.specs.Modules.{func_imports, func_type_at, defined_at}
 use Rattle.wa_model.specs.declared.events.End.{End}
-use Rattle.wa_model.specs.Outside.{Answer, returned}
+use Rattle.wa_model.specs.Outside.{Answer, answered, returned}
 use Rattle.wa_model.specs.Machine.{Turn, stops, goes, Ran, after, still, pay, run_with, run}
 use Rattle.wa_model.specs.Store.{Store}
 use Rattle.wa_model.specs.Step.{Next, steps, asks, returns, traps, stuck, step}
@@ -65,7 +65,7 @@ module _ (p : Module) (x : Exports) (plan : Plan) (tail : List Outcome) where
 
   given_tailed : (k : ℕ) (y : Note) (a : Answer) (s : Store) (l : Left) (who : Asker) → held_given k y a s (tl l) who ≡ turned (tailed tail) (held_given k y a s l who)
   given_tailed k y a s l (inside task c) = refl
-  given_tailed k y a s l (outermost old) = ap (goes k _) (on_tailed s l l.entries)
+  given_tailed k y a s l (outermost old) = ap (goes k (y ∷ note (answered a.value) s ∷ done_notes s l.entries)) (on_tailed s l l.entries)
 
   pauses_tailed : (k : ℕ) (y : Note) (import : ℕ) (a : Answer) (l : Left) (who : Asker) → held_pauses x plan k y import a (tl l) who ≡ turned (tailed tail) (held_pauses x plan k y import a l who)
   pauses_tailed k y import a l (inside (an_entry e) c) = refl
@@ -83,8 +83,6 @@ module _ (p : Module) (x : Exports) (plan : Plan) (tail : List Outcome) where
   Calls k stops = ⊥
   Calls k (goes j es t) = (j ≡ k) × (1 ≤ new_calls es)
 
-  one_more : (y : Note) (xs : List Note) (n : ℕ) → new_calls (y ∷ xs) ≡ 1 + n → 1 ≤ new_calls (y ∷ xs)
-  one_more y xs n e = omega arith
 
   pausing_calls : (k import : ℕ) (args : List Value) (who : Asker) (l : Left) (a : Answer) (ticks : ℕ) → in_start who ≡ false
       → Calls k (held_pauses x plan k (call_note import args (store_at who) (stack_at p who) (Some ticks)) import a l who)
@@ -109,16 +107,16 @@ module _ (p : Module) (x : Exports) (plan : Plan) (tail : List Outcome) where
       tested_calls k import args who (with_outcomes l os) a (fault_of (func_type_at p import).results (length (store_at who).memory) plan (in_start who) import a) a.ticks refl refl
 
   -- where no outcome is left for a call
-  longer_call : (k : ℕ) (es : List Note) (t o' : Turn Held Note) (u : Held) → Calls k o' → Longer 0 o' (goes k es u)
-  longer_call k es t stops u h = absurd h
-  longer_call k es t (goes j fs v) u h = (h.0, λ few. let many = h.1 in let no_way : ⊥ = omega arith in absurd no_way)
+  longer_call : (k : ℕ) (es : List Note) (o' : Turn Held Note) (u : Held) → Calls k o' → Longer 0 o' (goes k es u)
+  longer_call k es stops u h = absurd h
+  longer_call k es (goes j fs v) u h = (h.0, λ few. let many = h.1 in let no_way : ⊥ = omega arith in absurd no_way)
 
   asked_longer : (k import : ℕ) (args : List Value) (who : Asker) (l : Left) (os : List Outcome) → Longer (length os) (held_asked p x plan k import args who (tl l) (os ++ tail)) (held_asked p x plan k import args who l os)
   asked_longer k import args who l [] = by_tail tail
     where
       by_tail : (more : List Outcome) → Longer 0 (held_asked p x plan k import args who (tl l) more) (held_asked p x plan k import args who l [])
       by_tail [] = (refl, λ h. (refl, refl))
-      by_tail (o ∷ more) = longer_call k (call_note import args (store_at who) (stack_at p who) None ∷ []) stops (held_asked p x plan k import args who (tl l) (o ∷ more)) (over (store_at who)) (outcome_calls k import args who (tl l) o more)
+      by_tail (o ∷ more) = longer_call k (call_note import args (store_at who) (stack_at p who) None ∷ []) (held_asked p x plan k import args who (tl l) (o ∷ more)) (over (store_at who)) (outcome_calls k import args who (tl l) o more)
   asked_longer k import args who l (refused e ∷ os) = (refl, λ h. (refl, refl))
   asked_longer k import args who l (given a ∷ os) =
       let o : Option End = fault_of (func_type_at p import).results (length (store_at who).memory) plan (in_start who) import a in

@@ -59,16 +59,16 @@ starting o w a st may held meets ord =
       },
     )
 
-all_starting : (os : List Original) (ws : List Program) (as : List Actor) → AllZip StandsIn os ws → All MayRun os → AllZip StartsHeld ws as → EachMet as
-    → AllZip (λ (o : Original) (a : Actor). Orderly o (met a)) os as → (bs : List Actor) × AllZip StartsOriginal os bs × Rows os ws as bs
+all_starting : (os : List Original) (ws : List Program) (acts : List Actor) → AllZip StandsIn os ws → All MayRun os → AllZip StartsHeld ws acts → EachMet acts
+    → AllZip (λ (o : Original) (a : Actor). Orderly o (met a)) os acts → (bs : List Actor) × AllZip StartsOriginal os bs × Rows os ws acts bs
 all_starting [] [] [] st may held meets ord = ([], tt, tt)
-all_starting (o ∷ os) (w ∷ ws) (a ∷ as) st may held meets ord =
+all_starting (o ∷ os) (w ∷ ws) (a ∷ acts) st may held meets ord =
     let one = starting o w a st.0 (All-head MayRun o os may) held.0 meets.0 ord.0 in
-    let on = all_starting os ws as st.1 (All-tail MayRun o os may) held.1 meets.1 ord.1 in
+    let on = all_starting os ws acts st.1 (All-tail MayRun o os may) held.1 meets.1 ord.1 in
     (one.0 ∷ on.0, (one.1, on.1), (one.2, on.2))
-all_starting [] (w ∷ ws) as st may held meets ord = absurd st
-all_starting (o ∷ os) [] as st may held meets ord = absurd st
-all_starting [] [] (a ∷ as) st may held meets ord = absurd held
+all_starting [] (w ∷ ws) acts st may held meets ord = absurd st
+all_starting (o ∷ os) [] acts st may held meets ord = absurd st
+all_starting [] [] (a ∷ acts) st may held meets ord = absurd held
 all_starting (o ∷ os) (w ∷ ws) [] st may held meets ord = absurd held
 
 pub worlds_of_originals : WorldsOfOriginals

@@ -1,1 +1,2 @@
+pub mod AloneLines
 pub mod Originals

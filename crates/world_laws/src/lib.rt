@@ -5,8 +5,10 @@
 //! same lines and the same devices, where the originals touch no byte of their areas (`specs/Originals.antt`).
 #![tactic(auto)]
 
+mod alone_laws;
 mod original_laws;
 
+pub use alone_laws::own_lines_are_those_alone;
 pub use original_laws::{
     none_ignored_is_orderly, stories_are_of_met_outcomes, stories_are_of_originals, worlds_are_of_originals,
 };
