@@ -1,12 +1,12 @@
 -- How many calls a run under the protocol makes, and that it is over only behind an end or a call that no outcome is left for.
-use Rattle.std.proofs.Common.{arith, ◌≡◌, ◌≤◌, ◌+◌, ◌-◌, ◌⊎◌, inl, inr, ℕ, zero, suc, List, [], ◌∷◌, ◌++◌, length, Option, Some, None, Bool, true, false, cond, ltb, eqb, refl, sym, ap, ◌∙◌, subst, ⊎_elim}
+use Rattle.std.proofs.Common.{arith, ◌≡◌, ◌≤◌, ◌+◌, ◌-◌, ◌⊎◌, inl, inr, ℕ, zero, suc, List, [], ◌∷◌, ◌++◌, length, Option, Some, None, Bool, true, false, cond, ltb, eqb, refl, sym, ap, ◌∙◌, subst, append_assoc}
 use Rattle.std.specs.Prelude.{nat_lt, nat_eq, if◌then◌else◌}
 use Rattle.wa_types.specs.declared.values.Value.{Value}
 use Rattle.wa_types.specs.Syntax.{Func, Module}
 use Rattle.wa_types.specs.Modules.{func_imports, func_type_at, defined_at}
 use Rattle.wa_model.specs.declared.events.End.{End}
 use Rattle.wa_model.specs.declared.events.End.TheVariants.{Broken}
-use Rattle.wa_model.specs.Outside.{Answer, answered, paused, returned, ended}
+use Rattle.wa_model.specs.Outside.{Call, Answer, Event, called, answered, paused, returned, ended}
 use Rattle.wa_model.specs.Machine.{Turn, stops, goes, Ran, after, still, pay, run_with, run}
 use Rattle.wa_model.specs.Store.{Store}
 use Rattle.wa_model.specs.Step.{Next, steps, asks, returns, traps, stuck, step}
@@ -14,8 +14,8 @@ use Rattle.wa_model.specs.Plan.{Entry, Plan, Outcome, given, refused}
 use Rattle.wa_model.specs.Instantiation.{Opening, fails_as, opens, opening}
 use Rattle.wa_model.specs.Blocking.{Note, note, call_note, value_of_results, fault_of, pause_of, poked, done_notes, Task, the_start, an_entry, Left, with_outcomes, Asker, inside, outermost, store_at, stack_at, in_start, next_entry, all_left}
 use Rattle.wa_model.specs.Protocol.{Exports, exports_of, Phase, is_running, unwinds, rewinds, Then, give_zero, test_unwound, pause_there, call_again, test_rewound, give_answer, Held, free, starting, busy, calling, aside, entering, over, broken, held_on, held_back, held_given, held_ends, held_pauses, held_tested, held_asked, busy_step, is_state, aside_back, aside_step, busy_enters, held_next, aside_called, held_start, protocol, held_started, held_begun, Protocol}
-use Rattle.wa_model.specs.World.{is_end}
-use Rattle.world_laws.specs.Originals.{new_calls}
+use Rattle.wa_model.specs.World.{call_in, is_end}
+use Rattle.world_laws.specs.Originals.{one_if, new_calls}
 
 -- no note is an end
 abbrev pub Live : List Note → Type 0
@@ -44,6 +44,31 @@ pub calls_on : (xs ys : List Note) → new_calls (xs ++ ys) ≡ new_calls xs + n
 calls_on [] ys = omega arith
 calls_on (x ∷ xs) ys = let ih = calls_on xs ys in omega arith
 
+-- the last one is a call, before which so many were made
+pub record Stands (calls : ℕ) (es : List Note) : Type 0 where
+  pub before : List Note
+  pub last : Note
+  pub call : Call
+  pub split : es ≡ before ++ last ∷ []
+  pub is : last.event ≡ called call
+  pub count : new_calls before ≡ calls
+
+pub stands_on : (left calls : ℕ) (xs ys : List Note) → new_calls xs + left ≡ calls → Stands left ys → Stands calls (xs ++ ys)
+stands_on left calls xs ys e h = record {
+  before = xs ++ h.before;
+  last = h.last;
+  call = h.call;
+  split = ap (λ (zs : List Note). xs ++ zs) h.split ∙ sym (append_assoc xs h.before (h.last ∷ []));
+  is = h.is;
+  count = omega (arith, calls_on xs h.before, h.count, e);
+}
+
+pub stands_calls : (left : ℕ) (es : List Note) → Stands left es → new_calls es ≡ suc left
+stands_calls left es h =
+    let one : new_calls (h.last ∷ []) ≡ 1 = ap (λ (e : Event). one_if (call_in e) + 0) h.is in
+    let all = ap new_calls h.split ∙ calls_on h.before (h.last ∷ []) in
+    omega (arith, one, all, h.count)
+
 -- ---- outcomes left
 
 abbrev pub left_count : Held → ℕ
@@ -55,8 +80,8 @@ left_count (aside ph c th l) = length l.outcomes
 left_count (entering ph e s l) = length l.outcomes
 left_count (over s) = 0
 
--- What notes tell that lead to a state from one with so many outcomes left: where all is over, they end, or one more call was made
--- than there were outcomes; else each call took one.
+-- What notes tell that lead to a state from one with so many outcomes left: where all is over, they end, or stand at a call
+-- for which there was no outcome; else each call took one.
 abbrev pub Tells : (left : ℕ) → List Note → Held → Type 0
 Tells left es (free s l) = Live es × (new_calls es + length l.outcomes ≡ left)
 Tells left es (starting f s l) = Live es × (new_calls es + length l.outcomes ≡ left)
@@ -64,7 +89,7 @@ Tells left es (busy ph c l) = Live es × (new_calls es + length l.outcomes ≡ l
 Tells left es (calling ph s f args th l) = Live es × (new_calls es + length l.outcomes ≡ left)
 Tells left es (aside ph c th l) = Live es × (new_calls es + length l.outcomes ≡ left)
 Tells left es (entering ph e s l) = Live es × (new_calls es + length l.outcomes ≡ left)
-Tells left es (over s) = Ends es ⊎ (new_calls es ≡ suc left)
+Tells left es (over s) = (Ends es × (new_calls es ≤ left)) ⊎ Stands left es
 
 abbrev pub TurnTells : (left : ℕ) → Turn Held Note → Type 0
 TurnTells left stops = Unit {0}
@@ -75,12 +100,12 @@ none_made l = (tt, omega arith)
 
 module _ (p : Module) (x : Exports) (plan : Plan) where
   on_tells : (s : Store) (l : Left) (es : List Entry) → Tells (length l.outcomes) (done_notes s es) (held_on s l es)
-  on_tells s l [] = inl refl
+  on_tells s l [] = inl (refl, omega arith)
   on_tells s l (e ∷ es) = none_made l
 
   -- with live notes before them, of no call or of one
   on_behind : (xs : List Note) (left : ℕ) (s : Store) (l : Left) (es : List Entry) → Live xs → new_calls xs + length l.outcomes ≡ left → Tells left (xs ++ done_notes s es) (held_on s l es)
-  on_behind xs left s l [] h e = inl (ends_on xs (done_notes s []) h refl)
+  on_behind xs left s l [] h e = let c = calls_on xs (done_notes s []) in let z : new_calls (done_notes s []) ≡ 0 = refl in inl (ends_on xs (done_notes s []) h refl, omega arith)
   on_behind xs left s l (y ∷ es) h e =
       let c : new_calls (xs ++ []) ≡ new_calls xs + 0 = calls_on xs [] in
       (live_on xs [] h tt, omega arith)
@@ -104,13 +129,20 @@ module _ (p : Module) (x : Exports) (plan : Plan) where
 
   tested_tells : (k import : ℕ) (args : List Value) (who : Asker) (l : Left) (a : Answer) (o : Option End) (pause : Option ℕ)
       → TurnTells (suc (length l.outcomes)) (held_tested p x plan k import args who l a o pause)
-  tested_tells k import args who l a (Some e) pause = inl (refl, refl)
+  tested_tells k import args who l a (Some e) pause = inl ((refl, refl), omega arith)
   tested_tells k import args who l a None None = given_tells k import args who l a (poked (store_at who) a.pokes) None
   tested_tells k import args who l a None (Some ticks) = pauses_tell k import args who l a (Some ticks)
 
   asked_tells : (k import : ℕ) (args : List Value) (who : Asker) (l : Left) (os : List Outcome) → TurnTells (length os) (held_asked p x plan k import args who l os)
-  asked_tells k import args who l [] = inr refl
-  asked_tells k import args who l (refused e ∷ os) = inl (refl, refl)
+  asked_tells k import args who l [] = inr (record {
+    before = [];
+    last = call_note import args (store_at who) (stack_at p who) None;
+    call = record { import = import; args = args };
+    split = refl;
+    is = refl;
+    count = refl;
+  })
+  asked_tells k import args who l (refused e ∷ os) = inl ((refl, refl), omega arith)
   asked_tells k import args who l (given a ∷ os) =
       tested_tells k import args who (with_outcomes l os) a (fault_of (func_type_at p import).results (length (store_at who).memory) plan (in_start who) import a) (pause_of a.ticks)
 
@@ -119,18 +151,18 @@ module _ (p : Module) (x : Exports) (plan : Plan) where
   busy_tells (unwinds e i a) l (steps k d) = none_made l
   busy_tells (rewinds e i a sp) l (steps k d) = none_made l
   busy_tells (is_running task) l (asks k import args d) = asked_tells k import args (inside task d) l l.outcomes
-  busy_tells (unwinds e i a) l (asks k import args d) = inl refl
+  busy_tells (unwinds e i a) l (asks k import args d) = inl (refl, omega arith)
   busy_tells (rewinds e i a sp) l (asks k import args d) = by_import (nat_eq import i)
     where
       by_import : (b : Bool) → TurnTells (length l.outcomes) (if b then goes k [] (calling (rewinds e i a sp) d.store x.get_state [] (test_rewound d) l) else broken k 3 d.store)
       by_import true = none_made l
-      by_import false = inl refl
+      by_import false = inl (refl, omega arith)
   busy_tells (is_running task) l (returns k results s) = back_tells k task results s l
   busy_tells (unwinds e i a) l (returns k results s) = none_made l
-  busy_tells (rewinds e i a sp) l (returns k results s) = inl refl
-  busy_tells (is_running task) l (traps k trap s) = inl refl
-  busy_tells (unwinds e i a) l (traps k trap s) = inl refl
-  busy_tells (rewinds e i a sp) l (traps k trap s) = inl refl
+  busy_tells (rewinds e i a sp) l (returns k results s) = inl (refl, omega arith)
+  busy_tells (is_running task) l (traps k trap s) = inl (refl, omega arith)
+  busy_tells (unwinds e i a) l (traps k trap s) = inl (refl, omega arith)
+  busy_tells (rewinds e i a sp) l (traps k trap s) = inl (refl, omega arith)
   busy_tells (is_running task) l stuck = tt
   busy_tells (unwinds e i a) l stuck = tt
   busy_tells (rewinds e i a sp) l stuck = tt
@@ -141,14 +173,14 @@ module _ (p : Module) (x : Exports) (plan : Plan) where
     where
       by_state : (b : Bool) → TurnTells (length l.outcomes) (if b then goes k [] (calling (unwinds e i a) s x.stop_unwind [] pause_there l) else broken k 2 s)
       by_state true = none_made l
-      by_state false = inl refl
+      by_state false = inl (refl, omega arith)
   back_aside k (unwinds e i a) pause_there l results s = ((refl, tt), omega arith)
   back_aside k (rewinds e i a sp) call_again l results s = none_made l
   back_aside k (rewinds e i a sp) (test_rewound c) l results s = by_state (is_state 2 results)
     where
       by_state : (b : Bool) → TurnTells (length l.outcomes) (if b then goes k [] (calling (rewinds e i a sp) s x.stop_rewind [] (give_answer c) l) else broken k 4 s)
       by_state true = none_made l
-      by_state false = inl refl
+      by_state false = inl (refl, omega arith)
   back_aside k (rewinds e i a sp) (give_answer c) l results s = ((refl, tt), omega arith)
   back_aside k (is_running task) th l results s = tt
   back_aside k (unwinds e i a) call_again l results s = tt
@@ -160,9 +192,9 @@ module _ (p : Module) (x : Exports) (plan : Plan) where
 
   aside_tells : (ph : Phase) (th : Then) (l : Left) (o : Next) → TurnTells (length l.outcomes) (aside_step p x plan ph th l o)
   aside_tells ph th l (steps k d) = none_made l
-  aside_tells ph th l (asks k import args d) = inl refl
+  aside_tells ph th l (asks k import args d) = inl (refl, omega arith)
   aside_tells ph th l (returns k results s) = back_aside k ph th l results s
-  aside_tells ph th l (traps k trap s) = inl refl
+  aside_tells ph th l (traps k trap s) = inl (refl, omega arith)
   aside_tells ph th l stuck = tt
 
   enters_tell : (ph : Phase) (e : Entry) (s : Store) (l : Left) (o : Option Func) → TurnTells (length l.outcomes) (busy_enters ph e s l o)
@@ -213,8 +245,8 @@ module _ (p : Module) (x : Exports) (plan : Plan) where
   behind_live left es fs u (calling ph s f args th l) h e t = let c = calls_on es fs in let z = t.1 in (live_on es fs h t.0, omega arith)
   behind_live left es fs u (aside ph d th l) h e t = let c = calls_on es fs in let z = t.1 in (live_on es fs h t.0, omega arith)
   behind_live left es fs u (entering ph y s l) h e t = let c = calls_on es fs in let z = t.1 in (live_on es fs h t.0, omega arith)
-  behind_live left es fs u (over s) h e (inl t) = inl (ends_on es fs h t)
-  behind_live left es fs u (over s) h e (inr t) = let c = calls_on es fs in inr (omega arith)
+  behind_live left es fs u (over s) h e (inl t) = let c = calls_on es fs in let z = t.1 in inl (ends_on es fs h t.0, omega arith)
+  behind_live left es fs u (over s) h e (inr t) = inr (stands_on (left_count u) left es fs e t)
 
   pub over_still : (count n : ℕ) (s : Store) → run_with (protocol p x plan) count n (over s) ≡ still (over s)
   over_still zero n s = refl
@@ -264,11 +296,11 @@ module _ (p : Module) (x : Exports) (plan : Plan) where
       halted s e = subst (λ (v : Held). run (protocol p x plan) n v ≡ still v) (sym e) (over_still n n s)
 
   pub begun_tells : (start : Option ℕ) (l : Left) (o : Opening) → Tells (length l.outcomes) (held_begun start l o).events (held_begun start l o).last
-  begun_tells start l (fails_as e) = inl refl
+  begun_tells start l (fails_as e) = inl (refl, omega arith)
   begun_tells None l (opens s) = on_tells s l l.entries
   begun_tells (Some f) l (opens s) = none_made l
 
--- Of a run under the protocol: where it is over its notes end, or one more call was made than there are outcomes; else no note is an end.
+-- Of a run under the protocol: where it is over its notes end, or stand at a call that no outcome is left for; else no note is an end.
 pub protocol_tells : (p : Module) (plan : Plan) (os : List Outcome) (n : ℕ) → Tells (length os) (Protocol p plan os n).events (Protocol p plan os n).last
 protocol_tells p plan os n =
     after_tells p (exports_of p) plan (length os) n (held_begun p.start (all_left plan os) (opening p plan.globals)) (begun_tells p (exports_of p) plan p.start (all_left plan os) (opening p plan.globals))

@@ -1,6 +1,9 @@
 pub mod AloneLines
+pub mod CallLists
+pub mod Completing
 pub mod Counting
 pub mod Meeting
+pub mod Merging
 pub mod Rows
 pub mod Shows
 pub mod Stories

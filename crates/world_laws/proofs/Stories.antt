@@ -27,7 +27,7 @@ use Rattle.slot_laws.proofs.Closed.{some_list}
 use Rattle.run_laws.proofs.Growing.{compared_lower, pauses_lower}
 use Rattle.run_laws.proofs.Ending.{expected_end_last}
 use Rattle.world_laws.specs.Originals.{StandsIn, MayRun, new_calls, Orderly, NoneIgnored, SameMoment, StoriesOfOriginals}
-use Rattle.world_laws.proofs.Counting.{Live, Ends, Tells, protocol_tells}
+use Rattle.world_laws.proofs.Counting.{Live, Ends, Tells, stands_calls, protocol_tells}
 use Rattle.world_laws.proofs.Tails.{story_calls}
 
 pub none_ignored : NoneIgnored
@@ -213,8 +213,8 @@ module _ (o : Original) (p : Module) (os : List Outcome) (which : List Bool) whe
     told (calling ph s f args th l) e t few = cut (calling ph s f args th l) e t.0
     told (aside ph c th l) e t few = cut (aside ph c th l) e t.0
     told (entering ph y s l) e t few = cut (entering ph y s l) e t.0
-    told (over s) e (inl t) few = at_end t
-    told (over s) e (inr t) few = let no_way : ⊥ = omega arith in absurd no_way
+    told (over s) e (inl t) few = at_end t.0
+    told (over s) e (inr t) few = let z = stands_calls (length os) (P N) t in let no_way : ⊥ = omega arith in absurd no_way
 
 pub stories_of_originals : StoriesOfOriginals
 stories_of_originals o w os st may fits enough ord =

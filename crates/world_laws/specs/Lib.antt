@@ -1,2 +1,3 @@
 pub mod AloneLines
+pub mod Existing
 pub mod Originals

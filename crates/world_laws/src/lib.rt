@@ -6,9 +6,11 @@
 #![tactic(auto)]
 
 mod alone_laws;
+mod ending_laws;
 mod original_laws;
 
 pub use alone_laws::own_lines_are_those_alone;
+pub use ending_laws::{stories_end, worlds_end};
 pub use original_laws::{
     none_ignored_is_orderly, stories_are_of_met_outcomes, stories_are_of_originals, worlds_are_of_originals,
 };
