@@ -2,6 +2,7 @@ pub mod AloneLines
 pub mod CallLists
 pub mod Completing
 pub mod Counting
+pub mod Determined
 pub mod Meeting
 pub mod Merging
 pub mod Rows

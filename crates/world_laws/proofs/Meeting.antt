@@ -83,42 +83,37 @@ meets_same w v same import args lines ds o lines' ds' h =
 
 -- ---- the calls of a turn
 
--- so many outcomes in range stand before these
-abbrev pub Takes : ℕ → List Outcome → List Outcome → Type 0
-Takes n os rest = (used : List Outcome) × (os ≡ used ++ rest) × (length used ≡ n) × All OutcomeFits used
+-- So many outcomes stand before these; where the answer lines are in range, so are these outcomes, and the lines that are left.
+abbrev pub Takes : List AnswerLine → ℕ → List Outcome → List Outcome → List AnswerLine → Type 0
+Takes lines n os rest left = (used : List Outcome) × (os ≡ used ++ rest) × (length used ≡ n) × (AnswersFit lines → All OutcomeFits used × AnswersFit left)
 
-takes_on : (i j n : ℕ) (os mid rest : List Outcome) → n ≡ i + j → Takes i os mid → Takes j mid rest → Takes n os rest
-takes_on i j n os mid rest e a b = (
+takes_on : (i j n : ℕ) (os mid rest : List Outcome) (lines between left : List AnswerLine) → n ≡ i + j → Takes lines i os mid between → Takes between j mid rest left → Takes lines n os rest left
+takes_on i j n os mid rest lines between left e a b = (
   a.0 ++ b.0,
   a.1 ∙ ap (λ (xs : List Outcome). a.0 ++ xs) b.1 ∙ sym (append_assoc a.0 b.0 rest),
   omega (arith, length-append a.0 b.0, a.2, b.2),
-  All-append OutcomeFits a.0 b.0 a.3 b.3,
+  λ fit. let f = a.3 fit in let g = b.3 f.1 in (All-append OutcomeFits a.0 b.0 f.0 g.0, g.1),
 )
 
 pub calls_take : (w : Program) (xs : List Note) (os : List Outcome) (lines : List AnswerLine) (ds : List Device) (os' : List Outcome) (lines' : List AnswerLine) (ds' : List Device)
-    → CallsMeet w xs os lines ds os' lines' ds' → AnswersFit lines → Takes (new_calls xs) os os' × AnswersFit lines'
-calls_take w [] os lines ds os' lines' ds' h fit = (([], sym h.0, refl, All-nil OutcomeFits), subst AnswersFit (sym h.1) fit)
-calls_take w (x ∷ xs) os lines ds os' lines' ds' h fit = by_call (λ os lines ds h fit. calls_take w xs os lines ds os' lines' ds' h fit) (call_in x.event) h
+    → CallsMeet w xs os lines ds os' lines' ds' → Takes lines (new_calls xs) os os' lines'
+calls_take w [] os lines ds os' lines' ds' h = ([], sym h.0, refl, λ fit. (All-nil OutcomeFits, subst AnswersFit (sym h.1) fit))
+calls_take w (x ∷ xs) os lines ds os' lines' ds' h = by_call (λ os lines ds h. calls_take w xs os lines ds os' lines' ds' h) (call_in x.event) h
   where
-    abbrev Rest : List Outcome → List AnswerLine → List Device → Type 0
-    Rest o l d = CallsMeet w xs o l d os' lines' ds'
-
-    by_call : ((os : List Outcome) (lines : List AnswerLine) (ds : List Device) → Rest os lines ds → AnswersFit lines → Takes (new_calls xs) os os' × AnswersFit lines')
-        → (c : Option Call) → NoteMeets w c os lines ds (λ o l d. CallsMeet w xs o l d os' lines' ds') → Takes (one_if c + new_calls xs) os os' × AnswersFit lines'
+    by_call : ((os : List Outcome) (lines : List AnswerLine) (ds : List Device) → CallsMeet w xs os lines ds os' lines' ds' → Takes lines (new_calls xs) os os' lines')
+        → (c : Option Call) → NoteMeets w c os lines ds (λ o l d. CallsMeet w xs o l d os' lines' ds') → Takes lines (one_if c + new_calls xs) os os' lines'
     by_call on None h =
-        let r = on os lines ds h fit in
         let z : new_calls xs ≡ 0 + new_calls xs = omega arith in
-        (subst (λ (n : ℕ). Takes n os os') z r.0, r.1)
+        subst (λ (n : ℕ). Takes lines n os os' lines') z (on os lines ds h)
     by_call on (Some call) h =
-        let f = meets_fit w call.import call.args lines ds h.0 h.2 h.3 h.5 fit in
-        let r = on h.1 h.2 h.3 h.6 f.1 in
-        let one : Takes 1 os h.1 = (h.0 ∷ [], h.4, refl, All-cons OutcomeFits h.0 [] f.0 (All-nil OutcomeFits)) in
-        (takes_on 1 (new_calls xs) (1 + new_calls xs) os h.1 os' refl one r.0, r.1)
+        let one : Takes lines 1 os h.1 h.2 =
+        (h.0 ∷ [], h.4, refl, λ fit. let f = meets_fit w call.import call.args lines ds h.0 h.2 h.3 h.5 fit in (All-cons OutcomeFits h.0 [] f.0 (All-nil OutcomeFits), f.1)) in
+        takes_on 1 (new_calls xs) (1 + new_calls xs) os h.1 os' lines h.2 lines' refl one (on h.1 h.2 h.3 h.6)
 
 -- ---- all calls of all programs
 
 abbrev pub Met : Actor → Type 0
-Met a = AnswersFit a.answers → (rest : List Outcome) × Takes (new_calls a.notes) a.outcomes rest
+Met a = (rest : List Outcome) × (left : List AnswerLine) × Takes a.answers (new_calls a.notes) a.outcomes rest left
 
 abbrev pub EachMet : List Actor → Type 0
 EachMet [] = Unit {0}
@@ -142,7 +137,7 @@ over_met [] h = tt
 over_met (a ∷ acts) h = (one (All-head (λ (a : Actor). a.notes ≡ []) a acts h), over_met acts (All-tail (λ (a : Actor). a.notes ≡ []) a acts h))
   where
     one : a.notes ≡ [] → Met a
-    one e fit = (a.outcomes, ([], refl, sym (ap new_calls e), All-nil OutcomeFits))
+    one e = (a.outcomes, a.answers, ([], refl, sym (ap new_calls e), λ fit. (All-nil OutcomeFits, fit)))
 
 -- Where a world's run is over, each program's calls have met outcomes in range.
 pub events_met : (programs : List Program) (detaches : List Detach) (number : ℕ) (acts : List Actor) (ds : List Device) (lines : List Line) (last : List Actor) (ds' : List Device)
@@ -152,12 +147,15 @@ events_met programs detaches number acts ds lines last ds' (an_event {actors' = 
     let behind : EachMet acts' = events_met programs detaches (suc number) acts' ds1 more last ds' rest over in
     let b : Actor = record { due = play.a.due + put_off (turn_of play.a.notes); notes = behind_turn play.a.notes; outcomes = play.outcomes; answers = play.answers } in
     let each : EachMet (slice_set acts play.i b) = subst EachMet play.after behind in
-    met_before acts play.i play.a b play.next.there
-    (λ fit.
-    let t = calls_take play.w (turn_of play.a.notes) play.a.outcomes play.a.answers (detached number detaches ds) play.outcomes play.answers ds1 play.calls fit in
-    let on = met_there acts play.i play.a b play.next.there each t.1 in
-    (on.0, takes_on (new_calls (turn_of play.a.notes)) (new_calls (behind_turn play.a.notes)) (new_calls play.a.notes) play.a.outcomes play.outcomes on.0 (turn_calls play.a.notes) t.0 on.1))
-    each
+    let t = calls_take play.w (turn_of play.a.notes) play.a.outcomes play.a.answers (detached number detaches ds) play.outcomes play.answers ds1 play.calls in
+    let on = met_there acts play.i play.a b play.next.there each in
+    let here : Met play.a = (
+      on.0,
+      on.1,
+      takes_on (new_calls (turn_of play.a.notes)) (new_calls (behind_turn play.a.notes)) (new_calls play.a.notes) play.a.outcomes play.outcomes on.0
+          play.a.answers play.answers on.1 (turn_calls play.a.notes) t on.2,
+    ) in
+    met_before acts play.i play.a b play.next.there here each
 
 -- ---- the same calls with fewer outcomes behind them
 

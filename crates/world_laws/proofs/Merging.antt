@@ -51,7 +51,7 @@ calls_with w none (x ∷ xs) os lines d os' lines' d' h z ds = by_call (λ os li
 
 -- ---- the next program
 
-size : List Actor → ℕ
+abbrev size : List Actor → ℕ
 size [] = 0
 size (a ∷ acts) = length a.notes + size acts
 

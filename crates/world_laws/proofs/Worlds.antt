@@ -15,7 +15,7 @@ use Rattle.world_laws.proofs.Stories.{stories_of_originals}
 use Rattle.world_laws.proofs.Tails.{story_tailed}
 use Rattle.world_laws.proofs.Rows.{Row, Rows, events_beside, over_beside}
 
-take_first : (us rest : List Outcome) (n : ℕ) → length us ≡ n → take n (us ++ rest) ≡ us
+pub take_first : (us rest : List Outcome) (n : ℕ) → length us ≡ n → take n (us ++ rest) ≡ us
 take_first [] rest zero e = refl
 take_first [] rest (suc n) e = let no_way : ⊥ = omega arith in absurd no_way
 take_first (u ∷ us) rest zero e = let no_way : ⊥ = omega arith in absurd no_way
@@ -29,17 +29,18 @@ starting : (o : Original) (w : Program) (a : Actor) → StandsIn o w → MayRun 
 starting o w a st may held meets ord =
     let same_answers : a.answers ≡ o.program.answers = held.starts.answers ∙ st.answers in
     let fit : AnswersFit a.answers = subst AnswersFit (sym same_answers) may.answers in
-    let t = meets fit in
-    let used : List Outcome = t.1.0 in
-    let rest : List Outcome = t.0 in
-    let os : a.outcomes ≡ used ++ rest = t.1.1 in
-    let len : length used ≡ new_calls a.notes = t.1.2 in
+    let t = meets.2 in
+    let used : List Outcome = t.0 in
+    let rest : List Outcome = meets.0 in
+    let os : a.outcomes ≡ used ++ rest = t.1 in
+    let len : length used ≡ new_calls a.notes = t.2 in
+    let in_range = t.3 fit in
     let is_met : met a ≡ used = ap (take (new_calls a.notes)) os ∙ take_first used rest (new_calls a.notes) len in
     let whole : a.notes ≡ protocol_story w (used ++ rest) = held.story ∙ ap (protocol_story w) os in
     let few : new_calls (protocol_story w (used ++ rest)) ≤ length used = let e = ap new_calls whole in omega (arith, len, e) in
     let story : a.notes ≡ protocol_story w used = whole ∙ story_tailed w used rest few in
     let enough : new_calls (protocol_story w used) ≤ length used = let e = ap new_calls story in omega (arith, len, e) in
-    let r = stories_of_originals o w used st may t.1.3 enough (subst (Orderly o) is_met ord) in
+    let r = stories_of_originals o w used st may in_range.0 enough (subst (Orderly o) is_met ord) in
     let least = may.fits.area.least in
     let rw_of = st.rewrites in
     let prints : AllZip (Prints o.program.looks) r.0 a.notes =

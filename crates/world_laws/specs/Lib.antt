@@ -1,3 +1,4 @@
 pub mod AloneLines
+pub mod Determined
 pub mod Existing
 pub mod Originals
