@@ -5,6 +5,7 @@ pub mod Counting
 pub mod Determined
 pub mod Meeting
 pub mod Merging
+pub mod Played
 pub mod Rows
 pub mod Shows
 pub mod Stories

@@ -7,10 +7,12 @@
 
 mod alone_laws;
 mod ending_laws;
+mod event_laws;
 mod original_laws;
 
 pub use alone_laws::own_lines_are_those_alone;
 pub use ending_laws::{met_outcomes_fix_lines, stories_end, worlds_end};
+pub use event_laws::runs_are_played_event_by_event;
 pub use original_laws::{
     none_ignored_is_orderly, stories_are_of_met_outcomes, stories_are_of_originals, worlds_are_of_originals,
 };
