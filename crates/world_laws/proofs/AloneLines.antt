@@ -1,15 +1,14 @@
 -- The events of a program without bound imports among others, alone.
-use Rattle.std.proofs.Common.{arith, ◌≡◌, ◌≤◌, ◌<◌, ◌+◌, ◌⊎◌, inl, inr, ℕ, zero, suc, List, [], ◌∷◌, ◌++◌, length, map, Option, Some, None, Bool, true, false, cond, eqb, eqb-true, All, refl, sym, ap, ◌∙◌, subst}
-use Rattle.std.specs.Prelude.{nat_eq, if◌then◌else◌, slice_get, slice_set}
-use Rattle.std.specs.List.{filter_map, cons_option, AllZip}
-use Rattle.std.specs.Option.{unwrap_or}
+use Rattle.std.proofs.Common.{arith, ◌≡◌, ◌≤◌, ◌<◌, ◌+◌, ◌⊎◌, inr, ℕ, zero, suc, List, [], ◌∷◌, ◌++◌, map, Option, Some, None, Bool, true, false, eqb, eqb-true, All, refl, sym, ap, ◌∙◌, subst}
+use Rattle.std.specs.Prelude.{if◌then◌else◌, slice_get, slice_set}
+use Rattle.std.specs.List.{cons_option, AllZip}
 use Rattle.std.proofs.lemmas.List.Elements.{All-nil, All-cons, All-head, All-tail}
 use Rattle.wa_types.specs.declared.values.Value.{Value}
 use Rattle.wa_model.specs.declared.answers.Detach.{Detach}
 use Rattle.wa_model.specs.Outside.{Call, AnswerLine, Event, Line}
 use Rattle.wa_model.specs.Plan.{Outcome}
 use Rattle.wa_model.specs.Blocking.{Note}
-use Rattle.wa_model.specs.World.{Device, detached, Program, name_at, import_names, Actor, MeetsLine, MeetsBound, Meets, turn_of, behind_turn, put_off, call_in, NoteMeets, CallsMeet, line_at, events_with_looks, turn_lines, HasNotes, IsNext, Plays, Events, no_event, an_event, IsOver, StartsHeld, Original, StartsOriginal}
+use Rattle.wa_model.specs.World.{Device, detached, Program, Actor, MeetsBound, Meets, turn_of, behind_turn, put_off, call_in, NoteMeets, CallsMeet, line_at, events_with_looks, turn_lines, Plays, Events, no_event, an_event, StartsHeld, Original, StartsOriginal}
 use Rattle.world_laws.specs.AloneLines.{Unbound, own_line, own_lines, OwnLinesAlone, OwnLinesBlocking}
 
 -- ---- lists
@@ -48,7 +47,7 @@ other_number : (i j : ℕ) → (i ≡ j → ⊥) → eqb i j ≡ false
 other_number i j d = by_test (eqb i j) refl
   where
     by_test : (b : Bool) → eqb i j ≡ b → b ≡ false
-    by_test true e = absurd (d (eqb-true i e))
+    by_test true e = absurd (d (eqb-true i j e))
     by_test false e = refl
 
 -- ---- lines
@@ -141,8 +140,7 @@ module _ (programs : List Program) (detaches : List Detach) (i : ℕ) (w : Progr
           ∙ own_of_self i play.a.due (events_with_looks play.w.looks (turn_of play.a.notes)) in
           let lines : own_lines i (first ++ more) ≡ turn_lines 0 play.w play.a ++ own_lines i more = own_on i first more ∙ ap (λ (ls : List Line). ls ++ own_lines i more) made in
           let rest : Events (play.w ∷ []) [] (suc n) (moved ∷ []) [] (own_lines i more) (r.0 ∷ []) [] = subst (λ (v : Program). Events (v ∷ []) [] (suc n) (moved ∷ []) [] (own_lines i more) (r.0 ∷ []) []) (sym is_w) r.2 in
-          let whole : Events (play.w ∷ []) [] n (play.a ∷ []) [] (own_lines i (first ++ more)) (r.0 ∷ []) [] = an_event alone rest lines in
-          (
+          let whole : Events (play.w ∷ []) [] n (play.a ∷ []) [] (own_lines i (first ++ more)) (r.0 ∷ []) [] = an_event alone rest lines in (
             r.0,
             r.1,
             subst (λ (v : Program). Events (v ∷ []) [] n (a ∷ []) [] (own_lines i (first ++ more)) (r.0 ∷ []) []) is_w
@@ -154,7 +152,7 @@ module _ (programs : List Program) (detaches : List Detach) (i : ℕ) (w : Progr
           only (suc j) b f = cc
 
       by_turn : (b : Bool) → eqb play.i i ≡ b → Alone a (first ++ more) last
-      by_turn true f = own (eqb-true play.i f)
+      by_turn true f = own (eqb-true play.i i f)
       by_turn false f = another (λ z. let g : eqb play.i i ≡ true = ap (λ (k : ℕ). eqb k i) z ∙ same_number i in let bad : true ≡ false = sym g ∙ f in cc)
 
   events_alone : (number : ℕ) (acts : List Actor) (ds : List Device) (lines : List Line) (last : List Actor) (ds' : List Device)

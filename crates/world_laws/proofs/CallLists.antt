@@ -1,7 +1,7 @@
 -- What the calls of notes meet depends on the list of calls alone.
-use Rattle.std.proofs.Common.{arith, ◌≡◌, ◌+◌, ◌≤◌, ℕ, zero, suc, List, [], ◌∷◌, ◌++◌, length, Option, Some, None, Bool, true, false, refl, sym, ap, ◌∙◌, subst, append_assoc, append-nil}
+use Rattle.std.proofs.Common.{arith, ◌≡◌, ◌+◌, suc, List, [], ◌∷◌, ◌++◌, length, Option, Some, None, Bool, true, false, refl, sym, ap, ◌∙◌, subst}
 use Rattle.std.specs.List.{filter_map, cons_option}
-use Rattle.wa_model.specs.Outside.{Call, AnswerLine, Event}
+use Rattle.wa_model.specs.Outside.{Call, AnswerLine}
 use Rattle.wa_model.specs.Plan.{Outcome}
 use Rattle.wa_model.specs.Blocking.{Note}
 use Rattle.wa_model.specs.World.{Device, Program, Meets, ends_turn, turn_of, behind_turn, call_in, NoteMeets, CallsMeet}
@@ -67,23 +67,20 @@ pub turn_split : (w : Program) (xs : List Note) (os : List Outcome) (lines : Lis
 turn_split w [] os lines ds os' lines' ds' h = (os, lines, ds, (refl, refl, refl), h)
 turn_split w (x ∷ xs) os lines ds os' lines' ds' h = by_end (λ os lines ds g. turn_split w xs os lines ds os' lines' ds' g) (ends_turn x.event)
   where
-    abbrev Parts : List Note → List Note → Type 0
-    Parts first second = (us : List Outcome) × (ls : List AnswerLine) × (es : List Device) × CallsMeet w first os lines ds us ls es × CallsMeet w second us ls es os' lines' ds'
-
     at_end : (c : Option Call) → NoteMeets w c os lines ds (λ o l d. CallsMeet w xs o l d os' lines' ds')
         → (us : List Outcome) × (ls : List AnswerLine) × (es : List Device) × NoteMeets w c os lines ds (λ o l d. CallsMeet w [] o l d us ls es) × CallsMeet w xs us ls es os' lines' ds'
     at_end None g = (os, lines, ds, (refl, refl, refl), g)
     at_end (Some c) g = (g.1, g.2, g.3, (g.0, g.1, g.2, g.3, g.4, g.5, (refl, refl, refl)), g.6)
 
-    abbrev On : Type 0
-    On = (os : List Outcome) (lines : List AnswerLine) (ds : List Device) → CallsMeet w xs os lines ds os' lines' ds'
-        → (us : List Outcome) × (ls : List AnswerLine) × (es : List Device) × CallsMeet w (turn_of xs) os lines ds us ls es × CallsMeet w (behind_turn xs) us ls es os' lines' ds'
-
-    further : On → (c : Option Call) → NoteMeets w c os lines ds (λ o l d. CallsMeet w xs o l d os' lines' ds')
+    further : ((os : List Outcome) (lines : List AnswerLine) (ds : List Device) → CallsMeet w xs os lines ds os' lines' ds'
+        → (us : List Outcome) × (ls : List AnswerLine) × (es : List Device) × CallsMeet w (turn_of xs) os lines ds us ls es × CallsMeet w (behind_turn xs) us ls es os' lines' ds')
+        → (c : Option Call) → NoteMeets w c os lines ds (λ o l d. CallsMeet w xs o l d os' lines' ds')
         → (us : List Outcome) × (ls : List AnswerLine) × (es : List Device) × NoteMeets w c os lines ds (λ o l d. CallsMeet w (turn_of xs) o l d us ls es) × CallsMeet w (behind_turn xs) us ls es os' lines' ds'
     further on None g = on os lines ds g
     further on (Some c) g = let r = on g.1 g.2 g.3 g.6 in (r.0, r.1, r.2, (g.0, g.1, g.2, g.3, g.4, g.5, r.3), r.4)
 
-    by_end : On → (b : Bool) → Parts (if b then x ∷ [] else x ∷ turn_of xs) (if b then xs else behind_turn xs)
+    by_end : ((os : List Outcome) (lines : List AnswerLine) (ds : List Device) → CallsMeet w xs os lines ds os' lines' ds'
+        → (us : List Outcome) × (ls : List AnswerLine) × (es : List Device) × CallsMeet w (turn_of xs) os lines ds us ls es × CallsMeet w (behind_turn xs) us ls es os' lines' ds')
+        → (b : Bool) → (us : List Outcome) × (ls : List AnswerLine) × (es : List Device) × CallsMeet w (if b then x ∷ [] else x ∷ turn_of xs) os lines ds us ls es × CallsMeet w (if b then xs else behind_turn xs) us ls es os' lines' ds'
     by_end on true = at_end (call_in x.event) h
     by_end on false = further on (call_in x.event) h

@@ -1,16 +1,15 @@
 -- The outcomes that the calls of a program without bound imports meet, found one after another.
-use Rattle.std.proofs.Common.{arith, ◌≡◌, ◌+◌, ◌≤◌, ◌⊎◌, inl, inr, ℕ, zero, suc, List, [], ◌∷◌, ◌++◌, length, Option, Some, None, Bool, true, false, refl, sym, ap, ◌∙◌, subst, append_assoc, append-nil, length-append}
-use Rattle.std.specs.Prelude.{MatchBool, slice_get}
-use Rattle.std.specs.Option.{unwrap_or}
+use Rattle.std.proofs.Common.{arith, ◌≡◌, ◌≤◌, ◌⊎◌, inl, inr, ℕ, suc, List, [], ◌∷◌, ◌++◌, length, Option, Bool, true, false, refl, sym, ap, ◌∙◌, subst, append_assoc, append-nil, length-append}
+use Rattle.std.specs.Prelude.{MatchBool}
 use Rattle.std.specs.List.{cons_option}
 use Rattle.wa_types.specs.Validity.{same_name}
 use Rattle.wa_model.specs.declared.events.End.{End}
 use Rattle.wa_model.specs.declared.events.End.TheVariants.{NoAnswer, OtherImport}
-use Rattle.wa_model.specs.Outside.{Call, AnswerLine, Event, called}
+use Rattle.wa_model.specs.Outside.{Call, AnswerLine, Event}
 use Rattle.wa_model.specs.Plan.{Outcome, given, refused}
 use Rattle.wa_model.specs.Blocking.{Note}
-use Rattle.wa_model.specs.World.{Device, Program, name_at, import_names, MeetsLine, MeetsBound, Meets, call_in, CallsMeet, protocol_story}
-use Rattle.world_laws.specs.Originals.{one_if, new_calls}
+use Rattle.wa_model.specs.World.{Program, name_at, import_names, MeetsLine, MeetsBound, Meets, call_in, CallsMeet, protocol_story}
+use Rattle.world_laws.specs.Originals.{new_calls}
 use Rattle.world_laws.specs.AloneLines.{Unbound}
 use Rattle.world_laws.specs.Existing.{StoriesEnd}
 use Rattle.world_laws.proofs.Counting.{Stands, stands_calls}
@@ -19,7 +18,7 @@ use Rattle.world_laws.proofs.CallLists.{call_list, ListMeet, list_calls, list_on
 
 -- lists that end in one element
 last_same : {X : Type 0} (xs ys : List X) (x y : X) → xs ++ x ∷ [] ≡ ys ++ y ∷ [] → (xs ≡ ys) × (x ≡ y)
-last_same [] [] x y e = (refl, first x y e)
+last_same {X} [] [] x y e = (refl, first x y e)
   where
     first : (a b : X) → a ∷ [] ≡ b ∷ [] → a ≡ b
     first a b e = cc
@@ -40,6 +39,9 @@ one_more : (cs ds : List Call) (n : ℕ) → length ds ≡ suc n → length cs �
 one_more cs ds n e f [] g = let z = ap length g in let l = length-append cs [] in let no_way : ⊥ = omega arith in absurd no_way
 one_more cs ds n e f (c ∷ []) g = (c, g)
 one_more cs ds n e f (c ∷ d ∷ more) g = let z = ap length g in let l = length-append cs (c ∷ d ∷ more) in let no_way : ⊥ = omega arith in absurd no_way
+
+abbrev listed : Event → List Call → List Call
+listed x rest = cons_option (call_in x) rest
 
 module _ (w : Program) (none : Unbound w) where
   abbrev Whole : Type 0
@@ -66,9 +68,6 @@ module _ (w : Program) (none : Unbound w) where
       ap call_list f.second ∙ list_on f.before (f.there ∷ f.more) ∙ ap (λ (xs : List Call). call_list f.before ++ xs) there
       ∙ sym (append_assoc (call_list f.before) (d ∷ []) (call_list f.more))
       ∙ ap (λ (xs : List Call). xs ++ call_list f.more) first
-    where
-      abbrev listed : Event → List Call → List Call
-      listed x rest = cons_option (call_in x) rest
 
   -- a refused call is the last
   refuses : (pre : List Outcome) (e : End) (cs : List Call) (c : Call) (lines left : List AnswerLine) → Met cs pre lines → call_list (protocol_story w pre) ≡ cs ++ c ∷ []
@@ -90,46 +89,37 @@ module _ (w : Program) (none : Unbound w) where
   goes_on [] pre cs c h is = refuses pre (NoAnswer c.import) cs c [] [] h is (refl, refl)
   goes_on (l ∷ ls) pre cs c h is = by_name (λ pre cs c h is. goes_on ls pre cs c h is) (same_name l.import (name_at (import_names w.source) c.import)) refl
     where
-      abbrev name : List ℕ
-      name = name_at (import_names w.source) c.import
-
-      abbrev On : Type 0
-      On = (pre : List Outcome) (cs : List Call) (c : Call) → Met cs pre ls → call_list (protocol_story w pre) ≡ cs ++ c ∷ [] → Whole
-
-      line : (b : Bool) (o : Outcome) (left : List AnswerLine) → same_name l.import name ≡ b
-          → MatchBool b ((o ≡ given l.answer) × (left ≡ ls)) ((o ≡ refused (OtherImport c.import l.import)) × (left ≡ l ∷ ls)) → MeetsLine c.import name (l ∷ ls) o left
+      line : (b : Bool) (o : Outcome) (left : List AnswerLine) → same_name l.import (name_at (import_names w.source) c.import) ≡ b
+          → MatchBool b ((o ≡ given l.answer) × (left ≡ ls)) ((o ≡ refused (OtherImport c.import l.import)) × (left ≡ l ∷ ls)) → MeetsLine c.import (name_at (import_names w.source) c.import) (l ∷ ls) o left
       line b o left e m = subst (λ (b : Bool). MatchBool b ((o ≡ given l.answer) × (left ≡ ls)) ((o ≡ refused (OtherImport c.import l.import)) × (left ≡ l ∷ ls))) (sym e) m
 
-      by_name : On → (b : Bool) → same_name l.import name ≡ b → Whole
+      by_name : ((pre : List Outcome) (cs : List Call) (c : Call) → Met cs pre ls → call_list (protocol_story w pre) ≡ cs ++ c ∷ [] → Whole) → (b : Bool) → same_name l.import (name_at (import_names w.source) c.import) ≡ b → Whole
       by_name on false e = refuses pre (OtherImport c.import l.import) cs c (l ∷ ls) (l ∷ ls) h is (line false (refused (OtherImport c.import l.import)) (l ∷ ls) e (refl, refl))
-      by_name on true e = by_way (story_forks w pre (o ∷ []))
+      by_name on true e = by_way (story_forks w pre (given l.answer ∷ []))
         where
-          o : Outcome
-          o = given l.answer
+          met : Met (cs ++ c ∷ []) (pre ++ given l.answer ∷ []) ls
+          met = list_more w cs c pre (given l.answer) w.answers (l ∷ ls) ls [] [] [] h (meets c (l ∷ ls) ls (given l.answer) (line true (given l.answer) ls e (refl, refl)))
 
-          met : Met (cs ++ c ∷ []) (pre ++ o ∷ []) ls
-          met = list_more w cs c pre o w.answers (l ∷ ls) ls [] [] [] h (meets c (l ∷ ls) ls o (line true o ls e (refl, refl)))
+          len : length (pre ++ given l.answer ∷ []) ≡ length (cs ++ c ∷ [])
+          len = list_length w (cs ++ c ∷ []) (pre ++ given l.answer ∷ []) w.answers ls [] [] met
 
-          len : length (pre ++ o ∷ []) ≡ length (cs ++ c ∷ [])
-          len = list_length w (cs ++ c ∷ []) (pre ++ o ∷ []) w.answers ls [] [] met
-
-          by_count : (more : List Note) → call_list (protocol_story w (pre ++ o ∷ [])) ≡ (cs ++ c ∷ []) ++ call_list more
-              → (new_calls (protocol_story w (pre ++ o ∷ [])) ≤ length (pre ++ o ∷ [])) ⊎ Stands (length (pre ++ o ∷ [])) (protocol_story w (pre ++ o ∷ [])) → Whole
+          by_count : (more : List Note) → call_list (protocol_story w (pre ++ given l.answer ∷ [])) ≡ (cs ++ c ∷ []) ++ call_list more
+              → (new_calls (protocol_story w (pre ++ given l.answer ∷ [])) ≤ length (pre ++ given l.answer ∷ [])) ⊎ Stands (length (pre ++ given l.answer ∷ [])) (protocol_story w (pre ++ given l.answer ∷ [])) → Whole
           by_count more split (inl few) =
-              let all = list_calls (protocol_story w (pre ++ o ∷ [])) in
+              let all = list_calls (protocol_story w (pre ++ given l.answer ∷ [])) in
               let parts = ap length split ∙ length-append (cs ++ c ∷ []) (call_list more) in
               let n = list_calls more in
               let quiet : new_calls more ≡ 0 = omega (arith, all, parts, n, few, len) in
-              whole (pre ++ o ∷ []) (cs ++ c ∷ []) ls met (split ∙ ap (λ (xs : List Call). (cs ++ c ∷ []) ++ xs) (none_listed more quiet) ∙ append-nil (cs ++ c ∷ []))
+              whole (pre ++ given l.answer ∷ []) (cs ++ c ∷ []) ls met (split ∙ ap (λ (xs : List Call). (cs ++ c ∷ []) ++ xs) (none_listed more quiet) ∙ append-nil (cs ++ c ∷ []))
           by_count more split (inr stands) =
-              let all = list_calls (protocol_story w (pre ++ o ∷ [])) in
-              let n = stands_calls (length (pre ++ o ∷ [])) (protocol_story w (pre ++ o ∷ [])) stands in
-              let r = one_more (cs ++ c ∷ []) (call_list (protocol_story w (pre ++ o ∷ []))) (length (pre ++ o ∷ [])) (all ∙ n) (sym len) (call_list more) split in
-              on (pre ++ o ∷ []) (cs ++ c ∷ []) r.0 met r.1
+              let all = list_calls (protocol_story w (pre ++ given l.answer ∷ [])) in
+              let n = stands_calls (length (pre ++ given l.answer ∷ [])) (protocol_story w (pre ++ given l.answer ∷ [])) stands in
+              let r = one_more (cs ++ c ∷ []) (call_list (protocol_story w (pre ++ given l.answer ∷ []))) (length (pre ++ given l.answer ∷ [])) (all ∙ n) (sym len) (call_list more) split in
+              on (pre ++ given l.answer ∷ []) (cs ++ c ∷ []) r.0 met r.1
 
-          by_way : (protocol_story w (pre ++ o ∷ []) ≡ protocol_story w pre) ⊎ StoryForks (o ∷ []) (length pre) (protocol_story w (pre ++ o ∷ [])) (protocol_story w pre) → Whole
-          by_way (inl same) = whole (pre ++ o ∷ []) (cs ++ c ∷ []) ls met (ap call_list same ∙ is)
-          by_way (inr f) = by_count f.more (called_next pre o cs c is f) (story_counts w (pre ++ o ∷ []))
+          by_way : (protocol_story w (pre ++ given l.answer ∷ []) ≡ protocol_story w pre) ⊎ StoryForks (given l.answer ∷ []) (length pre) (protocol_story w (pre ++ given l.answer ∷ [])) (protocol_story w pre) → Whole
+          by_way (inl same) = whole (pre ++ given l.answer ∷ []) (cs ++ c ∷ []) ls met (ap call_list same ∙ is)
+          by_way (inr f) = by_count f.more (called_next pre (given l.answer) cs c is f) (story_counts w (pre ++ given l.answer ∷ []))
 
   from_start : (new_calls (protocol_story w []) ≤ 0) ⊎ Stands 0 (protocol_story w []) → Whole
   from_start (inl few) = whole [] [] w.answers (refl, refl, refl) (none_listed (protocol_story w []) (omega arith))

@@ -1,19 +1,18 @@
 -- How many calls a run under the protocol makes, and that it is over only behind an end or a call that no outcome is left for.
-use Rattle.std.proofs.Common.{arith, ◌≡◌, ◌≤◌, ◌+◌, ◌-◌, ◌⊎◌, inl, inr, ℕ, zero, suc, List, [], ◌∷◌, ◌++◌, length, Option, Some, None, Bool, true, false, cond, ltb, eqb, refl, sym, ap, ◌∙◌, subst, append_assoc}
+use Rattle.std.proofs.Common.{arith, ◌≡◌, ◌≤◌, ◌+◌, ◌-◌, ◌⊎◌, inl, inr, ℕ, zero, suc, List, [], ◌∷◌, ◌++◌, length, Option, Some, None, Bool, true, false, refl, sym, ap, ◌∙◌, subst, append_assoc}
 use Rattle.std.specs.Prelude.{nat_lt, nat_eq, if◌then◌else◌}
 use Rattle.wa_types.specs.declared.values.Value.{Value}
 use Rattle.wa_types.specs.Syntax.{Func, Module}
 use Rattle.wa_types.specs.Modules.{func_imports, func_type_at, defined_at}
 use Rattle.wa_model.specs.declared.events.End.{End}
-use Rattle.wa_model.specs.declared.events.End.TheVariants.{Broken}
-use Rattle.wa_model.specs.Outside.{Call, Answer, Event, called, answered, paused, returned, ended}
+use Rattle.wa_model.specs.Outside.{Call, Answer, Event, called, answered, returned}
 use Rattle.wa_model.specs.Machine.{Turn, stops, goes, Ran, after, still, pay, run_with, run}
 use Rattle.wa_model.specs.Store.{Store}
 use Rattle.wa_model.specs.Step.{Next, steps, asks, returns, traps, stuck, step}
 use Rattle.wa_model.specs.Plan.{Entry, Plan, Outcome, given, refused}
 use Rattle.wa_model.specs.Instantiation.{Opening, fails_as, opens, opening}
 use Rattle.wa_model.specs.Blocking.{Note, note, call_note, value_of_results, fault_of, pause_of, poked, done_notes, Task, the_start, an_entry, Left, with_outcomes, Asker, inside, outermost, store_at, stack_at, in_start, next_entry, all_left}
-use Rattle.wa_model.specs.Protocol.{Exports, exports_of, Phase, is_running, unwinds, rewinds, Then, give_zero, test_unwound, pause_there, call_again, test_rewound, give_answer, Held, free, starting, busy, calling, aside, entering, over, broken, held_on, held_back, held_given, held_ends, held_pauses, held_tested, held_asked, busy_step, is_state, aside_back, aside_step, busy_enters, held_next, aside_called, held_start, protocol, held_started, held_begun, Protocol}
+use Rattle.wa_model.specs.Protocol.{Exports, exports_of, Phase, is_running, unwinds, rewinds, Then, give_zero, test_unwound, pause_there, call_again, test_rewound, give_answer, Held, free, starting, busy, calling, aside, entering, over, broken, held_on, held_back, held_given, held_pauses, held_tested, held_asked, busy_step, is_state, aside_back, aside_step, busy_enters, held_next, aside_called, held_start, protocol, held_begun, Protocol}
 use Rattle.wa_model.specs.World.{call_in, is_end}
 use Rattle.world_laws.specs.Originals.{one_if, new_calls}
 

@@ -1,18 +1,18 @@
 -- Two runs of a world in which the programs' calls meet the same outcomes are one.
-use Rattle.std.proofs.Common.{arith, ◌≡◌, ◌+◌, ◌≤◌, ◌<◌, ◌^◌, ◌⊎◌, inl, inr, ℕ, zero, suc, List, [], ◌∷◌, ◌++◌, length, take, drop, map, Option, Some, None, Bool, true, false, All, refl, sym, ap, ◌∙◌, subst, ⊎_elim, length-take, take-append-drop}
+use Rattle.std.proofs.Common.{arith, ◌≡◌, ◌+◌, ◌≤◌, ◌<◌, ◌^◌, ◌⊎◌, inl, inr, ℕ, zero, suc, List, [], ◌∷◌, ◌++◌, length, take, Option, Some, None, Bool, true, false, refl, sym, ap, ◌∙◌, subst}
 use Rattle.std.specs.Prelude.{MatchBool, slice_get, slice_set}
 use Rattle.std.specs.List.{AllZip, list_any}
 use Rattle.std.specs.Option.{unwrap_or}
-use Rattle.std.proofs.lemmas.List.Elements.{All-nil, All-cons, All-head, All-tail}
+use Rattle.std.proofs.lemmas.List.Elements.{All-cons, All-head, All-tail}
 use Rattle.wa_types.specs.declared.values.Value.{Value}
 use Rattle.wa_types.specs.Validity.{same_name}
 use Rattle.wa_model.specs.declared.answers.Detach.{Detach}
 use Rattle.wa_model.specs.declared.events.End.{End}
-use Rattle.wa_model.specs.declared.events.End.TheVariants.{OtherImport, NoAnswer, DeviceFault, NoDevice}
-use Rattle.wa_model.specs.Outside.{Answer, Call, AnswerLine, Event, Line}
+use Rattle.wa_model.specs.declared.events.End.TheVariants.{OtherImport, DeviceFault, NoDevice}
+use Rattle.wa_model.specs.Outside.{Answer, Call, AnswerLine, Line}
 use Rattle.wa_model.specs.Plan.{Outcome, given, refused, ValueFits}
 use Rattle.wa_model.specs.Blocking.{Note}
-use Rattle.wa_model.specs.World.{Reply, Asked, Device, is_named, detached, journaled, Program, base_names, import_names, name_at, MeetsDevice, MeetsLine, MeetsBound, Meets, turn_of, behind_turn, put_off, call_in, NoteMeets, CallsMeet, turn_lines, Actor, HasNotes, IsNext, Plays, Events, no_event, an_event, IsOver, protocol_story, StartsHeld}
+use Rattle.wa_model.specs.World.{Reply, Device, is_named, detached, journaled, Program, base_names, import_names, name_at, MeetsDevice, MeetsLine, MeetsBound, Meets, turn_of, behind_turn, put_off, call_in, NoteMeets, CallsMeet, turn_lines, Actor, HasNotes, IsNext, Plays, Events, no_event, an_event, IsOver, protocol_story, StartsHeld}
 use Rattle.world_laws.specs.Originals.{one_if, new_calls, met}
 use Rattle.world_laws.specs.Determined.{MetFixLines}
 use Rattle.world_laws.proofs.Shows.{turn_calls}
@@ -27,33 +27,32 @@ abbrev answer_of : Reply → Answer
 answer_of r = record { value = r.value; pokes = []; ticks = r.ticks }
 
 reply_same : (r q : Reply) → given (answer_of r) ≡ given (answer_of q) → r ≡ q
-reply_same r q e = ap reply_of (answer_same (answer_of r) (answer_of q) e)
+reply_same r q e = ap (λ (a : Answer). record { value = a.value; ticks = a.ticks }) (answer_same (answer_of r) (answer_of q) e)
   where
     answer_same : (a b : Answer) → given a ≡ given b → a ≡ b
     answer_same a b e = cc
 
-    abbrev reply_of : Answer → Reply
-    reply_of a = record { value = a.value; ticks = a.ticks }
+-- a device replies, or fails
+abbrev Replies : (base name : List ℕ) → List Value → List Device → Outcome → List Device → Type 0
+Replies base name args ds o ds' =
+    (r : Reply) × ValueFits r.value × (r.ticks < 2 ^ 32) × (o ≡ given (record { value = r.value; pokes = []; ticks = r.ticks })) × (ds' ≡ journaled name (record { base = base; args = args; reply = r }) ds)
+
+abbrev Fails : (import : ℕ) → List Device → Outcome → List Device → Type 0
+Fails import ds o ds' = (o ≡ refused (DeviceFault import)) × (ds' ≡ ds)
 
 device_fixes : (import : ℕ) (base name : List ℕ) (args : List Value) (ds : List Device) (o : Outcome) (d e : List Device) → MeetsDevice import base name args ds o d → MeetsDevice import base name args ds o e → d ≡ e
 device_fixes import base name args ds o d e h k = by_there (list_any (is_named name) ds) h k
   where
-    abbrev Replies : List Device → Type 0
-    Replies ds' = (r : Reply) × ValueFits r.value × (r.ticks < 2 ^ 32) × (o ≡ given (record { value = r.value; pokes = []; ticks = r.ticks })) × (ds' ≡ journaled name (record { base = base; args = args; reply = r }) ds)
-
-    abbrev Fails : List Device → Type 0
-    Fails ds' = (o ≡ refused (DeviceFault import)) × (ds' ≡ ds)
-
     apart : (a : Answer) (y : End) → o ≡ given a → o ≡ refused y → ⊥
     apart a y p q = let z : given a ≡ refused y = sym p ∙ q in cc
 
-    both : Replies d ⊎ Fails d → Replies e ⊎ Fails e → d ≡ e
+    both : Replies base name args ds o d ⊎ Fails import ds o d → Replies base name args ds o e ⊎ Fails import ds o e → d ≡ e
     both (inl r) (inl q) = r.4 ∙ ap (λ (x : Reply). journaled name (record { base = base; args = args; reply = x }) ds) (reply_same r.0 q.0 (sym r.3 ∙ q.3)) ∙ sym q.4
     both (inl r) (inr f) = absurd (apart (answer_of r.0) (DeviceFault import) r.3 f.0)
     both (inr f) (inl r) = absurd (apart (answer_of r.0) (DeviceFault import) r.3 f.0)
     both (inr f) (inr g) = f.1 ∙ sym g.1
 
-    by_there : (b : Bool) → MatchBool b (Replies d ⊎ Fails d) ((o ≡ refused (NoDevice import)) × (d ≡ ds)) → MatchBool b (Replies e ⊎ Fails e) ((o ≡ refused (NoDevice import)) × (e ≡ ds)) → d ≡ e
+    by_there : (b : Bool) → MatchBool b (Replies base name args ds o d ⊎ Fails import ds o d) ((o ≡ refused (NoDevice import)) × (d ≡ ds)) → MatchBool b (Replies base name args ds o e ⊎ Fails import ds o e) ((o ≡ refused (NoDevice import)) × (e ≡ ds)) → d ≡ e
     by_there true p q = both p q
     by_there false p q = p.1 ∙ sym q.1
 
@@ -90,11 +89,8 @@ calls_fix : (w : Program) (xs : List Note) (us r s : List Outcome) (lines : List
 calls_fix w [] us r s lines ds o1 o2 l1 l2 d1 d2 h g few = ((us, h.0, g.0, omega arith), h.1 ∙ sym g.1, h.2 ∙ sym g.2)
 calls_fix w (x ∷ xs) us r s lines ds o1 o2 l1 l2 d1 d2 h g few = by_call (λ us lines ds h g few. calls_fix w xs us r s lines ds o1 o2 l1 l2 d1 d2 h g few) (call_in x.event) us h g few
   where
-    abbrev On : Type 0
-    On = (us : List Outcome) (lines : List AnswerLine) (ds : List Device) → CallsMeet w xs (us ++ r) lines ds o1 l1 d1 → CallsMeet w xs (us ++ s) lines ds o2 l2 d2 → new_calls xs ≤ length us
-        → Fixed us r s xs o1 o2 × (l1 ≡ l2) × (d1 ≡ d2)
-
-    by_call : On → (c : Option Call) (us : List Outcome) → NoteMeets w c (us ++ r) lines ds (λ o l d. CallsMeet w xs o l d o1 l1 d1) → NoteMeets w c (us ++ s) lines ds (λ o l d. CallsMeet w xs o l d o2 l2 d2)
+    by_call : ((us : List Outcome) (lines : List AnswerLine) (ds : List Device) → CallsMeet w xs (us ++ r) lines ds o1 l1 d1 → CallsMeet w xs (us ++ s) lines ds o2 l2 d2 → new_calls xs ≤ length us
+        → Fixed us r s xs o1 o2 × (l1 ≡ l2) × (d1 ≡ d2)) → (c : Option Call) (us : List Outcome) → NoteMeets w c (us ++ r) lines ds (λ o l d. CallsMeet w xs o l d o1 l1 d1) → NoteMeets w c (us ++ s) lines ds (λ o l d. CallsMeet w xs o l d o2 l2 d2)
         → one_if c + new_calls xs ≤ length us
         → ((vs : List Outcome) × (o1 ≡ vs ++ r) × (o2 ≡ vs ++ s) × (length us ≡ (one_if c + new_calls xs) + length vs)) × (l1 ≡ l2) × (d1 ≡ d2)
     by_call on None us h g few = let z = on us lines ds h g (omega arith) in ((z.0.0, z.0.1, z.0.2, omega (arith, z.0.3)), z.1, z.2)

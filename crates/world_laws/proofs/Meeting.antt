@@ -1,43 +1,44 @@
 -- What calls meet: outcomes in range, one for each call, the same for a program and its original.
-use Rattle.std.proofs.Common.{arith, ◌≡◌, ◌≤◌, ◌<◌, ◌+◌, ◌^◌, ◌⊎◌, inl, inr, ℕ, zero, suc, List, [], ◌∷◌, ◌++◌, length, map, Option, Some, None, Bool, true, false, All, refl, sym, ap, ◌∙◌, subst, append_assoc, length-append}
+use Rattle.std.proofs.Common.{arith, ◌≡◌, ◌≤◌, ◌<◌, ◌+◌, ◌^◌, ◌⊎◌, inl, inr, ℕ, zero, suc, List, [], ◌∷◌, ◌++◌, length, Option, Some, None, Bool, true, false, All, refl, sym, ap, ◌∙◌, subst, append_assoc, length-append}
 use Rattle.std.specs.Prelude.{MatchBool, slice_get, slice_set}
-use Rattle.std.specs.List.{filter_map, list_any, AllZip}
+use Rattle.std.specs.List.{filter_map, list_any}
 use Rattle.std.specs.Option.{unwrap_or}
 use Rattle.std.proofs.lemmas.List.Elements.{All-nil, All-cons, All-head, All-tail, All-append}
 use Rattle.wa_types.specs.declared.values.Value.{Value}
 use Rattle.wa_types.specs.declared.syntax.Import.{Import}
-use Rattle.wa_types.specs.Syntax.{Module}
 use Rattle.wa_types.specs.Modules.{imported_func}
 use Rattle.wa_types.specs.Validity.{same_name}
 use Rattle.wa_types.specs.Pausing.{joined_name}
 use Rattle.wa_model.specs.declared.answers.Detach.{Detach}
-use Rattle.wa_model.specs.declared.events.End.TheVariants.{NoAnswer, OtherImport, DeviceFault, NoDevice}
-use Rattle.wa_model.specs.Outside.{Call, Answer, AnswerLine, Event, Line}
-use Rattle.wa_model.specs.Plan.{Outcome, given, refused, Poke, PokeFits, ValueFits, AnswerFits, OutcomeFits}
+use Rattle.wa_model.specs.declared.events.End.TheVariants.{OtherImport, DeviceFault, NoDevice}
+use Rattle.wa_model.specs.Outside.{Call, AnswerLine, Line}
+use Rattle.wa_model.specs.Plan.{Outcome, given, refused, PokeFits, ValueFits, AnswerFits, OutcomeFits}
 use Rattle.wa_model.specs.Blocking.{Note}
-use Rattle.wa_model.specs.World.{Reply, Asked, Device, is_named, detached, journaled, Look, Program, name_if, import_names, base_names, name_at, Actor, MeetsDevice, MeetsLine, MeetsBound, Meets, turn_of, behind_turn, put_off, call_in, NoteMeets, CallsMeet, Plays, Events, no_event, an_event, IsOver}
+use Rattle.wa_model.specs.World.{Reply, Device, is_named, detached, journaled, Look, Program, name_if, import_names, base_names, name_at, Actor, MeetsDevice, MeetsLine, MeetsBound, Meets, turn_of, behind_turn, put_off, call_in, NoteMeets, CallsMeet, Events, no_event, an_event, IsOver}
 use Rattle.world_laws.specs.Originals.{one_if, new_calls}
-use Rattle.world_laws.proofs.Shows.{Prints, Alike, turn_calls}
+use Rattle.world_laws.proofs.Shows.{Alike, turn_calls}
 
 abbrev pub AnswersFit : List AnswerLine → Type 0
 AnswersFit lines = All (λ (l : AnswerLine). AnswerFits l.answer) lines
 
 -- ---- one call
 
+-- a device replies, or fails
+abbrev Replies : (base name : List ℕ) → List Value → List Device → Outcome → List Device → Type 0
+Replies base name args ds o ds' =
+    (r : Reply) × ValueFits r.value × (r.ticks < 2 ^ 32) × (o ≡ given (record { value = r.value; pokes = []; ticks = r.ticks })) × (ds' ≡ journaled name (record { base = base; args = args; reply = r }) ds)
+
+abbrev Fails : (import : ℕ) → List Device → Outcome → List Device → Type 0
+Fails import ds o ds' = (o ≡ refused (DeviceFault import)) × (ds' ≡ ds)
+
 device_fits : (import : ℕ) (base name : List ℕ) (args : List Value) (ds : List Device) (o : Outcome) (ds' : List Device) → MeetsDevice import base name args ds o ds' → OutcomeFits o
 device_fits import base name args ds o ds' h = by_there (list_any (is_named name) ds) h
   where
-    abbrev Replies : Type 0
-    Replies = (r : Reply) × ValueFits r.value × (r.ticks < 2 ^ 32) × (o ≡ given (record { value = r.value; pokes = []; ticks = r.ticks })) × (ds' ≡ journaled name (record { base = base; args = args; reply = r }) ds)
-
-    abbrev Fails : Type 0
-    Fails = (o ≡ refused (DeviceFault import)) × (ds' ≡ ds)
-
-    answers_so : Replies ⊎ Fails → OutcomeFits o
+    answers_so : Replies base name args ds o ds' ⊎ Fails import ds o ds' → OutcomeFits o
     answers_so (inl r) = subst OutcomeFits (sym r.3) (record { value = r.1; pokes = All-nil PokeFits; ticks = r.2 })
     answers_so (inr f) = subst OutcomeFits (sym f.0) tt
 
-    by_there : (b : Bool) → MatchBool b (Replies ⊎ Fails) ((o ≡ refused (NoDevice import)) × (ds' ≡ ds)) → OutcomeFits o
+    by_there : (b : Bool) → MatchBool b (Replies base name args ds o ds' ⊎ Fails import ds o ds') ((o ≡ refused (NoDevice import)) × (ds' ≡ ds)) → OutcomeFits o
     by_there true w = answers_so w
     by_there false w = subst OutcomeFits (sym w.0) tt
 
@@ -169,16 +170,14 @@ calls_trimmed looks w v same (x ∷ xs) (y ∷ ys) al us rest lines ds os' lines
     let r = by_call (λ us lines ds h few. calls_trimmed looks w v same xs ys al.1 us rest lines ds os' lines' ds' h few) (call_in y.event) us h few in
     (r.0, subst (λ (c : Option Call). NoteMeets v c us lines ds (λ o l d. CallsMeet v xs o l d r.0 lines' ds')) (ap call_in (sym (al.0).event)) r.1, r.2, r.3)
   where
-    abbrev On : List Outcome → List AnswerLine → List Device → Type 0
-    On us l d = (us' : List Outcome) × CallsMeet v xs us l d us' lines' ds' × (os' ≡ us' ++ rest) × (length us ≡ new_calls ys + length us')
-
     head_same : (a b : Outcome) (acts bs : List Outcome) → a ∷ acts ≡ b ∷ bs → b ≡ a
     head_same a b acts bs e = cc
 
     tail_same : (a b : Outcome) (acts bs : List Outcome) → a ∷ acts ≡ b ∷ bs → bs ≡ acts
     tail_same a b acts bs e = cc
 
-    by_call : ((us : List Outcome) (lines : List AnswerLine) (ds : List Device) → CallsMeet w ys (us ++ rest) lines ds os' lines' ds' → new_calls ys ≤ length us → On us lines ds)
+    by_call : ((us : List Outcome) (lines : List AnswerLine) (ds : List Device) → CallsMeet w ys (us ++ rest) lines ds os' lines' ds' → new_calls ys ≤ length us
+        → (us' : List Outcome) × CallsMeet v xs us lines ds us' lines' ds' × (os' ≡ us' ++ rest) × (length us ≡ new_calls ys + length us'))
         → (c : Option Call) (us : List Outcome) → NoteMeets w c (us ++ rest) lines ds (λ o l d. CallsMeet w ys o l d os' lines' ds') → one_if c + new_calls ys ≤ length us
         → (us' : List Outcome) × NoteMeets v c us lines ds (λ o l d. CallsMeet v xs o l d us' lines' ds') × (os' ≡ us' ++ rest) × (length us ≡ (one_if c + new_calls ys) + length us')
     by_call on None us h few = let r = on us lines ds h (omega arith) in (r.0, r.1, r.2, omega (arith, r.3))

@@ -2,15 +2,14 @@
 use Rattle.std.proofs.Common.{arith, ◌≡◌, ◌+◌, ◌≤◌, ◌<◌, ◌⊎◌, inl, inr, ℕ, zero, suc, List, [], ◌∷◌, ◌++◌, length, Option, Some, None, Bool, true, false, All, refl, sym, ap, ◌∙◌, subst, ⊎_elim}
 use Rattle.std.specs.Prelude.{if◌then◌else◌, slice_get, slice_set}
 use Rattle.std.specs.List.{AllZip}
-use Rattle.std.specs.Option.{unwrap_or}
 use Rattle.std.proofs.lemmas.Bool.{cases_lt}
 use Rattle.std.proofs.lemmas.List.Elements.{All-nil, All-cons, All-head, All-tail}
 use Rattle.wa_types.specs.declared.values.Value.{Value}
 use Rattle.wa_model.specs.declared.answers.Detach.{Detach}
-use Rattle.wa_model.specs.Outside.{Call, AnswerLine, Event, Line}
+use Rattle.wa_model.specs.Outside.{Call, AnswerLine, Line}
 use Rattle.wa_model.specs.Plan.{Outcome}
 use Rattle.wa_model.specs.Blocking.{Note}
-use Rattle.wa_model.specs.World.{Device, detached, Program, MeetsBound, Meets, ends_turn, turn_of, behind_turn, put_off, call_in, NoteMeets, CallsMeet, turn_lines, Actor, HasNotes, IsNext, Plays, Events, no_event, an_event, IsOver, protocol_story, StartsHeld, ProtocolWorld}
+use Rattle.wa_model.specs.World.{Device, detached, Program, MeetsBound, Meets, ends_turn, turn_of, behind_turn, put_off, call_in, NoteMeets, CallsMeet, turn_lines, Actor, HasNotes, IsNext, Plays, Events, no_event, an_event, IsOver, protocol_story, StartsHeld}
 use Rattle.world_laws.specs.AloneLines.{Unbound}
 use Rattle.world_laws.specs.Existing.{WorldsEnd}
 use Rattle.world_laws.proofs.CallLists.{turn_split}

@@ -1,10 +1,9 @@
 -- Events counted.
-use Rattle.std.proofs.Common.{arith, ◌≡◌, ◌+◌, ℕ, zero, suc, List, [], ◌∷◌, ◌++◌, refl, sym, ap, ◌∙◌, subst, append_assoc, append-nil}
-use Rattle.std.specs.List.{AllZip}
+use Rattle.std.proofs.Common.{arith, ◌≡◌, ◌+◌, ℕ, zero, suc, List, [], ◌++◌, refl, sym, ap, ◌∙◌, subst, append_assoc, append-nil}
 use Rattle.wa_model.specs.declared.answers.Detach.{Detach}
 use Rattle.wa_model.specs.Outside.{Line}
-use Rattle.wa_model.specs.World.{Device, Program, Actor, Plays, Events, no_event, an_event, IsOver, StartsHeld, ProtocolWorld}
-use Rattle.world_laws.specs.Played.{Played, ProtocolWorldUpTo, NextEvent, PlayedIsWhole, WholeIsPlayed}
+use Rattle.wa_model.specs.World.{Device, Program, Actor, Plays, Events, no_event, an_event}
+use Rattle.world_laws.specs.Played.{Played, NextEvent, PlayedIsWhole, WholeIsPlayed}
 
 module _ (ws : List Program) (detaches : List Detach) where
   one_more : (count number at : ℕ) (acts mid next : List Actor) (ds es fs : List Device) (lines more : List Line) → at ≡ number + count → Played ws detaches number count acts ds lines mid es
@@ -43,8 +42,7 @@ module _ (ws : List Program) (detaches : List Detach) where
   part zero more count number acts last ds ds' lines e h = ([], lines, acts, ds, (refl, refl, refl), refl)
   part (suc k) more zero number acts last ds ds' lines e h = let no_way : ⊥ = omega arith in absurd no_way
   part (suc k) more (suc count) number acts last ds ds' lines e h =
-      let on = part k more count (suc number) h.2 last h.3 ds' h.1 (omega arith) h.5 in
-      (
+      let on = part k more count (suc number) h.2 last h.3 ds' h.1 (omega arith) h.5 in (
         h.0 ++ on.0,
         on.1,
         on.2,
@@ -55,8 +53,7 @@ module _ (ws : List Program) (detaches : List Detach) where
 
 pub next_event : NextEvent
 next_event ws detaches ds ds' es number lines more next world play =
-    let e : suc number ≡ 1 + number = omega arith in
-    (
+    let e : suc number ≡ 1 + number = omega arith in (
       record { actors = world.actors; now = next; starts = world.starts; played = one_more ws detaches number 1 (suc number) world.actors world.now next ds ds' es lines more e world.played play },
       refl,
     )
@@ -67,11 +64,10 @@ played_is_whole ws detaches ds ds' number lines world over =
 
 pub whole_is_played : WholeIsPlayed
 whole_is_played ws detaches ds ds' lines world =
-    let c = counted ws detaches 1 world.actors world.last ds ds' lines world.events in
-    (
+    let c = counted ws detaches 1 world.actors world.last ds ds' lines world.events in (
       c.0,
       record { actors = world.actors; now = world.last; starts = world.starts; played = c.1 },
       λ k more e.
-      let p = part ws detaches k more c.0 1 world.actors world.last ds ds' lines e c.1 in
-      (p.0, p.1, p.3, record { actors = world.actors; now = p.2; starts = world.starts; played = p.4 }, p.5),
+          let p = part ws detaches k more c.0 1 world.actors world.last ds ds' lines e c.1 in
+          (p.0, p.1, p.3, record { actors = world.actors; now = p.2; starts = world.starts; played = p.4 }, p.5),
     )

@@ -1,15 +1,14 @@
 -- The events of a world of rewritten modules are events of the world of their originals: programs beside each other.
-use Rattle.std.proofs.Common.{arith, ◌≡◌, ◌≤◌, ◌<◌, ◌+◌, ◌⊎◌, inl, inr, ℕ, zero, suc, List, [], ◌∷◌, ◌++◌, length, map, Option, Some, None, Bool, true, false, All, refl, sym, ap, ◌∙◌, subst, ⊎_elim}
+use Rattle.std.proofs.Common.{arith, ◌≡◌, ◌+◌, inl, inr, ℕ, zero, suc, List, [], ◌∷◌, ◌++◌, length, map, Some, refl, sym, ap, ◌∙◌, subst, ⊎_elim}
 use Rattle.std.specs.Prelude.{slice_get, slice_set}
-use Rattle.std.specs.List.{AllZip}
-use Rattle.std.proofs.lemmas.List.Elements.{All-nil, All-cons, All-head, All-tail}
+use Rattle.std.proofs.lemmas.List.Elements.{All-cons, All-head, All-tail}
 use Rattle.wa_model.specs.declared.answers.Detach.{Detach}
 use Rattle.wa_model.specs.Outside.{AnswerLine, Event, Line}
 use Rattle.wa_model.specs.Plan.{Outcome}
 use Rattle.wa_model.specs.Blocking.{Note}
 use Rattle.wa_model.specs.World.{Device, detached, Look, Program, Actor, turn_of, behind_turn, put_off, CallsMeet, line_at, events_with_looks, turn_lines, HasNotes, IsNext, Plays, Events, no_event, an_event, IsOver, Original}
 use Rattle.world_laws.specs.Originals.{new_calls}
-use Rattle.world_laws.proofs.Shows.{Prints, Alike, alike_length, alike_turn, alike_behind, alike_put_off, alike_calls, alike_events, turn_calls}
+use Rattle.world_laws.proofs.Shows.{Alike, alike_length, alike_turn, alike_behind, alike_put_off, alike_events, turn_calls}
 use Rattle.world_laws.proofs.Meeting.{SameCalls, calls_trimmed}
 
 -- A program w in the place of an original, and their actors: the same due tick and answers left, notes of which one prints what
@@ -139,12 +138,12 @@ plays_beside os ws acts bs detaches number ds lines acts' ds' rows h = by_row (r
           subst (λ (xs : List Actor). Rows os ws xs (slice_set bs h.i b')) (sym h.after) (row_set os ws acts bs rows h.i o h.w a' b' f.2 h.program row),
         )
 
-pub events_beside : (os : List Original) (ws : List Program) (acts bs : List Actor) (detaches : List Detach) (number : ℕ) (ds : List Device) (lines : List Line) (last : List Actor) (ds' : List Device)
+pub events_beside : (os : List Original) (ws : List Program) (detaches : List Detach) (number : ℕ) (acts bs : List Actor) (ds : List Device) (lines : List Line) (last : List Actor) (ds' : List Device)
     → Rows os ws acts bs → Events ws detaches number acts ds lines last ds' → (last' : List Actor) × Events (programs_of os) detaches number bs ds lines last' ds' × Rows os ws last last'
-events_beside os ws acts bs detaches number ds lines last ds' rows no_event = (bs, no_event, rows)
-events_beside os ws acts bs detaches number ds lines last ds' rows (an_event {actors' = acts1} {ds' = ds1} {lines = first} {more = more} play rest e) =
+events_beside os ws detaches number acts bs ds lines last ds' rows no_event = (bs, no_event, rows)
+events_beside os ws detaches number acts bs ds lines last ds' rows (an_event {actors' = acts1} {ds' = ds1} {lines = first} {more = more} play rest e) =
     let p = plays_beside os ws acts bs detaches number ds first acts1 ds1 rows play in
-    let on = events_beside os ws acts1 p.0 detaches (suc number) ds1 more last ds' p.2 rest in
+    let on = events_beside os ws detaches (suc number) acts1 p.0 ds1 more last ds' p.2 rest in
     (on.0, an_event p.1 on.1 e, on.2)
 
 -- where one world is over the other is

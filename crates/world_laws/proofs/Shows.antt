@@ -1,12 +1,11 @@
 -- What is shown off the area is the same in stores that agree outside it; so are the lines of notes that agree so.
-use Rattle.std.proofs.Common.{arith, ◌≡◌, ◌≤◌, ◌<◌, ◌+◌, ◌⊎◌, inl, inr, ℕ, zero, suc, List, [], ◌∷◌, ◌++◌, length, take, drop, map, Option, Some, None, Bool, true, false, All, refl, sym, ap, ◌∙◌, subst, ⊎_elim}
+use Rattle.std.proofs.Common.{arith, ◌≡◌, ◌≤◌, ◌<◌, ◌+◌, ◌⊎◌, inl, inr, ℕ, zero, suc, List, [], ◌∷◌, ◌++◌, length, take, drop, Option, Some, None, Bool, true, false, All, refl, sym, ap, ◌∙◌, subst, ⊎_elim}
 use Rattle.std.specs.Prelude.{nat_lt, nat_le, if◌then◌else◌, ◌&&◌, slice_get}
 use Rattle.std.specs.List.{AllZip}
 use Rattle.std.proofs.lemmas.Bool.{cases_lt}
 use Rattle.std.proofs.lemmas.List.Elements.{All-head, All-tail}
 use Rattle.wa_types.specs.Memory.{bytes_at}
 use Rattle.wa_model.specs.declared.answers.Area.{Area}
-use Rattle.wa_model.specs.declared.events.End.{End}
 use Rattle.wa_model.specs.Outside.{Event, called, answered, paused, returned, ended, shown}
 use Rattle.wa_model.specs.Store.{Store}
 use Rattle.wa_model.specs.Blocking.{Note, overlap}
@@ -76,7 +75,7 @@ module _ (globals : ℕ) (area : Area) (some : 0 < area.len) where
 -- Notes of which one prints what the other does.
 pub record Prints (looks : List Look) (x y : Note) : Type 0 where
   pub event : x.event ≡ y.event
-  pub looks : looks_after looks x x.event ≡ looks_after looks y y.event
+  pub shows : looks_after looks x x.event ≡ looks_after looks y y.event
 
 pub prints_by : (globals : ℕ) (area : Area) → 0 < area.len → (looks : List Look) → All (ShowsOff area) looks → (xs ys : List Note) → AllZip (SameMoment globals area) xs ys → AllZip (Prints looks) xs ys
 prints_by globals area some looks off [] [] h = tt
@@ -84,7 +83,7 @@ prints_by globals area some looks off [] (y ∷ ys) h = absurd h
 prints_by globals area some looks off (x ∷ xs) [] h = absurd h
 prints_by globals area some looks off (x ∷ xs) (y ∷ ys) h =
     let m : SameMoment globals area x y = h.0 in
-    (record { event = m.event; looks = after_same globals area some x y m.ends looks off x.event ∙ ap (looks_after looks y) m.event }, prints_by globals area some looks off xs ys h.1)
+    (record { event = m.event; shows = after_same globals area some x y m.ends looks off x.event ∙ ap (looks_after looks y) m.event }, prints_by globals area some looks off xs ys h.1)
 
 -- ---- turns
 
@@ -138,7 +137,7 @@ module _ (looks : List Look) where
   alike_events (x ∷ xs) [] h = absurd h
   alike_events (x ∷ xs) (y ∷ ys) h =
       ap (λ (e : Event). (e ∷ looks_after looks x x.event) ++ events_with_looks looks xs) (h.0).event
-      ∙ ap (λ (es : List Event). (y.event ∷ es) ++ events_with_looks looks xs) (h.0).looks
+      ∙ ap (λ (es : List Event). (y.event ∷ es) ++ events_with_looks looks xs) (h.0).shows
       ∙ ap (λ (es : List Event). (y.event ∷ looks_after looks y y.event) ++ es) (alike_events xs ys h.1)
 
 -- ---- a turn and what is behind it

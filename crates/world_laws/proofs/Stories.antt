@@ -1,39 +1,38 @@
 -- A story of the rewritten module under the protocol is one of its original.
-use Rattle.std.proofs.Common.{arith, ◌≡◌, ◌≤◌, ◌<◌, ◌+◌, ◌*◌, ◌-◌, ◌⊎◌, inl, inr, ℕ, zero, suc, List, [], ◌∷◌, ◌++◌, length, take, map, Option, Some, None, Bool, true, false, All, refl, sym, ap, ◌∙◌, subst, ⊎_elim, append-nil, length-append, length-take}
+use Rattle.std.proofs.Common.{arith, ◌≡◌, ◌≤◌, ◌<◌, ◌+◌, ◌*◌, ◌-◌, inl, inr, ℕ, zero, suc, List, [], ◌∷◌, ◌++◌, length, take, Some, None, Bool, true, false, All, refl, sym, ap, ◌∙◌, subst, append-nil, length-append, length-take}
 use Rattle.std.specs.Prelude.{slice_get}
 use Rattle.std.specs.List.{AllZip, sum_by}
 use Rattle.std.proofs.lemmas.List.{length-map}
 use Rattle.std.proofs.lemmas.List.Elements.{All-nil, All-cons, length_all_zip}
 use Rattle.wa_types.specs.Syntax.{Module}
-use Rattle.wa_types.specs.Pausing.{Settings, TellsMayPause, Listed}
+use Rattle.wa_types.specs.Pausing.{Settings}
 use Rattle.wa_types.specs.Frames.{Suspended}
 use Rattle.wa_types.specs.Runtime.{global_space}
 use Rattle.wa_types.specs.Bounds.{Bound, activation_bound}
-use Rattle.wa_model.specs.declared.answers.Area.{Area}
 use Rattle.wa_model.specs.declared.events.End.TheVariants.{StepsSpent}
 use Rattle.wa_model.specs.Outside.{Event, ended}
 use Rattle.wa_model.specs.Machine.{Ran}
-use Rattle.wa_model.specs.Store.{Store}
-use Rattle.wa_model.specs.Plan.{Plan, Outcome, OutcomeFits}
+use Rattle.wa_model.specs.Plan.{Plan, Outcome}
 use Rattle.wa_model.specs.Blocking.{Note, note, events_of, Blocking}
 use Rattle.wa_model.specs.Protocol.{Held, free, starting, busy, calling, aside, entering, over, exports_of, protocol, store_held, Protocol}
 use Rattle.wa_model.specs.Laws.{held_start_of}
 use Rattle.wa_model.specs.Expected.{SameEnd}
-use Rattle.wa_model.specs.Behaves.{IsPrefix, pause_stacks, Compared, PausesNumbered, expected_notes, protocol_notes, without_pauses, IsMoment, SameNote, BehavesOn}
-use Rattle.wa_model.specs.World.{is_end, Program, unless_over, protocol_story, IsCertain, BlockingStory, whole, spent, Original}
+use Rattle.wa_model.specs.Behaves.{IsPrefix, pause_stacks, Compared, expected_notes, without_pauses, IsMoment, BehavesOn}
+use Rattle.wa_model.specs.World.{is_end, unless_over, protocol_story, IsCertain, BlockingStory, whole, spent, Original}
 use Rattle.wa_model.proofs.Runs.{prefix_of_longer, prefix_on}
 use Rattle.stack_laws.proofs.StandingPauses.{pauses_at_numbers}
-use Rattle.slot_laws.proofs.Closed.{some_list}
 use Rattle.run_laws.proofs.Growing.{compared_lower, pauses_lower}
 use Rattle.run_laws.proofs.Ending.{expected_end_last}
-use Rattle.world_laws.specs.Originals.{StandsIn, MayRun, new_calls, Orderly, NoneIgnored, SameMoment, StoriesOfOriginals}
+use Rattle.world_laws.specs.Originals.{new_calls, NoneIgnored, SameMoment, StoriesOfOriginals}
 use Rattle.world_laws.proofs.Counting.{Live, Ends, Tells, stands_calls, protocol_tells}
 use Rattle.world_laws.proofs.Tails.{story_calls}
 
 pub none_ignored : NoneIgnored
-none_ignored o os may none un = record {
+none_ignored o os which may tells none un = record {
   untouched = un;
-  numbered = λ which tells. pauses_at_numbers o.program.source o.settings which o.program.plan os o.program.steps tells none may.listed;
+  which = which;
+  tells = tells;
+  numbered = pauses_at_numbers o.program.source o.settings which o.program.plan os o.program.steps tells none may.listed;
 }
 
 -- ---- lists beside each other
@@ -185,8 +184,8 @@ module _ (o : Original) (p : Module) (os : List Outcome) (which : List Bool) whe
         let bound : ℕ = Bound m c.0 (pause_stacks (Blocking m plan os c.0).events) in
         let reach = prefix_length (events_of (E c.0)) (events_of (P bound)) b.reaches in
         let more = protocol_longer p plan os bound N c.2 in
-        let le = length-map (λ (x : Note). x.event) (E c.0) in
-        let lp = length-map (λ (x : Note). x.event) (P bound) in
+        let le = length-map (E c.0) (λ (x : Note). x.event) in
+        let lp = length-map (P bound) (λ (x : Note). x.event) in
         let lt : length (P N) < length (E c.0) = c.1 in
         omega arith
 
@@ -218,11 +217,10 @@ module _ (o : Original) (p : Module) (os : List Outcome) (which : List Bool) whe
 
 pub stories_of_originals : StoriesOfOriginals
 stories_of_originals o w os st may fits enough ord =
-    let some = some_list o.program.source o.settings in
     let plan : Plan = o.program.plan in
     let n : ℕ = o.program.steps in
     let compared : Compared o.program.source o.settings plan os n = record { fits = may.fits; listed = may.listed; outcomes = fits; untouched = ord.untouched } in
-    let numbered = ord.numbered some.0 some.1 in
+    let which : List Bool = ord.which in
     let same : protocol_story w os ≡ story_of w.source plan n os =
     ap (λ (pl : Plan). story_of w.source pl w.steps os) st.plan ∙ ap (λ (k : ℕ). story_of w.source plan k os) st.steps in
     let run : Protocol w.source w.plan os w.steps ≡ Protocol w.source plan os n =
@@ -230,6 +228,6 @@ stories_of_originals o w os st may fits enough ord =
     let calls = story_calls w os in
     let few : new_calls (Protocol w.source plan os n).events ≤ length os = subst (λ (r : Ran Held Note). new_calls r.events ≤ length os) run (omega arith) in
     subst (λ (story : List Note). (notes : List Note) × BlockingStory o.settings o.program os notes × AllZip (SameMoment (global_space o.program.source) plan.area) notes story) (sym same)
-    (told o w.source os some.0
-    (λ k le. st.rewrites.behaves may.well_formed some.0 some.1 plan os k (compared_lower o.program.source o.settings plan os n k le compared) (pauses_lower o.program.source o.settings some.0 plan os n k le numbered))
+    (told o w.source os which
+    (λ k le. st.rewrites.behaves may.well_formed which ord.tells plan os k (compared_lower o.program.source o.settings plan os n k le compared) (pauses_lower o.program.source o.settings which plan os n k le ord.numbered))
     (Protocol w.source plan os n).last refl (protocol_tells w.source plan os n) few)

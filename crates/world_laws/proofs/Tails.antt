@@ -1,7 +1,6 @@
 -- A run under the protocol with more outcomes than its calls take is the run with those that they take.
-use Rattle.std.proofs.Common.{arith, ◌≡◌, ◌≤◌, ◌<◌, ◌+◌, ◌-◌, ◌⊎◌, inl, inr, ℕ, zero, suc, List, [], ◌∷◌, ◌++◌, length, take, drop, Option, Some, None, Bool, true, false, refl, sym, ap, ◌∙◌, subst, append_assoc, append-nil, length-take, take-append-drop}
+use Rattle.std.proofs.Common.{arith, ◌≡◌, ◌≤◌, ◌+◌, ◌-◌, ◌⊎◌, inl, inr, ℕ, zero, suc, List, [], ◌∷◌, ◌++◌, length, take, drop, Option, Some, None, Bool, true, false, refl, sym, ap, ◌∙◌, subst, append_assoc, append-nil, length-take, take-append-drop}
 use Rattle.std.specs.Prelude.{nat_lt, nat_eq, if◌then◌else◌}
-use Rattle.std.specs.Option.{option_to_list}
 use Rattle.wa_types.specs.declared.values.Value.{Value}
 use Rattle.wa_types.specs.Syntax.{Func, Module}
 use Rattle.wa_types.specs.Modules.{func_imports, func_type_at, defined_at}
@@ -13,7 +12,7 @@ use Rattle.wa_model.specs.Step.{Next, steps, asks, returns, traps, stuck, step}
 use Rattle.wa_model.specs.Plan.{Entry, Plan, Outcome, given, refused}
 use Rattle.wa_model.specs.Instantiation.{Opening, fails_as, opens, opening}
 use Rattle.wa_model.specs.Blocking.{Note, note, call_note, value_of_results, fault_of, pause_of, poked, done_notes, Task, the_start, an_entry, Left, with_outcomes, Asker, inside, outermost, store_at, stack_at, in_start, next_entry, all_left}
-use Rattle.wa_model.specs.Protocol.{Exports, exports_of, Phase, is_running, unwinds, rewinds, Then, give_zero, test_unwound, pause_there, call_again, test_rewound, give_answer, Held, free, starting, busy, calling, aside, entering, over, broken, held_on, held_back, held_given, held_ends, held_pauses, held_tested, held_asked, busy_step, is_state, aside_back, aside_step, busy_enters, held_next, aside_called, held_start, protocol, held_started, held_begun, Protocol}
+use Rattle.wa_model.specs.Protocol.{Exports, exports_of, Phase, is_running, unwinds, rewinds, Then, give_zero, test_unwound, pause_there, call_again, test_rewound, give_answer, Held, free, starting, busy, calling, aside, entering, over, broken, held_on, held_back, held_given, held_pauses, held_tested, held_asked, busy_step, is_state, aside_back, aside_step, busy_enters, held_next, aside_called, held_start, protocol, held_begun, Protocol}
 use Rattle.wa_model.specs.World.{Program, call_in, unless_over, protocol_story}
 use Rattle.wa_model.proofs.Runs.{turned, mapped}
 use Rattle.stack_laws.proofs.StandingPauses.{fault_outside}
@@ -300,9 +299,9 @@ module _ (p : Module) (x : Exports) (plan : Plan) (tail : List Outcome) where
   refused_end count m more t' (refused e ∷ os) h o = (
     h.0,
     ap (λ (v : Held). more ++ (on count m v).events) o.1
-    ∙ ap (λ (r : Ran Held Note). more ++ r.events) (over_still p x plan count m o.0)
-    ∙ append-nil more
-    ∙ h.1,
+        ∙ ap (λ (r : Ran Held Note). more ++ r.events) (over_still p x plan count m o.0)
+        ∙ append-nil more
+        ∙ h.1,
   )
 
   behind_call : (left count n j k : ℕ) (y : Note) (es fs : List Note) (t' t : Held) → AtCall left y fs t → Calls tail j y (goes k es t') → GoesOn left (after es (on count n t')) (after fs (on count n t))

@@ -1,16 +1,14 @@
 -- A run of the world of rewritten modules is one of the world of their originals.
-use Rattle.std.proofs.Common.{arith, ◌≡◌, ◌≤◌, ◌<◌, ◌+◌, ℕ, zero, suc, List, [], ◌∷◌, ◌++◌, length, take, map, Option, Some, None, Bool, true, false, All, refl, sym, ap, ◌∙◌, subst}
+use Rattle.std.proofs.Common.{arith, ◌≡◌, ◌≤◌, ℕ, zero, suc, List, [], ◌∷◌, ◌++◌, length, take, All, refl, sym, ap, ◌∙◌, subst}
 use Rattle.std.specs.List.{AllZip}
-use Rattle.std.proofs.lemmas.List.Elements.{All-nil, All-cons, All-head, All-tail}
+use Rattle.std.proofs.lemmas.List.Elements.{All-head, All-tail}
 use Rattle.wa_types.specs.Runtime.{global_space}
-use Rattle.wa_model.specs.Outside.{AnswerLine}
-use Rattle.wa_model.specs.Plan.{Outcome, OutcomeFits, AnswerFits}
+use Rattle.wa_model.specs.Plan.{Outcome}
 use Rattle.wa_model.specs.Blocking.{Note}
-use Rattle.wa_model.specs.Rewrites.{Rewrites}
-use Rattle.wa_model.specs.World.{Look, Program, Actor, protocol_story, BlockingStory, Starts, StartsHeld, StartsBlocking, Original, StartsOriginal}
-use Rattle.world_laws.specs.Originals.{StandsIn, ShowsOff, MayRun, new_calls, met, Orderly, SameMoment, WorldsOfOriginals}
-use Rattle.world_laws.proofs.Shows.{Prints, Alike, prints_by}
-use Rattle.world_laws.proofs.Meeting.{AnswersFit, SameCalls, Takes, Met, EachMet, events_met}
+use Rattle.wa_model.specs.World.{Look, Program, Actor, protocol_story, StartsHeld, Original, StartsOriginal}
+use Rattle.world_laws.specs.Originals.{StandsIn, MayRun, new_calls, met, Orderly, WorldsOfOriginals}
+use Rattle.world_laws.proofs.Shows.{Prints, prints_by}
+use Rattle.world_laws.proofs.Meeting.{AnswersFit, Met, EachMet, events_met}
 use Rattle.world_laws.proofs.Stories.{stories_of_originals}
 use Rattle.world_laws.proofs.Tails.{story_tailed}
 use Rattle.world_laws.proofs.Rows.{Row, Rows, events_beside, over_beside}
@@ -76,5 +74,5 @@ pub worlds_of_originals : WorldsOfOriginals
 worlds_of_originals os ws detaches ds ds' lines st may world ord =
     let meets = events_met ws detaches 1 world.actors ds lines world.last ds' world.events world.over in
     let s = all_starting os ws world.actors st may world.starts meets ord in
-    let e = events_beside os ws world.actors s.0 detaches 1 ds lines world.last ds' s.2 world.events in
+    let e = events_beside os ws detaches 1 world.actors s.0 ds lines world.last ds' s.2 world.events in
     record { actors = s.0; last = e.0; starts = s.1; events = e.1; over = over_beside os ws world.last e.0 e.2 world.over }

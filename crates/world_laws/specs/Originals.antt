@@ -1,7 +1,6 @@
 -- Worlds of rewritten modules, which a host runs, and the same worlds of their originals, whose imports block.
 use Rattle.std.specs.Prelude.{◌≡◌, ℕ, ◌+◌, ◌≤◌, List, [], ◌∷◌, length, take, Option, Some, None, Bool, false, All}
 use Rattle.std.specs.List.{AllZip}
-use Rattle.wa_types.specs.Syntax.{Module}
 use Rattle.wa_types.specs.Sizes.{WellFormed}
 use Rattle.wa_types.specs.Pausing.{Listed, TellsMayPause}
 use Rattle.wa_types.specs.Runtime.{global_space}
@@ -56,16 +55,20 @@ abbrev pub met : Actor → List Outcome
 met a = take (new_calls a.notes) a.outcomes
 
 -- Within its steps the original's run with these outcomes touches no byte of the area, and its pauses find each activation at
--- a numbered call of a function that may pause.
+-- a numbered call of a function that may pause. `which` tells those functions.
 pub record Orderly (o : Original) (os : List Outcome) : Type 0 where
   pub untouched : Untouched o.program.source o.program.plan os o.program.steps
-  pub numbered : (which : List Bool) → TellsMayPause o.program.source o.settings which → PausesNumbered o.program.source o.settings which (Blocking o.program.source o.program.plan os o.program.steps).events
+  pub which : List Bool
+  pub tells : TellsMayPause o.program.source o.settings which
+  pub numbered : PausesNumbered o.program.source o.settings which (Blocking o.program.source o.program.plan os o.program.steps).events
 
 -- ---- laws
 
 -- Where `call_indirect` isn't ignored the latter always holds.
 abbrev pub NoneIgnored : Type 0
-NoneIgnored = (o : Original) (os : List Outcome) → MayRun o → o.settings.ignore_indirect ≡ false → Untouched o.program.source o.program.plan os o.program.steps → Orderly o os
+NoneIgnored =
+    (o : Original) (os : List Outcome) (which : List Bool) → MayRun o → TellsMayPause o.program.source o.settings which → o.settings.ignore_indirect ≡ false
+    → Untouched o.program.source o.program.plan os o.program.steps → Orderly o os
 
 -- The story of a program under the protocol is that of the outcomes that its calls meet, whatever stands behind them.
 abbrev pub StoriesOfMet : Type 0
