@@ -98,7 +98,8 @@ module _ (programs : List Program) (detaches : List Detach) (i : ℕ) (w : Progr
   abbrev Alone : Actor → List Line → List Actor → Type 0
   Alone a lines last = (n : ℕ) → (a' : Actor) × (slice_get last i ≡ Some a') × Events (w ∷ []) [] n (a ∷ []) [] (own_lines i lines) (a' ∷ []) []
 
-  play_alone : (number : ℕ) (acts : List Actor) (ds : List Device) (first more : List Line) (acts' last : List Actor) (ds' : List Device) → (play : Plays programs detaches number acts ds first acts' ds')
+  play_alone : (number : ℕ) (acts : List Actor) (ds : List Device) (first more : List Line) (acts' last : List Actor) (ds' : List Device)
+      → (play : Plays programs detaches number acts ds first acts' ds')
       → (a : Actor) → slice_get acts i ≡ Some a → ((b : Actor) → slice_get acts' i ≡ Some b → Alone b more last) → Alone a (first ++ more) last
   play_alone number acts ds first more acts' last ds' play a e on = by_turn (eqb play.i i) refl
     where
@@ -139,7 +140,8 @@ module _ (programs : List Program) (detaches : List Detach) (i : ℕ) (w : Progr
           ap (own_lines i) play.made ∙ ap (λ (k : ℕ). own_lines i (map (line_at play.a.due k) (events_with_looks play.w.looks (turn_of play.a.notes)))) z
           ∙ own_of_self i play.a.due (events_with_looks play.w.looks (turn_of play.a.notes)) in
           let lines : own_lines i (first ++ more) ≡ turn_lines 0 play.w play.a ++ own_lines i more = own_on i first more ∙ ap (λ (ls : List Line). ls ++ own_lines i more) made in
-          let rest : Events (play.w ∷ []) [] (suc n) (moved ∷ []) [] (own_lines i more) (r.0 ∷ []) [] = subst (λ (v : Program). Events (v ∷ []) [] (suc n) (moved ∷ []) [] (own_lines i more) (r.0 ∷ []) []) (sym is_w) r.2 in
+          let rest : Events (play.w ∷ []) [] (suc n) (moved ∷ []) [] (own_lines i more) (r.0 ∷ []) [] =
+          subst (λ (v : Program). Events (v ∷ []) [] (suc n) (moved ∷ []) [] (own_lines i more) (r.0 ∷ []) []) (sym is_w) r.2 in
           let whole : Events (play.w ∷ []) [] n (play.a ∷ []) [] (own_lines i (first ++ more)) (r.0 ∷ []) [] = an_event alone rest lines in (
             r.0,
             r.1,

@@ -252,7 +252,8 @@ module _ (p : Module) (x : Exports) (plan : Plan) where
   over_still (suc count) n s = refl
 
   -- behind a move that leads to u
-  behind_move : (left : ℕ) (es : List Note) (u : Held) (r : Ran Held Note) → Tells left es u → (((s : Store) → u ≡ over s → ⊥) → Tells (left_count u) r.events r.last) → ((s : Store) → u ≡ over s → r ≡ still u)
+  behind_move : (left : ℕ) (es : List Note) (u : Held) (r : Ran Held Note) → Tells left es u → (((s : Store) → u ≡ over s → ⊥) → Tells (left_count u) r.events r.last)
+      → ((s : Store) → u ≡ over s → r ≡ still u)
       → Tells left (es ++ r.events) r.last
   behind_move left es (free s l) r t on halt = behind_live left es r.events (free s l) r.last t.0 t.1 (on (λ z e. cc))
   behind_move left es (starting f s l) r t on halt = behind_live left es r.events (starting f s l) r.last t.0 t.1 (on (λ z e. cc))
@@ -283,12 +284,14 @@ module _ (p : Module) (x : Exports) (plan : Plan) where
           halted s e = subst (λ (v : Held). run_with (protocol p x plan) count (n - suc k) v ≡ still v) (sym e) (over_still count (n - suc k) s)
 
           by_cost : (b : Bool)
-              → Tells (left_count t) (if b then after es (run_with (protocol p x plan) count (n - suc k) u) else still t).events (if b then after es (run_with (protocol p x plan) count (n - suc k) u) else still t).last
+              → Tells (left_count t) (if b then after es (run_with (protocol p x plan) count (n - suc k) u) else still t).events
+              (if b then after es (run_with (protocol p x plan) count (n - suc k) u) else still t).last
           by_cost true = behind_move (left_count t) es u (run_with (protocol p x plan) count (n - suc k) u) w (more (n - suc k) u) halted
           by_cost false = stays_tells t h
 
   -- a run with notes before it
-  pub after_tells : (left n : ℕ) (r : Ran Held Note) → Tells left r.events r.last → Tells left (after r.events (run (protocol p x plan) n r.last)).events (after r.events (run (protocol p x plan) n r.last)).last
+  pub after_tells : (left n : ℕ) (r : Ran Held Note) → Tells left r.events r.last
+      → Tells left (after r.events (run (protocol p x plan) n r.last)).events (after r.events (run (protocol p x plan) n r.last)).last
   after_tells left n r h = behind_move left r.events r.last (run (protocol p x plan) n r.last) h (run_with_tells n n r.last) halted
     where
       halted : (s : Store) → r.last ≡ over s → run (protocol p x plan) n r.last ≡ still r.last
@@ -302,4 +305,5 @@ module _ (p : Module) (x : Exports) (plan : Plan) where
 -- Of a run under the protocol: where it is over its notes end, or stand at a call that no outcome is left for; else no note is an end.
 pub protocol_tells : (p : Module) (plan : Plan) (os : List Outcome) (n : ℕ) → Tells (length os) (Protocol p plan os n).events (Protocol p plan os n).last
 protocol_tells p plan os n =
-    after_tells p (exports_of p) plan (length os) n (held_begun p.start (all_left plan os) (opening p plan.globals)) (begun_tells p (exports_of p) plan p.start (all_left plan os) (opening p plan.globals))
+    after_tells p (exports_of p) plan (length os) n (held_begun p.start (all_left plan os) (opening p plan.globals))
+    (begun_tells p (exports_of p) plan p.start (all_left plan os) (opening p plan.globals))

@@ -35,12 +35,14 @@ reply_same r q e = ap (λ (a : Answer). record { value = a.value; ticks = a.tick
 -- a device replies, or fails
 abbrev Replies : (base name : List ℕ) → List Value → List Device → Outcome → List Device → Type 0
 Replies base name args ds o ds' =
-    (r : Reply) × ValueFits r.value × (r.ticks < 2 ^ 32) × (o ≡ given (record { value = r.value; pokes = []; ticks = r.ticks })) × (ds' ≡ journaled name (record { base = base; args = args; reply = r }) ds)
+    (r : Reply) × ValueFits r.value × (r.ticks < 2 ^ 32) × (o ≡ given (record { value = r.value; pokes = []; ticks = r.ticks })) ×
+    (ds' ≡ journaled name (record { base = base; args = args; reply = r }) ds)
 
 abbrev Fails : (import : ℕ) → List Device → Outcome → List Device → Type 0
 Fails import ds o ds' = (o ≡ refused (DeviceFault import)) × (ds' ≡ ds)
 
-device_fixes : (import : ℕ) (base name : List ℕ) (args : List Value) (ds : List Device) (o : Outcome) (d e : List Device) → MeetsDevice import base name args ds o d → MeetsDevice import base name args ds o e → d ≡ e
+device_fixes : (import : ℕ) (base name : List ℕ) (args : List Value) (ds : List Device) (o : Outcome) (d e : List Device) → MeetsDevice import base name args ds o d
+    → MeetsDevice import base name args ds o e → d ≡ e
 device_fixes import base name args ds o d e h k = by_there (list_any (is_named name) ds) h k
   where
     apart : (a : Answer) (y : End) → o ≡ given a → o ≡ refused y → ⊥
@@ -52,7 +54,8 @@ device_fixes import base name args ds o d e h k = by_there (list_any (is_named n
     both (inr f) (inl r) = absurd (apart (answer_of r.0) (DeviceFault import) r.3 f.0)
     both (inr f) (inr g) = f.1 ∙ sym g.1
 
-    by_there : (b : Bool) → MatchBool b (Replies base name args ds o d ⊎ Fails import ds o d) ((o ≡ refused (NoDevice import)) × (d ≡ ds)) → MatchBool b (Replies base name args ds o e ⊎ Fails import ds o e) ((o ≡ refused (NoDevice import)) × (e ≡ ds)) → d ≡ e
+    by_there : (b : Bool) → MatchBool b (Replies base name args ds o d ⊎ Fails import ds o d) ((o ≡ refused (NoDevice import)) × (d ≡ ds))
+        → MatchBool b (Replies base name args ds o e ⊎ Fails import ds o e) ((o ≡ refused (NoDevice import)) × (e ≡ ds)) → d ≡ e
     by_there true p q = both p q
     by_there false p q = p.1 ∙ sym q.1
 
@@ -90,7 +93,8 @@ calls_fix w [] us r s lines ds o1 o2 l1 l2 d1 d2 h g few = ((us, h.0, g.0, omega
 calls_fix w (x ∷ xs) us r s lines ds o1 o2 l1 l2 d1 d2 h g few = by_call (λ us lines ds h g few. calls_fix w xs us r s lines ds o1 o2 l1 l2 d1 d2 h g few) (call_in x.event) us h g few
   where
     by_call : ((us : List Outcome) (lines : List AnswerLine) (ds : List Device) → CallsMeet w xs (us ++ r) lines ds o1 l1 d1 → CallsMeet w xs (us ++ s) lines ds o2 l2 d2 → new_calls xs ≤ length us
-        → Fixed us r s xs o1 o2 × (l1 ≡ l2) × (d1 ≡ d2)) → (c : Option Call) (us : List Outcome) → NoteMeets w c (us ++ r) lines ds (λ o l d. CallsMeet w xs o l d o1 l1 d1) → NoteMeets w c (us ++ s) lines ds (λ o l d. CallsMeet w xs o l d o2 l2 d2)
+        → Fixed us r s xs o1 o2 × (l1 ≡ l2) × (d1 ≡ d2)) → (c : Option Call) (us : List Outcome) → NoteMeets w c (us ++ r) lines ds (λ o l d. CallsMeet w xs o l d o1 l1 d1)
+        → NoteMeets w c (us ++ s) lines ds (λ o l d. CallsMeet w xs o l d o2 l2 d2)
         → one_if c + new_calls xs ≤ length us
         → ((vs : List Outcome) × (o1 ≡ vs ++ r) × (o2 ≡ vs ++ s) × (length us ≡ (one_if c + new_calls xs) + length vs)) × (l1 ≡ l2) × (d1 ≡ d2)
     by_call on None us h g few = let z = on us lines ds h g (omega arith) in ((z.0.0, z.0.1, z.0.2, omega (arith, z.0.3)), z.1, z.2)
@@ -182,7 +186,8 @@ module _ (ws : List Program) (detaches : List Detach) where
       let es : List Device = detached number detaches ds in
       let turn : List Note = turn_of h.a.notes in
       let turns : turn_of g.a.notes ≡ turn = ap turn_of (sym t.notes) in
-      let ch : CallsMeet h.w turn (t.used ++ t.rest) h.a.answers es h.outcomes h.answers d1 = subst (λ (os : List Outcome). CallsMeet h.w turn os h.a.answers es h.outcomes h.answers d1) t.first h.calls in
+      let ch : CallsMeet h.w turn (t.used ++ t.rest) h.a.answers es h.outcomes h.answers d1 =
+      subst (λ (os : List Outcome). CallsMeet h.w turn os h.a.answers es h.outcomes h.answers d1) t.first h.calls in
       let cg : CallsMeet h.w turn (t.used ++ t.rest') h.a.answers es g.outcomes g.answers d2 =
       subst (λ (w : Program). CallsMeet w turn (t.used ++ t.rest') h.a.answers es g.outcomes g.answers d2) w_same
       (subst (λ (xs : List Note). CallsMeet g.w xs (t.used ++ t.rest') h.a.answers es g.outcomes g.answers d2) turns
@@ -248,7 +253,8 @@ module _ (ws : List Program) (detaches : List Detach) where
       absurd (over_none q (twins_over p q tw o) number d l q1 f play)
   events_one number p q last last' ds d e1 e2 l1 l2 tw same (an_event {actors' = p1} {ds' = f} {lines = l} play rest e) o no_event o' =
       absurd (over_none p (twins_over_back p q tw o') number ds l p1 f play)
-  events_one number p q last last' ds d e1 e2 l1 l2 tw same (an_event {actors' = p1} {ds' = f1} {lines = a1} {more = m1} play1 rest1 s1) o (an_event {actors' = q1} {ds' = f2} {lines = a2} {more = m2} play2 rest2 s2) o' =
+  events_one number p q last last' ds d e1 e2 l1 l2 tw same (an_event {actors' = p1} {ds' = f1} {lines = a1} {more = m1} play1 rest1 s1) o
+      (an_event {actors' = q1} {ds' = f2} {lines = a2} {more = m2} play2 rest2 s2) o' =
       let play2' : Plays ws detaches number q ds a2 q1 f2 = subst (λ (x : List Device). Plays ws detaches number q x a2 q1 f2) (sym same) play2 in
       let one = plays_one number p q p1 q1 ds f1 f2 a1 a2 tw play1 play2' in
       let on = events_one (suc number) p1 q1 last last' f1 f2 e1 e2 m1 m2 one.2 one.1 rest1 o rest2 o' in

@@ -26,7 +26,8 @@ AnswersFit lines = All (λ (l : AnswerLine). AnswerFits l.answer) lines
 -- a device replies, or fails
 abbrev Replies : (base name : List ℕ) → List Value → List Device → Outcome → List Device → Type 0
 Replies base name args ds o ds' =
-    (r : Reply) × ValueFits r.value × (r.ticks < 2 ^ 32) × (o ≡ given (record { value = r.value; pokes = []; ticks = r.ticks })) × (ds' ≡ journaled name (record { base = base; args = args; reply = r }) ds)
+    (r : Reply) × ValueFits r.value × (r.ticks < 2 ^ 32) × (o ≡ given (record { value = r.value; pokes = []; ticks = r.ticks })) ×
+    (ds' ≡ journaled name (record { base = base; args = args; reply = r }) ds)
 
 abbrev Fails : (import : ℕ) → List Device → Outcome → List Device → Type 0
 Fails import ds o ds' = (o ≡ refused (DeviceFault import)) × (ds' ≡ ds)
@@ -42,7 +43,8 @@ device_fits import base name args ds o ds' h = by_there (list_any (is_named name
     by_there true w = answers_so w
     by_there false w = subst OutcomeFits (sym w.0) tt
 
-line_fits : (import : ℕ) (name : List ℕ) (lines : List AnswerLine) (o : Outcome) (lines' : List AnswerLine) → MeetsLine import name lines o lines' → AnswersFit lines → OutcomeFits o × AnswersFit lines'
+line_fits : (import : ℕ) (name : List ℕ) (lines : List AnswerLine) (o : Outcome) (lines' : List AnswerLine) → MeetsLine import name lines o lines' → AnswersFit lines
+    → OutcomeFits o × AnswersFit lines'
 line_fits import name [] o lines' h fit = (subst OutcomeFits (sym h.0) tt, subst AnswersFit (sym h.1) fit)
 line_fits import name (l ∷ ls) o lines' h fit = by_name (same_name l.import name) h
   where
@@ -160,7 +162,8 @@ events_met programs detaches number acts ds lines last ds' (an_event {actors' = 
 
 -- ---- the same calls with fewer outcomes behind them
 
-pub calls_trimmed : (looks : List Look) (w v : Program) → SameCalls w v → (xs ys : List Note) → Alike looks xs ys → (us rest : List Outcome) (lines : List AnswerLine) (ds : List Device) (os' : List Outcome) (lines' : List AnswerLine) (ds' : List Device)
+pub calls_trimmed : (looks : List Look) (w v : Program) → SameCalls w v → (xs ys : List Note) → Alike looks xs ys
+    → (us rest : List Outcome) (lines : List AnswerLine) (ds : List Device) (os' : List Outcome) (lines' : List AnswerLine) (ds' : List Device)
     → CallsMeet w ys (us ++ rest) lines ds os' lines' ds' → new_calls ys ≤ length us
     → (us' : List Outcome) × CallsMeet v xs us lines ds us' lines' ds' × (os' ≡ us' ++ rest) × (length us ≡ new_calls ys + length us')
 calls_trimmed looks w v same [] [] al us rest lines ds os' lines' ds' h few = (us, (refl, h.1, h.2), h.0, omega arith)

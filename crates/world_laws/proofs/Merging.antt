@@ -198,7 +198,8 @@ module _ (ws : List Program) (detaches : List Detach) where
       let front : CallsMeet w (turn_of a.notes) a.outcomes a.answers es parts.0 parts.1 es =
       calls_with w r.unbound (turn_of a.notes) a.outcomes a.answers [] parts.0 parts.1 parts.2 parts.3 refl es in
       let none_left : parts.2 ≡ [] = kept w r.unbound (turn_of a.notes) a.outcomes a.answers [] parts.0 parts.1 parts.2 parts.3 in
-      let behind : CallsMeet w (behind_turn a.notes) parts.0 parts.1 [] [] r.left [] = subst (λ (d : List Device). CallsMeet w (behind_turn a.notes) parts.0 parts.1 d [] r.left []) none_left parts.4 in
+      let behind : CallsMeet w (behind_turn a.notes) parts.0 parts.1 [] [] r.left [] =
+      subst (λ (d : List Device). CallsMeet w (behind_turn a.notes) parts.0 parts.1 d [] r.left []) none_left parts.4 in
       let ready_b : Ready w b = record { unbound = r.unbound; left = r.left; calls = behind } in
       let fewer : size (slice_set acts i b) < size acts = omega (arith, size_set acts i a b n.there, shorter a.notes n.unfinished) in
       let on = more b es fewer (ready_set ws acts i w b ready found.1 ready_b) in

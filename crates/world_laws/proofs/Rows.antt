@@ -35,7 +35,8 @@ same_of x y e = cc
 abbrev Found : List Original → List Actor → ℕ → Actor → Program → Type 0
 Found os bs i a w = (o : Original) × (b : Actor) × (slice_get os i ≡ Some o) × (slice_get bs i ≡ Some b) × Row o w a b
 
-row_at : (os : List Original) (ws : List Program) (acts bs : List Actor) → Rows os ws acts bs → (i : ℕ) (a : Actor) (w : Program) → slice_get acts i ≡ Some a → slice_get ws i ≡ Some w → Found os bs i a w
+row_at : (os : List Original) (ws : List Program) (acts bs : List Actor) → Rows os ws acts bs → (i : ℕ) (a : Actor) (w : Program) → slice_get acts i ≡ Some a → slice_get ws i ≡ Some w
+    → Found os bs i a w
 row_at [] [] [] [] h i a w ea ew = cc
 row_at (o ∷ os) (w ∷ ws) (a ∷ acts) (b ∷ bs) h zero a' w' ea ew =
     (o, b, refl, refl, subst (λ (z : Program). Row o z a' b) (same_of w w' ew) (subst (λ (z : Actor). Row o w z b) (same_of a a' ea) h.0))
@@ -54,7 +55,8 @@ row_back (o ∷ os) (w ∷ ws) (a ∷ acts) (b ∷ bs) h zero b' e =
 row_back (o ∷ os) (w ∷ ws) (a ∷ acts) (b ∷ bs) h (suc i) b' e = row_back os ws acts bs h.1 i b' e
 row_back _ _ _ _ h i b e = absurd h
 
-row_set : (os : List Original) (ws : List Program) (acts bs : List Actor) → Rows os ws acts bs → (i : ℕ) (o : Original) (w : Program) (a b : Actor) → slice_get os i ≡ Some o → slice_get ws i ≡ Some w → Row o w a b
+row_set : (os : List Original) (ws : List Program) (acts bs : List Actor) → Rows os ws acts bs → (i : ℕ) (o : Original) (w : Program) (a b : Actor) → slice_get os i ≡ Some o
+    → slice_get ws i ≡ Some w → Row o w a b
     → Rows os ws (slice_set acts i a) (slice_set bs i b)
 row_set [] [] [] [] h i o w a b eo ew r = tt
 row_set (o ∷ os) (w ∷ ws) (a ∷ acts) (b ∷ bs) h zero o' w' a' b' eo ew r =
@@ -67,7 +69,8 @@ programs_at [] i o e = cc
 programs_at (p ∷ os) zero o e = ap (λ (z : Original). Some z.program) (same_of p o e)
 programs_at (p ∷ os) (suc i) o e = programs_at os i o e
 
-next_beside : (os : List Original) (ws : List Program) (acts bs : List Actor) (i : ℕ) (a b : Actor) → Rows os ws acts bs → slice_get bs i ≡ Some b → b.due ≡ a.due → length b.notes ≡ length a.notes → IsNext acts i a → IsNext bs i b
+next_beside : (os : List Original) (ws : List Program) (acts bs : List Actor) (i : ℕ) (a b : Actor) → Rows os ws acts bs → slice_get bs i ≡ Some b → b.due ≡ a.due
+    → length b.notes ≡ length a.notes → IsNext acts i a → IsNext bs i b
 next_beside os ws acts bs i a b rows there due len n = record {
   there = there;
   unfinished = let u = n.unfinished in omega (arith, len, u);
@@ -105,7 +108,8 @@ plays_beside os ws acts bs detaches number ds lines acts' ds' rows h = by_row (r
         let calls : CallsMeet h.w (turn_of h.a.notes) (b.outcomes ++ r.rest) b.answers (detached number detaches ds) h.outcomes h.answers ds' =
         subst (λ (ls : List AnswerLine). CallsMeet h.w (turn_of h.a.notes) (b.outcomes ++ r.rest) ls (detached number detaches ds) h.outcomes h.answers ds') (sym r.answers)
         (subst (λ (xs : List Outcome). CallsMeet h.w (turn_of h.a.notes) xs h.a.answers (detached number detaches ds) h.outcomes h.answers ds') r.outcomes h.calls) in
-        let t = calls_trimmed h.w.looks h.w o.program r.calls (turn_of b.notes) (turn_of h.a.notes) turn b.outcomes r.rest b.answers (detached number detaches ds) h.outcomes h.answers ds' calls (omega (arith, split, r.count)) in
+        let t = calls_trimmed h.w.looks h.w o.program r.calls (turn_of b.notes) (turn_of h.a.notes) turn b.outcomes r.rest b.answers
+        (detached number detaches ds) h.outcomes h.answers ds' calls (omega (arith, split, r.count)) in
         let b' : Actor = record { due = b.due + put_off (turn_of b.notes); notes = behind_turn b.notes; outcomes = t.0; answers = h.answers } in
         let row : Row o h.w a' b' = record {
           calls = r.calls;
@@ -138,7 +142,8 @@ plays_beside os ws acts bs detaches number ds lines acts' ds' rows h = by_row (r
           subst (λ (xs : List Actor). Rows os ws xs (slice_set bs h.i b')) (sym h.after) (row_set os ws acts bs rows h.i o h.w a' b' f.2 h.program row),
         )
 
-pub events_beside : (os : List Original) (ws : List Program) (detaches : List Detach) (number : ℕ) (acts bs : List Actor) (ds : List Device) (lines : List Line) (last : List Actor) (ds' : List Device)
+pub events_beside : (os : List Original) (ws : List Program) (detaches : List Detach) (number : ℕ) (acts bs : List Actor) (ds : List Device) (lines : List Line) (last : List Actor)
+    (ds' : List Device)
     → Rows os ws acts bs → Events ws detaches number acts ds lines last ds' → (last' : List Actor) × Events (programs_of os) detaches number bs ds lines last' ds' × Rows os ws last last'
 events_beside os ws detaches number acts bs ds lines last ds' rows no_event = (bs, no_event, rows)
 events_beside os ws detaches number acts bs ds lines last ds' rows (an_event {actors' = acts1} {ds' = ds1} {lines = first} {more = more} play rest e) =

@@ -38,7 +38,8 @@ same_bytes xs ys at n h = same_take n (drop at xs) (drop at ys) (λ x lt. get_dr
 
 -- a place in a range that doesn't overlap another lies below or above that
 off_range : (at len at' len' : ℕ) → overlap at len at' len' ≡ false → 0 < len' → (x : ℕ) → at ≤ x → x < at + len → (x < at') ⊎ (at' + len' ≤ x)
-off_range at len at' len' off some x low high = ⊎_elim (λ below. inl below) (λ not_below. ⊎_elim (λ inside. absurd (bad inside not_below)) (λ above. inr above) (cases_lt x (at' + len'))) (cases_lt x at')
+off_range at len at' len' off some x low high = ⊎_elim (λ below. inl below) (λ not_below. ⊎_elim (λ inside. absurd (bad inside not_below)) (λ above. inr above) (cases_lt x (at' + len')))
+    (cases_lt x at')
   where
     bad : x < at' + len' → at' ≤ x → ⊥
     bad inside not_below =
@@ -77,7 +78,8 @@ pub record Prints (looks : List Look) (x y : Note) : Type 0 where
   pub event : x.event ≡ y.event
   pub shows : looks_after looks x x.event ≡ looks_after looks y y.event
 
-pub prints_by : (globals : ℕ) (area : Area) → 0 < area.len → (looks : List Look) → All (ShowsOff area) looks → (xs ys : List Note) → AllZip (SameMoment globals area) xs ys → AllZip (Prints looks) xs ys
+pub prints_by : (globals : ℕ) (area : Area) → 0 < area.len → (looks : List Look) → All (ShowsOff area) looks → (xs ys : List Note) → AllZip (SameMoment globals area) xs ys
+    → AllZip (Prints looks) xs ys
 prints_by globals area some looks off [] [] h = tt
 prints_by globals area some looks off [] (y ∷ ys) h = absurd h
 prints_by globals area some looks off (x ∷ xs) [] h = absurd h

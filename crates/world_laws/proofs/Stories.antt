@@ -229,5 +229,6 @@ stories_of_originals o w os st may fits enough ord =
     let few : new_calls (Protocol w.source plan os n).events ≤ length os = subst (λ (r : Ran Held Note). new_calls r.events ≤ length os) run (omega arith) in
     subst (λ (story : List Note). (notes : List Note) × BlockingStory o.settings o.program os notes × AllZip (SameMoment (global_space o.program.source) plan.area) notes story) (sym same)
     (told o w.source os which
-    (λ k le. st.rewrites.behaves may.well_formed which ord.tells plan os k (compared_lower o.program.source o.settings plan os n k le compared) (pauses_lower o.program.source o.settings which plan os n k le ord.numbered))
+    (λ k le. st.rewrites.behaves may.well_formed which ord.tells plan os k (compared_lower o.program.source o.settings plan os n k le compared)
+    (pauses_lower o.program.source o.settings which plan os n k le ord.numbered))
     (Protocol w.source plan os n).last refl (protocol_tells w.source plan os n) few)

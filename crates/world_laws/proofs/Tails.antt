@@ -118,14 +118,16 @@ module _ (p : Module) (x : Exports) (plan : Plan) (tail : List Outcome) where
         (refl, the_call import args (outermost old), note (answered a.value) s ∷ done_notes s l.entries, refl, (refl, refl, record { import = import; args = args }, refl), tt, tt)
 
     tested_calls : (k import : ℕ) (args : List Value) (who : Asker) (l : Left) (a : Answer) (o : Option End) (ticks : ℕ) → ticks ≡ a.ticks
-        → fault_of (func_type_at p import).results (length (store_at who).memory) plan (in_start who) import a ≡ o → Goes k (the_call import args who) (held_tested p x plan k import args who l a o (pause_of ticks))
+        → fault_of (func_type_at p import).results (length (store_at who).memory) plan (in_start who) import a ≡ o
+        → Goes k (the_call import args who) (held_tested p x plan k import args who l a o (pause_of ticks))
     tested_calls k import args who l a (Some e) ticks t f =
         (refl, the_call import args who, note (ended e) (store_at who) ∷ [], refl, (refl, refl, record { import = import; args = args }, refl), tt, tt)
     tested_calls k import args who l a None zero t f = giving_calls k import args who l a (poked (store_at who) a.pokes)
     tested_calls k import args who l a None (suc ticks) t f =
         pausing_calls k import args who l a (suc ticks) (fault_outside (func_type_at p import).results (length (store_at who).memory) plan (in_start who) import a ticks (sym t) f)
 
-  outcome_calls : (k import : ℕ) (args : List Value) (who : Asker) (l : Left) (o : Outcome) (os : List Outcome) → Calls (o ∷ os) k (the_call import args who) (held_asked p x plan k import args who l (o ∷ os))
+  outcome_calls : (k import : ℕ) (args : List Value) (who : Asker) (l : Left) (o : Outcome) (os : List Outcome)
+      → Calls (o ∷ os) k (the_call import args who) (held_asked p x plan k import args who l (o ∷ os))
   outcome_calls k import args who l (refused e) os =
       (refl, the_call import args who, note (ended e) (store_at who) ∷ [], refl, (refl, refl, record { import = import; args = args }, refl), (store_at who, refl), (store_at who, refl))
   outcome_calls k import args who l (given a) os =
@@ -136,7 +138,8 @@ module _ (p : Module) (x : Exports) (plan : Plan) (tail : List Outcome) where
   longer_call k y stops s h = absurd h
   longer_call k y (goes j fs v) s h = inr (y, (refl, refl, s, refl), h)
 
-  asked_longer : (k import : ℕ) (args : List Value) (who : Asker) (l : Left) (os : List Outcome) → Longer (length os) (held_asked p x plan k import args who (tl l) (os ++ tail)) (held_asked p x plan k import args who l os)
+  asked_longer : (k import : ℕ) (args : List Value) (who : Asker) (l : Left) (os : List Outcome)
+      → Longer (length os) (held_asked p x plan k import args who (tl l) (os ++ tail)) (held_asked p x plan k import args who l os)
   asked_longer k import args who l [] = by_tail tail refl
     where
       by_tail : (more : List Outcome) → tail ≡ more → Longer 0 (held_asked p x plan k import args who (tl l) more) (held_asked p x plan k import args who l [])
@@ -147,7 +150,8 @@ module _ (p : Module) (x : Exports) (plan : Plan) (tail : List Outcome) where
   asked_longer k import args who l (refused e ∷ os) = inl (refl, refl, refl)
   asked_longer k import args who l (given a ∷ os) =
       let o : Option End = fault_of (func_type_at p import).results (length (store_at who).memory) plan (in_start who) import a in
-      longer_by (suc (length os)) (held_tested p x plan k import args who (tl (with_outcomes l os)) a o (pause_of a.ticks)) (held_tested p x plan k import args who (with_outcomes l os) a o (pause_of a.ticks))
+      longer_by (suc (length os)) (held_tested p x plan k import args who (tl (with_outcomes l os)) a o (pause_of a.ticks))
+      (held_tested p x plan k import args who (with_outcomes l os) a o (pause_of a.ticks))
       (tested_tailed k import args who (with_outcomes l os) a o (pause_of a.ticks))
 
   busy_longer : (ph : Phase) (l : Left) (o : Next) → Longer (length l.outcomes) (busy_step p x plan ph (tl l) o) (busy_step p x plan ph l o)
@@ -217,7 +221,8 @@ module _ (p : Module) (x : Exports) (plan : Plan) (tail : List Outcome) where
   next_longer s l [] = tt
   next_longer s l (e ∷ es) = enters_longer (is_running (an_entry e)) e s (record { number = l.number; entries = es; outcomes = l.outcomes }) (defined_at p e.func)
 
-  called_longer : (ph : Phase) (s : Store) (f : ℕ) (args : List Value) (th : Then) (l : Left) (o : Option Func) → Longer (length l.outcomes) (aside_called ph s f args th (tl l) o) (aside_called ph s f args th l o)
+  called_longer : (ph : Phase) (s : Store) (f : ℕ) (args : List Value) (th : Then) (l : Left) (o : Option Func)
+      → Longer (length l.outcomes) (aside_called ph s f args th (tl l) o) (aside_called ph s f args th l o)
   called_longer ph s f args th l None = tt
   called_longer ph s f args th l (Some g) = inl (refl, refl, refl)
 
@@ -226,7 +231,8 @@ module _ (p : Module) (x : Exports) (plan : Plan) (tail : List Outcome) where
   start_longer f s l None = by_import (nat_lt f (func_imports p))
     where
       by_import : (b : Bool)
-          → Longer (length l.outcomes) (if b then held_asked p x plan 0 f [] (outermost s) (tl l) (l.outcomes ++ tail) else stops) (if b then held_asked p x plan 0 f [] (outermost s) l l.outcomes else stops)
+          → Longer (length l.outcomes) (if b then held_asked p x plan 0 f [] (outermost s) (tl l) (l.outcomes ++ tail) else stops)
+          (if b then held_asked p x plan 0 f [] (outermost s) l l.outcomes else stops)
       by_import true = asked_longer 0 f [] (outermost s) l l.outcomes
       by_import false = tt
 
@@ -282,7 +288,8 @@ module _ (p : Module) (x : Exports) (plan : Plan) (tail : List Outcome) where
   over_on count n s = over_still p x plan count n s ∙ sym (ap (mapped (tailed tail)) (over_still p x plan count n s))
 
   -- behind a move that both make
-  behind_move : (left count n : ℕ) (es : List Note) (u : Held) → Tells left es u → GoesOn (left_count u) (on count n (tailed tail u)) (on count n u) → GoesOn left (after es (on count n (tailed tail u))) (after es (on count n u))
+  behind_move : (left count n : ℕ) (es : List Note) (u : Held) → Tells left es u → GoesOn (left_count u) (on count n (tailed tail u)) (on count n u)
+      → GoesOn left (after es (on count n (tailed tail u))) (after es (on count n u))
   behind_move left count n es (free s l) w g = goes_on_behind left (length l.outcomes) es (on count n (tailed tail (free s l))) (on count n (free s l)) w.1 g
   behind_move left count n es (starting f s l) w g = goes_on_behind left (length l.outcomes) es (on count n (tailed tail (starting f s l))) (on count n (starting f s l)) w.1 g
   behind_move left count n es (busy ph c l) w g = goes_on_behind left (length l.outcomes) es (on count n (tailed tail (busy ph c l))) (on count n (busy ph c l)) w.1 g
@@ -304,7 +311,8 @@ module _ (p : Module) (x : Exports) (plan : Plan) (tail : List Outcome) where
         ∙ h.1,
   )
 
-  behind_call : (left count n j k : ℕ) (y : Note) (es fs : List Note) (t' t : Held) → AtCall left y fs t → Calls tail j y (goes k es t') → GoesOn left (after es (on count n t')) (after fs (on count n t))
+  behind_call : (left count n j k : ℕ) (y : Note) (es fs : List Note) (t' t : Held) → AtCall left y fs t → Calls tail j y (goes k es t')
+      → GoesOn left (after es (on count n t')) (after fs (on count n t))
   behind_call left count n j k y es fs t' t h c =
       let still_there : on count n t ≡ still (over h.2) = ap (on count n) h.3 ∙ over_still p x plan count n h.2 in
       inr (record {
@@ -340,7 +348,8 @@ module _ (p : Module) (x : Exports) (plan : Plan) (tail : List Outcome) where
           by_cost true = behind_move (left_count t) count (n - suc j) fs u w (more (n - suc j) u)
           by_cost false = inl refl
       by_turn (goes k es u') (goes j fs u) (inr h) w more =
-          subst (λ (i : ℕ). GoesOn (left_count t) (if nat_lt i n then after es (on count (n - suc i) u') else still (tailed tail t)) (if nat_lt j n then after fs (on count (n - suc j) u) else still t)) (sym h.2.0)
+          subst (λ (i : ℕ). GoesOn (left_count t) (if nat_lt i n then after es (on count (n - suc i) u') else still (tailed tail t))
+          (if nat_lt j n then after fs (on count (n - suc j) u) else still t)) (sym h.2.0)
           (by_cost (nat_lt j n))
         where
           by_cost : (b : Bool) → GoesOn (left_count t) (if b then after es (on count (n - suc j) u') else still (tailed tail t)) (if b then after fs (on count (n - suc j) u) else still t)
@@ -374,7 +383,8 @@ pub protocol_tailed : (p : Module) (plan : Plan) (used tail : List Outcome) (n :
     → Protocol p plan (used ++ tail) n ≡ mapped (tailed tail) (Protocol p plan used n)
 protocol_tailed p plan used tail n le = by_way (protocol_forks p plan used tail n)
   where
-    by_way : GoesOn p (exports_of p) plan tail (length used) (Protocol p plan (used ++ tail) n) (Protocol p plan used n) → Protocol p plan (used ++ tail) n ≡ mapped (tailed tail) (Protocol p plan used n)
+    by_way : GoesOn p (exports_of p) plan tail (length used) (Protocol p plan (used ++ tail) n) (Protocol p plan used n)
+        → Protocol p plan (used ++ tail) n ≡ mapped (tailed tail) (Protocol p plan used n)
     by_way (inl same) = same
     by_way (inr f) =
         let all = ap new_calls f.second ∙ calls_on f.before (f.there ∷ f.more) in
@@ -460,7 +470,8 @@ story_forks w used tail = by_way (protocol_forks w.source w.plan used tail w.ste
     r' = Protocol w.source w.plan (used ++ tail) w.steps
 
     by_way : GoesOn w.source (exports_of w.source) w.plan tail (length used) r' r
-        → (r'.events ++ unless_over w.steps r'.last ≡ r.events ++ unless_over w.steps r.last) ⊎ StoryForks tail (length used) (r'.events ++ unless_over w.steps r'.last) (r.events ++ unless_over w.steps r.last)
+        → (r'.events ++ unless_over w.steps r'.last ≡ r.events ++ unless_over w.steps r.last) ⊎ StoryForks tail (length used) (r'.events ++ unless_over w.steps r'.last)
+        (r.events ++ unless_over w.steps r.last)
     by_way (inl same) =
         inl (ap (λ (q : Ran Held Note). q.events ++ unless_over w.steps q.last) same ∙ ap (λ (xs : List Note). r.events ++ xs) (unless_tailed w.steps tail r.last))
     by_way (inr f) = inr (record {
