@@ -55,7 +55,7 @@ none_behind xs (y ∷ ys) e =
     let no_way : ⊥ = omega arith in absurd no_way
 
 -- where nothing is to come with some outcomes, nothing is with others
-none_to_come : (w : Program) (pre t u : List Outcome) (done xs ys : List Note) → new_calls done ≡ length pre → protocol_story w (pre ++ t) ≡ done ++ xs
+pub none_to_come : (w : Program) (pre t u : List Outcome) (done xs ys : List Note) → new_calls done ≡ length pre → protocol_story w (pre ++ t) ≡ done ++ xs
     → protocol_story w (pre ++ u) ≡ done ++ ys → xs ≡ [] → ys ≡ []
 none_to_come w pre t u done xs ys count e f none =
     let whole = whole_alone w pre t done count (e ∙ ap (λ (zs : List Note). done ++ zs) none ∙ append-nil done) in
@@ -65,7 +65,7 @@ has_or : (xs : List Note) → (xs ≡ []) ⊎ (0 < length xs)
 has_or [] = inl refl
 has_or (x ∷ xs) = inr (omega arith)
 
-some_to_come : (w : Program) (pre t u : List Outcome) (done xs ys : List Note) → new_calls done ≡ length pre → protocol_story w (pre ++ t) ≡ done ++ xs
+pub some_to_come : (w : Program) (pre t u : List Outcome) (done xs ys : List Note) → new_calls done ≡ length pre → protocol_story w (pre ++ t) ≡ done ++ xs
     → protocol_story w (pre ++ u) ≡ done ++ ys → 0 < length xs → 0 < length ys
 some_to_come w pre t u done xs ys count e f has = by_notes (has_or ys)
   where
@@ -165,7 +165,7 @@ all_swapped [] [] (n ∷ now) acts st si is = absurd si
 all_swapped (w ∷ ws) (a ∷ p) [] acts st si is = absurd si
 
 -- lists with one end have one beginning
-front_same : {X : Type 0} (xs ys zs : List X) → xs ++ zs ≡ ys ++ zs → xs ≡ ys
+pub front_same : {X : Type 0} (xs ys zs : List X) → xs ++ zs ≡ ys ++ zs → xs ≡ ys
 front_same [] [] zs e = refl
 front_same [] (y ∷ ys) zs e = let a = ap length e in let b = length-append (y ∷ ys) zs in let no_way : ⊥ = omega arith in absurd no_way
 front_same (x ∷ xs) [] zs e = let a = ap length e in let b = length-append (x ∷ xs) zs in let no_way : ⊥ = omega arith in absurd no_way

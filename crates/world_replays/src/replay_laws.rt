@@ -1,0 +1,8 @@
+//! Laws of worlds that are told again by what was kept of them.
+
+ghost use Rattle.world_replays.specs.Replays.{JournalsFixLines};
+
+/// Two runs of one world that end with the same journals and tell faults at the same places have the same lines.
+pub fn journals_fix_lines()
+    ensures { JournalsFixLines }
+{}
