@@ -1,5 +1,5 @@
 -- A run under the protocol tells a device's failure nowhere but behind a call that was refused so.
-use Rattle.std.proofs.Common.{arith, ◌≡◌, ◌≤◌, ◌+◌, ◌-◌, ◌⊎◌, inl, inr, ℕ, zero, suc, ◌*◌, List, [], ◌∷◌, ◌++◌, length, map, replicate, Option, Some, None, Bool, true, false, refl, sym, ap, ◌∙◌, subst, append_assoc, append-nil, length-append}
+use Rattle.std.proofs.Common.{arith, ◌≡◌, ◌+◌, ◌-◌, ℕ, zero, suc, ◌*◌, List, [], ◌∷◌, ◌++◌, length, map, replicate, Option, Some, None, Bool, true, false, refl, sym, ap, ◌∙◌, subst, append_assoc, append-nil}
 use Rattle.std.specs.Prelude.{nat_lt, nat_eq, if◌then◌else◌}
 use Rattle.wa_types.specs.declared.values.ValType.{ValType}
 use Rattle.wa_types.specs.declared.values.Value.{Value}
@@ -9,15 +9,15 @@ use Rattle.wa_types.specs.Memory.{page_size}
 use Rattle.wa_types.specs.Modules.{all_memories, all_tables, func_imports, func_type_at, defined_at}
 use Rattle.wa_model.specs.declared.answers.Area.{Area}
 use Rattle.wa_model.specs.declared.events.End.{End}
-use Rattle.wa_model.specs.declared.events.End.TheVariants.{BadAnswer, BadPoke, PauseInStart, UnlistedPause}
-use Rattle.wa_model.specs.Outside.{Call, Poke, Answer, Event, called, answered, paused, returned, ended}
+use Rattle.wa_model.specs.declared.events.End.TheVariants.{BadAnswer, BadPoke}
+use Rattle.wa_model.specs.Outside.{Call, Poke, Answer, Event, called, answered, returned, ended}
 use Rattle.wa_model.specs.Machine.{Turn, stops, goes, Ran, after, still, pay, run_with, run}
 use Rattle.wa_model.specs.Store.{Store}
 use Rattle.wa_model.specs.Step.{Next, steps, asks, returns, traps, stuck, step}
 use Rattle.wa_model.specs.Plan.{Entry, Plan, Outcome, given, refused}
 use Rattle.wa_model.specs.Instantiation.{Piece, elem_piece, byte_piece, first_out, all_values, least_of, bytes_checked, elems_checked, opened_by, Opening, fails_as, opens, opening}
 use Rattle.wa_model.specs.Blocking.{Note, note, call_note, value_of_results, answers, poke_fits, bad_poke, is_unlisted, bad_pause, or_else, fault_of, pause_of, poked, done_notes, Task, the_start, an_entry, Left, with_outcomes, Asker, inside, outermost, store_at, stack_at, in_start, next_entry, all_left}
-use Rattle.wa_model.specs.Protocol.{Exports, exports_of, Phase, is_running, unwinds, rewinds, Then, give_zero, test_unwound, pause_there, call_again, test_rewound, give_answer, Held, free, starting, busy, calling, aside, entering, over, trap_end, broken, held_on, held_back, held_given, held_ends, held_pauses, held_tested, held_asked, busy_step, is_state, aside_back, aside_step, busy_enters, held_next, aside_called, held_start, protocol, held_begun, Protocol}
+use Rattle.wa_model.specs.Protocol.{Exports, exports_of, Phase, is_running, unwinds, rewinds, Then, give_zero, test_unwound, pause_there, call_again, test_rewound, give_answer, Held, free, starting, busy, calling, aside, entering, over, trap_end, broken, held_on, held_back, held_given, held_pauses, held_tested, held_asked, busy_step, is_state, aside_back, aside_step, busy_enters, held_next, aside_called, held_start, protocol, held_begun}
 use Rattle.wa_model.specs.World.{Program, call_in, unless_over, protocol_story}
 use Rattle.world_laws.specs.Originals.{one_if, new_calls}
 use Rattle.world_laws.proofs.Counting.{over_still}
@@ -78,7 +78,8 @@ fine_on : (used os : List Outcome) (xs ys : List Note) → length used ≡ new_c
 fine_on used os xs ys e h k = (opens_on xs ys h.0 k.0, inner_on used os xs ys e h.1 k)
 
 -- behind notes whose calls took these outcomes a call that is given an answer is followed by no fault
-pub opens_behind : (pre os : List Outcome) (done : List Note) (x : Note) (xs : List Note) (c : Call) (a : Answer) → new_calls done ≡ length pre → x.event ≡ called c → Inner (pre ++ given a ∷ os) (done ++ x ∷ xs) → Opens xs
+pub opens_behind : (pre os : List Outcome) (done : List Note) (x : Note) (xs : List Note) (c : Call) (a : Answer) → new_calls done ≡ length pre → x.event ≡ called c
+    → Inner (pre ++ given a ∷ os) (done ++ x ∷ xs) → Opens xs
 opens_behind [] os [] x xs c a e is h = (subst (λ (v : Event). AtCall (call_in v) (given a ∷ os) xs (λ us. Inner us xs)) is h).0
 opens_behind (p ∷ pre) os [] x xs c a e is h = let no_way : ⊥ = omega arith in absurd no_way
 opens_behind pre os (y ∷ done) x xs c a e is h = by_call (λ vs f g. opens_behind vs os done x xs c a f is g) (call_in y.event) pre refl e h
@@ -135,11 +136,13 @@ abbrev NotFailed : Opening → Type 0
 NotFailed (fails_as e) = is_device_fault e ≡ false
 NotFailed (opens s) = Unit {0}
 
-bytes_not : (globals : List Value) (memory : List ℕ) (table : List (Option ℕ)) (elems : List (Piece (Option ℕ))) (bytes : List (Piece ℕ)) (o : Option ℕ) → NotFailed (bytes_checked globals memory table elems bytes o)
+bytes_not : (globals : List Value) (memory : List ℕ) (table : List (Option ℕ)) (elems : List (Piece (Option ℕ))) (bytes : List (Piece ℕ)) (o : Option ℕ)
+    → NotFailed (bytes_checked globals memory table elems bytes o)
 bytes_not globals memory table elems bytes None = tt
 bytes_not globals memory table elems bytes (Some i) = refl
 
-elems_not : (globals : List Value) (memory : List ℕ) (table : List (Option ℕ)) (elems : List (Piece (Option ℕ))) (bytes : List (Piece ℕ)) (o : Option ℕ) → NotFailed (elems_checked globals memory table elems bytes o)
+elems_not : (globals : List Value) (memory : List ℕ) (table : List (Option ℕ)) (elems : List (Piece (Option ℕ))) (bytes : List (Piece ℕ)) (o : Option ℕ)
+    → NotFailed (elems_checked globals memory table elems bytes o)
 elems_not globals memory table elems bytes None = bytes_not globals memory table elems bytes (first_out (length memory) 0 bytes)
 elems_not globals memory table elems bytes (Some i) = refl
 
@@ -330,7 +333,8 @@ module _ (p : Module) (x : Exports) (plan : Plan) where
   behind_takes os left es fs h t k =
       subst (λ (us : List Outcome). Fine us (es ++ fs)) (sym t.1) (fine_on t.0 left es fs t.2 (subst (λ (us : List Outcome). Fine us es) t.1 h) k)
 
-  behind_fine : (n : ℕ) (os : List Outcome) (es : List Note) (u : Held) (r : Ran Held Note) → LeadsTo os es u → Fine (left_in u) (tail_of n r) → ((s : Store) → u ≡ over s → r ≡ still u) → Fine os (es ++ tail_of n r)
+  behind_fine : (n : ℕ) (os : List Outcome) (es : List Note) (u : Held) (r : Ran Held Note) → LeadsTo os es u → Fine (left_in u) (tail_of n r) → ((s : Store) → u ≡ over s → r ≡ still u)
+      → Fine os (es ++ tail_of n r)
   behind_fine n os es (free s l) r h k halt = behind_takes os l.outcomes es (tail_of n r) h.0 h.1 k
   behind_fine n os es (starting f s l) r h k halt = behind_takes os l.outcomes es (tail_of n r) h.0 h.1 k
   behind_fine n os es (busy ph c l) r h k halt = behind_takes os l.outcomes es (tail_of n r) h.0 h.1 k
@@ -374,5 +378,5 @@ story_fine w os =
     let r : Ran Held Note = held_begun p.start (all_left w.plan os) (opening p w.plan.globals) in
     let rest : Ran Held Note = run (protocol p x w.plan) w.steps r.last in
     let fine = behind_fine p x w.plan w.steps os r.events r.last rest (begun_fine p x w.plan p.start (all_left w.plan os) (opening p w.plan.globals) (opening_not p w.plan.globals))
-        (run_fine p x w.plan w.steps w.steps w.steps r.last) (λ s e. subst (λ (v : Held). run (protocol p x w.plan) w.steps v ≡ still v) (sym e) (over_still p x w.plan w.steps w.steps s)) in
+    (run_fine p x w.plan w.steps w.steps w.steps r.last) (λ s e. subst (λ (v : Held). run (protocol p x w.plan) w.steps v ≡ still v) (sym e) (over_still p x w.plan w.steps w.steps s)) in
     subst (Inner os) (sym (append_assoc r.events rest.events (unless_over w.steps rest.last))) fine.1

@@ -1,23 +1,22 @@
 -- What comes next in two stories of one program whose calls have met the same outcomes so far.
-use Rattle.std.proofs.Common.{arith, ◌≡◌, ◌≤◌, ◌<◌, ◌+◌, ◌^◌, ◌⊎◌, inl, inr, ℕ, zero, suc, List, [], ◌∷◌, ◌++◌, length, Option, Some, None, Bool, true, false, refl, sym, ap, ◌∙◌, subst, append_assoc, append-nil, length-append}
+use Rattle.std.proofs.Common.{arith, ◌≡◌, ◌≤◌, ◌+◌, ◌⊎◌, inl, inr, ℕ, List, [], ◌∷◌, ◌++◌, length, Option, Some, None, Bool, true, false, refl, sym, ap, ◌∙◌, subst, append_assoc, append-nil, length-append}
 use Rattle.std.specs.Prelude.{MatchBool, slice_get}
 use Rattle.std.specs.List.{list_any}
 use Rattle.std.specs.Option.{unwrap_or}
-use Rattle.wa_types.specs.declared.values.Value.{Value}
 use Rattle.wa_model.specs.declared.events.End.{End}
 use Rattle.wa_model.specs.declared.events.End.TheVariants.{DeviceFault, NoDevice}
-use Rattle.wa_model.specs.Outside.{Answer, Call, AnswerLine, Event, called, answered, paused, returned, ended, shown}
+use Rattle.wa_model.specs.Outside.{Answer, Call, AnswerLine, Event, called, ended}
 use Rattle.wa_model.specs.Store.{Store}
-use Rattle.wa_model.specs.Plan.{Outcome, given, refused, ValueFits}
+use Rattle.wa_model.specs.Plan.{Outcome, given, refused}
 use Rattle.wa_model.specs.Blocking.{Note, note}
-use Rattle.wa_model.specs.World.{Reply, Device, is_named, journaled, Program, base_names, import_names, name_at, MeetsDevice, MeetsBound, Meets, call_in, is_end, protocol_story}
+use Rattle.wa_model.specs.World.{Reply, Device, is_named, journaled, Program, base_names, import_names, name_at, MeetsBound, Meets, call_in, protocol_story}
 use Rattle.world_laws.specs.Originals.{one_if, new_calls}
-use Rattle.world_laws.proofs.Counting.{Ends, Stands, stands_calls, calls_on}
+use Rattle.world_laws.proofs.Counting.{Ends, Stands, calls_on}
 use Rattle.world_laws.proofs.Tails.{StoryForks, story_forks, story_counts}
 use Rattle.world_laws.proofs.Determined.{answer_of, line_fixes}
-use Rattle.world_runs.proofs.StoryParts.{story_ends, end_is_last, call_no_end, begins_before, Begins, begins_any}
+use Rattle.world_runs.proofs.StoryParts.{story_ends, end_is_last, call_no_end, begins_before}
 use Rattle.world_replays.specs.Replays.{is_fault}
-use Rattle.world_replays.proofs.Journals.{Grows, replies_same}
+use Rattle.world_replays.proofs.Journals.{Grows, Replied, replies_same}
 use Rattle.world_replays.proofs.Faults.{Opens, Inner, opens_behind, story_fine}
 
 -- ---- lists
@@ -50,6 +49,9 @@ Next w pre done y = (z : Note) × (zs : List Note) × (protocol_story w pre ≡ 
 next_like : (w : Program) (pre tail : List Outcome) (done : List Note) (y : Note) (n : List Note) → new_calls done ≡ length pre → protocol_story w (pre ++ tail) ≡ done ++ y ∷ n → Next w pre done y
 next_like w pre tail done y n count e = by_way (story_forks w pre tail)
   where
+    is_call : (c : Call) → call_in y.event ≡ Some c → call_in y.event ≡ None → ⊥
+    is_call c e none = let bad : None ≡ Some c = sym none ∙ e in cc
+
     at_fork : (f : StoryForks tail (length pre) (protocol_story w (pre ++ tail)) (protocol_story w pre)) (r : List Note) → f.before ≡ done ++ r → Next w pre done y
     at_fork f [] b =
         let before : f.before ≡ done = b ∙ append-nil done in
@@ -57,7 +59,7 @@ next_like w pre tail done y n count e = by_way (story_forks w pre tail)
         let second : done ++ y ∷ n ≡ done ++ f.there ∷ f.more = sym e ∙ f.second ∙ ap (λ (ns : List Note). ns ++ f.there ∷ f.more) before in
         let same : y ≡ f.there = (front_same done n f.more y f.there second).0 in
         let event : y.event ≡ f.here.event = ap (λ (v : Note). v.event) same ∙ f.same.0 in
-        (f.here, [], first, (event, ap (λ (v : Note). v.store) same ∙ f.same.1, λ none. let called_so : call_in y.event ≡ Some f.same.2 = ap call_in (event ∙ f.same.3) in let bad : None ≡ Some f.same.2 = sym none ∙ called_so in cc))
+        (f.here, [], first, (event, ap (λ (v : Note). v.store) same ∙ f.same.1, λ none. absurd (is_call f.same.2 (ap call_in (event ∙ f.same.3)) none)))
     at_fork f (v ∷ r) b =
         let first : protocol_story w pre ≡ done ++ v ∷ (r ++ f.here ∷ []) = f.first ∙ ap (λ (ns : List Note). ns ++ f.here ∷ []) b ∙ append_assoc done (v ∷ r) (f.here ∷ []) in
         let second : done ++ y ∷ n ≡ done ++ v ∷ (r ++ f.there ∷ f.more) =
@@ -79,8 +81,7 @@ next_same w pre s t done x y n m count e f =
     let a = next_like w pre s done x n count e in
     let b = next_like w pre t done y m count f in
     let z : a.0 ≡ b.0 = (front_same done a.1 b.1 a.0 b.0 (sym a.2 ∙ b.2)).0 in
-    let event : y.event ≡ x.event = b.3.0 ∙ ap (λ (u : Note). u.event) (sym z) ∙ sym a.3.0 in
-    (
+    let event : y.event ≡ x.event = b.3.0 ∙ ap (λ (u : Note). u.event) (sym z) ∙ sym a.3.0 in (
       event,
       b.3.1 ∙ ap (λ (u : Note). u.store) (sym z) ∙ sym a.3.1,
       λ none. b.3.2 none ∙ sym z ∙ sym (a.3.2 (ap call_in (sym event) ∙ none)),
@@ -89,7 +90,8 @@ next_same w pre s t done x y n m count e f =
 -- ---- behind a call
 
 -- a call that has an outcome isn't the last note
-pub more_behind : (w : Program) (pre os : List Outcome) (done : List Note) (x : Note) (c : Call) (n : List Note) → new_calls done ≡ length pre → protocol_story w (pre ++ os) ≡ done ++ x ∷ n → x.event ≡ called c
+pub more_behind : (w : Program) (pre os : List Outcome) (done : List Note) (x : Note) (c : Call) (n : List Note) → new_calls done ≡ length pre → protocol_story w (pre ++ os) ≡ done ++ x ∷ n
+    → x.event ≡ called c
     → new_calls (x ∷ n) ≤ length os → (z : Note) × (zs : List Note) × (n ≡ z ∷ zs)
 more_behind w pre os done x c (z ∷ zs) count e is few = (z, zs, refl)
 more_behind w pre os done x c [] count e is few =
@@ -119,7 +121,8 @@ refusal_behind w pre os done y c n e count from is few = by_way (story_forks w p
         let ends : Ends (s.before ++ s.last ∷ []) = subst Ends (same ∙ s.split) (story_ends w (pre ++ refused e ∷ os) (omega arith)) in
         call_no_end s.last.event s.call s.is (end_is_last s.before s.last ends)
 
-    at_fork : (f : StoryForks (refused e ∷ os) (length pre) (protocol_story w (pre ++ refused e ∷ os)) (protocol_story w pre)) (r : List Note) → f.before ≡ done ++ r → (s : Store) × (zs : List Note) × (n ≡ note (ended e) s ∷ zs)
+    at_fork : (f : StoryForks (refused e ∷ os) (length pre) (protocol_story w (pre ++ refused e ∷ os)) (protocol_story w pre)) (r : List Note) → f.before ≡ done ++ r
+        → (s : Store) × (zs : List Note) × (n ≡ note (ended e) s ∷ zs)
     at_fork f [] b =
         let before : f.before ≡ done = b ∙ append-nil done in
         let second : done ++ y ∷ n ≡ done ++ f.there ∷ f.more = sym from ∙ f.second ∙ ap (λ (ns : List Note). ns ++ f.there ∷ f.more) before in
@@ -172,22 +175,22 @@ pub same_met : (w : Program) (c : Call) (lines : List AnswerLine) (ds ds' : List
     → Met w c lines ds ds' n o left es → Met w c lines ds ds' m q left' fs → FirstSame n m → (o ≡ q) × (left ≡ left') × (es ≡ fs)
 same_met w c lines ds ds' n m o q left left' es fs a b first = by_bound (unwrap_or (slice_get w.binds c.import) None) refl a.meets b.meets
   where
-
     device_same : (name : List ℕ) → unwrap_or (slice_get w.binds c.import) None ≡ Some name → (t : Bool) → list_any (is_named name) ds ≡ t
         → MatchBool t
-        (((r : Reply) × ValueFits r.value × (r.ticks < 2 ^ 32) × (o ≡ given (record { value = r.value; pokes = []; ticks = r.ticks })) × (es ≡ journaled name (record { base = name_at (base_names w.source) c.import; args = c.args; reply = r }) ds))
+        (Replied (name_at (base_names w.source) c.import) name c.args ds o es
         ⊎ ((o ≡ refused (DeviceFault c.import)) × (es ≡ ds)))
         ((o ≡ refused (NoDevice c.import)) × (es ≡ ds))
         → MatchBool t
-        (((r : Reply) × ValueFits r.value × (r.ticks < 2 ^ 32) × (q ≡ given (record { value = r.value; pokes = []; ticks = r.ticks })) × (fs ≡ journaled name (record { base = name_at (base_names w.source) c.import; args = c.args; reply = r }) ds))
+        (Replied (name_at (base_names w.source) c.import) name c.args ds q fs
         ⊎ ((q ≡ refused (DeviceFault c.import)) × (fs ≡ ds)))
         ((q ≡ refused (NoDevice c.import)) × (fs ≡ ds))
         → (o ≡ q) × (es ≡ fs)
     device_same name bound true there (inl r) (inl s) =
-        let gr : Grows name (journaled name (record { base = name_at (base_names w.source) c.import; args = c.args; reply = r.0 }) ds) ds' = subst (λ (x : List Device). Grows name x ds') r.4 (a.grows name bound) in
-        let gs : Grows name (journaled name (record { base = name_at (base_names w.source) c.import; args = c.args; reply = s.0 }) ds) ds' = subst (λ (x : List Device). Grows name x ds') s.4 (b.grows name bound) in
-        let same : r.0 ≡ s.0 = replies_same name (name_at (base_names w.source) c.import) c.args r.0 s.0 ds ds' there gr gs in
-        (
+        let gr : Grows name (journaled name (record { base = name_at (base_names w.source) c.import; args = c.args; reply = r.0 }) ds) ds' =
+        subst (λ (x : List Device). Grows name x ds') r.4 (a.grows name bound) in
+        let gs : Grows name (journaled name (record { base = name_at (base_names w.source) c.import; args = c.args; reply = s.0 }) ds) ds' =
+        subst (λ (x : List Device). Grows name x ds') s.4 (b.grows name bound) in
+        let same : r.0 ≡ s.0 = replies_same name (name_at (base_names w.source) c.import) c.args r.0 s.0 ds ds' there gr gs in (
           r.3 ∙ ap (λ (x : Reply). given (answer_of x)) same ∙ sym s.3,
           r.4 ∙ ap (λ (x : Reply). journaled name (record { base = name_at (base_names w.source) c.import; args = c.args; reply = x }) ds) same ∙ sym s.4,
         )
@@ -200,7 +203,8 @@ same_met w c lines ds ds' n m o q left left' es fs a b first = by_bound (unwrap_
     device_same name bound true there (inr r) (inr s) = (r.0 ∙ sym s.0, r.1 ∙ sym s.1)
     device_same name bound false there r s = (r.0 ∙ sym s.0, r.1 ∙ sym s.1)
 
-    by_bound : (d : Option (List ℕ)) → unwrap_or (slice_get w.binds c.import) None ≡ d → MeetsBound w.source c.import c.args d lines ds o left es → MeetsBound w.source c.import c.args d lines ds q left' fs
+    by_bound : (d : Option (List ℕ)) → unwrap_or (slice_get w.binds c.import) None ≡ d → MeetsBound w.source c.import c.args d lines ds o left es
+        → MeetsBound w.source c.import c.args d lines ds q left' fs
         → (o ≡ q) × (left ≡ left') × (es ≡ fs)
     by_bound (Some name) e h k = let r = device_same name e (list_any (is_named name) ds) refl h.0 k.0 in (r.0, h.1 ∙ sym k.1, r.1)
     by_bound None e h k =

@@ -1,5 +1,5 @@
 -- Journals only grow.
-use Rattle.std.proofs.Common.{arith, ◌≡◌, ◌+◌, ◌≤◌, ◌^◌, ◌<◌, ◌⊎◌, inl, inr, ℕ, zero, suc, List, [], ◌∷◌, ◌++◌, length, Option, Some, None, Bool, true, false, eqb, eqb-true, All, refl, sym, ap, ◌∙◌, subst, append_assoc, append-nil}
+use Rattle.std.proofs.Common.{◌≡◌, ◌^◌, ◌<◌, ◌⊎◌, inl, inr, ℕ, suc, List, [], ◌∷◌, ◌++◌, Option, Some, None, Bool, true, false, eqb-true, All, refl, sym, ap, ◌∙◌, subst, append_assoc, append-nil}
 use Rattle.std.specs.Prelude.{MatchBool, if◌then◌else◌, nat_eq, ◌&&◌, ◌||◌, ◌==◌, slice_get}
 use Rattle.std.specs.List.{list_any}
 use Rattle.std.specs.Option.{unwrap_or}
@@ -8,10 +8,10 @@ use Rattle.wa_types.specs.declared.values.Value.{Value}
 use Rattle.wa_types.specs.Validity.{same_name}
 use Rattle.wa_model.specs.declared.answers.Detach.{Detach}
 use Rattle.wa_model.specs.declared.events.End.TheVariants.{DeviceFault, NoDevice}
-use Rattle.wa_model.specs.Outside.{Call, AnswerLine, Event, Line}
+use Rattle.wa_model.specs.Outside.{Call, AnswerLine, Line}
 use Rattle.wa_model.specs.Plan.{Outcome, given, refused, ValueFits}
 use Rattle.wa_model.specs.Blocking.{Note}
-use Rattle.wa_model.specs.World.{Reply, Asked, Device, is_named, taken_out, detached_if, detached, journaled, Program, base_names, import_names, name_at, MeetsDevice, MeetsLine, MeetsBound, Meets, turn_of, call_in, NoteMeets, CallsMeet, Actor, Plays, Events, no_event, an_event}
+use Rattle.wa_model.specs.World.{Reply, Asked, Device, is_named, taken_out, detached_if, detached, journaled, Program, base_names, name_at, MeetsBound, Meets, turn_of, call_in, NoteMeets, CallsMeet, Actor, Events, no_event, an_event}
 
 -- ---- names
 
@@ -59,7 +59,8 @@ other_taken name device (d ∷ ds) other = by_name (is_named device d) refl (oth
         sym (ap (λ (b : Bool). if b then Some d.journal else journal_of name ds) not_it)
     by_name false e ih = ap (λ (o : Option (List Asked)). if is_named name d then Some d.journal else o) ih
 
-other_detached : (name : List ℕ) (number : ℕ) (xs : List Detach) (ds : List Device) → All (λ (x : Detach). same_name x.device name ≡ false) xs → journal_of name (detached number xs ds) ≡ journal_of name ds
+other_detached : (name : List ℕ) (number : ℕ) (xs : List Detach) (ds : List Device) → All (λ (x : Detach). same_name x.device name ≡ false) xs
+    → journal_of name (detached number xs ds) ≡ journal_of name ds
 other_detached name number [] ds h = refl
 other_detached name number (x ∷ xs) ds h =
     other_detached name number xs (detached_if (nat_eq x.before number) x.device ds) (All-tail (λ (x : Detach). same_name x.device name ≡ false) x xs h)
@@ -93,23 +94,23 @@ grows_journaled name asked call (d ∷ ds) = by_asked (is_named asked d) (grows_
     by_asked false ih = by_name (is_named name d) (journal_of name ds) (journal_of name (journaled asked call ds)) ih
 
 -- the journal with one more call
-pub journaled_is : (name : List ℕ) (call : Asked) (ds : List Device) → list_any (is_named name) ds ≡ true → (j : List Asked) × (journal_of name ds ≡ Some j) × (journal_of name (journaled name call ds) ≡ Some (j ++ call ∷ []))
+pub journaled_is : (name : List ℕ) (call : Asked) (ds : List Device) → list_any (is_named name) ds ≡ true
+    → (j : List Asked) × (journal_of name ds ≡ Some j) × (journal_of name (journaled name call ds) ≡ Some (j ++ call ∷ []))
 journaled_is name call [] h = cc
 journaled_is name call (d ∷ ds) h = by_name (is_named name d) refl h (λ g. journaled_is name call ds g)
   where
     by_name : (b : Bool) → is_named name d ≡ b → list_any (is_named name) (d ∷ ds) ≡ true
         → (list_any (is_named name) ds ≡ true → (j : List Asked) × (journal_of name ds ≡ Some j) × (journal_of name (journaled name call ds) ≡ Some (j ++ call ∷ [])))
-        → (j : List Asked) × ((if is_named name d then Some d.journal else journal_of name ds) ≡ Some j) × (journal_of name (if is_named name d then record { name = d.name; journal = d.journal ++ call ∷ [] } ∷ ds else d ∷ journaled name call ds) ≡ Some (j ++ call ∷ []))
-    by_name true e h ih =
-        (
-          d.journal,
-          ap (λ (b : Bool). if b then Some d.journal else journal_of name ds) e,
-          ap (λ (b : Bool). journal_of name (if b then record { name = d.name; journal = d.journal ++ call ∷ [] } ∷ ds else d ∷ journaled name call ds)) e
-              ∙ ap (λ (b : Bool). if b then Some (d.journal ++ call ∷ []) else journal_of name ds) e,
-        )
+        → (j : List Asked) × ((if is_named name d then Some d.journal else journal_of name ds) ≡ Some j) ×
+        (journal_of name (if is_named name d then record { name = d.name; journal = d.journal ++ call ∷ [] } ∷ ds else d ∷ journaled name call ds) ≡ Some (j ++ call ∷ []))
+    by_name true e h ih = (
+      d.journal,
+      ap (λ (b : Bool). if b then Some d.journal else journal_of name ds) e,
+      ap (λ (b : Bool). journal_of name (if b then record { name = d.name; journal = d.journal ++ call ∷ [] } ∷ ds else d ∷ journaled name call ds)) e
+          ∙ ap (λ (b : Bool). if b then Some (d.journal ++ call ∷ []) else journal_of name ds) e,
+    )
     by_name false e h ih =
-        let r = ih (later (is_named name d) (list_any (is_named name) ds) e h) in
-        (
+        let r = ih (later (is_named name d) (list_any (is_named name) ds) e h) in (
           r.0,
           ap (λ (b : Bool). if b then Some d.journal else journal_of name ds) e ∙ r.1,
           ap (λ (b : Bool). journal_of name (if b then record { name = d.name; journal = d.journal ++ call ∷ [] } ∷ ds else d ∷ journaled name call ds)) e
@@ -123,13 +124,19 @@ journaled_is name call (d ∷ ds) h = by_name (is_named name d) refl h (λ g. jo
 
 -- ---- calls and events
 
+-- a device of this name replies, and keeps the call
+abbrev pub Replied : (base name : List ℕ) → List Value → List Device → Outcome → List Device → Type 0
+Replied base name args ds o ds' =
+    (r : Reply) × ValueFits r.value × (r.ticks < 2 ^ 32) × (o ≡ given (record { value = r.value; pokes = []; ticks = r.ticks }))
+    × (ds' ≡ journaled name (record { base = base; args = args; reply = r }) ds)
+
 meets_grow : (w : Program) (name : List ℕ) (import : ℕ) (args : List Value) (lines : List AnswerLine) (ds : List Device) (o : Outcome) (lines' : List AnswerLine) (ds' : List Device)
     → Meets w import args lines ds o lines' ds' → Grows name ds ds'
 meets_grow w name import args lines ds o lines' ds' h = by_bound (unwrap_or (slice_get w.binds import) None) h
   where
     by_there : (device : List ℕ) (b : Bool)
         → MatchBool b
-        (((r : Reply) × ValueFits r.value × (r.ticks < 2 ^ 32) × (o ≡ given (record { value = r.value; pokes = []; ticks = r.ticks })) × (ds' ≡ journaled device (record { base = name_at (base_names w.source) import; args = args; reply = r }) ds))
+        (Replied (name_at (base_names w.source) import) device args ds o ds'
         ⊎ ((o ≡ refused (DeviceFault import)) × (ds' ≡ ds)))
         ((o ≡ refused (NoDevice import)) × (ds' ≡ ds))
         → Grows name ds ds'

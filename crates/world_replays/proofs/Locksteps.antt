@@ -1,20 +1,18 @@
 -- A turn of one program in two runs of a world.
-use Rattle.std.proofs.Common.{arith, ◌≡◌, ◌≤◌, ◌<◌, ◌+◌, ◌⊎◌, inl, inr, ℕ, zero, suc, List, [], ◌∷◌, ◌++◌, length, map, Option, Some, None, Bool, true, false, refl, sym, ap, ◌∙◌, subst, append_assoc, append-nil, length-append}
+use Rattle.std.proofs.Common.{arith, ◌≡◌, ◌≤◌, ◌+◌, ℕ, suc, List, [], ◌∷◌, ◌++◌, length, map, Option, Some, None, Bool, true, false, refl, sym, ap, ◌∙◌, subst, append_assoc, length-append}
 use Rattle.std.specs.Prelude.{if◌then◌else◌, slice_get}
 use Rattle.std.specs.Option.{unwrap_or}
-use Rattle.wa_model.specs.declared.events.End.{End}
-use Rattle.wa_model.specs.Outside.{Answer, Call, AnswerLine, Event, called, answered, paused, returned, ended, shown, Line}
+use Rattle.wa_model.specs.Outside.{Call, AnswerLine, Event, called, answered, paused, returned, ended, shown, Line}
 use Rattle.wa_model.specs.Store.{Store}
-use Rattle.wa_model.specs.Plan.{Outcome, given, refused}
-use Rattle.wa_model.specs.Blocking.{Note, note}
-use Rattle.wa_model.specs.World.{Device, Look, Program, Meets, ends_turn, turn_of, behind_turn, ticks_in, put_off, call_in, NoteMeets, CallsMeet, line_at, look_events, looks_after, events_with_looks, protocol_story}
+use Rattle.wa_model.specs.Plan.{Outcome}
+use Rattle.wa_model.specs.Blocking.{Note}
+use Rattle.wa_model.specs.World.{Device, Look, Program, ends_turn, turn_of, behind_turn, ticks_in, put_off, call_in, NoteMeets, CallsMeet, line_at, look_events, looks_after, events_with_looks, protocol_story}
 use Rattle.world_laws.specs.Originals.{one_if, new_calls}
 use Rattle.world_laws.proofs.Counting.{calls_on}
-use Rattle.world_runs.proofs.StoryParts.{Begins, begins_any}
-use Rattle.world_runs.proofs.GoingOn.{none_to_come, some_to_come}
-use Rattle.world_replays.specs.Replays.{is_fault, SameFaults}
+use Rattle.world_runs.proofs.StoryParts.{begins_any}
+use Rattle.world_runs.proofs.GoingOn.{none_to_come}
+use Rattle.world_replays.specs.Replays.{SameFaults}
 use Rattle.world_replays.proofs.Journals.{Grows, grows_on, calls_grow}
-use Rattle.world_replays.proofs.Faults.{Opens}
 use Rattle.world_replays.proofs.Heads.{front_same, Like, next_same, more_behind, no_fault_behind, refusal_behind, FirstSame, Met, same_met}
 
 -- ---- turns, note by note
@@ -60,17 +58,21 @@ same_shown looks x y (returned i v) h = refl
 same_shown looks x y (ended how) h = ap (λ (s : Store). look_events s looks) h
 same_shown looks x y (shown at bytes) h = refl
 
-none_met : (w : Program) (x : Note) (xs : List Note) (os : List Outcome) (lines : List AnswerLine) (ds : List Device) (os' : List Outcome) (lines' : List AnswerLine) (ds' : List Device) → call_in x.event ≡ None
+none_met : (w : Program) (x : Note) (xs : List Note) (os : List Outcome) (lines : List AnswerLine) (ds : List Device) (os' : List Outcome) (lines' : List AnswerLine) (ds' : List Device)
+    → call_in x.event ≡ None
     → CallsMeet w (x ∷ xs) os lines ds os' lines' ds' → CallsMeet w xs os lines ds os' lines' ds'
 none_met w x xs os lines ds os' lines' ds' e h = subst (λ (c : Option Call). NoteMeets w c os lines ds (λ o l d. CallsMeet w xs o l d os' lines' ds')) e h
 
-one_met : (w : Program) (x : Note) (xs : List Note) (os : List Outcome) (lines : List AnswerLine) (ds : List Device) (os' : List Outcome) (lines' : List AnswerLine) (ds' : List Device) (c : Call) → call_in x.event ≡ Some c
+one_met : (w : Program) (x : Note) (xs : List Note) (os : List Outcome) (lines : List AnswerLine) (ds : List Device) (os' : List Outcome) (lines' : List AnswerLine) (ds' : List Device)
+    (c : Call) → call_in x.event ≡ Some c
     → CallsMeet w (x ∷ xs) os lines ds os' lines' ds' → NoteMeets w (Some c) os lines ds (λ o l d. CallsMeet w xs o l d os' lines' ds')
 one_met w x xs os lines ds os' lines' ds' c e h = subst (λ (c : Option Call). NoteMeets w c os lines ds (λ o l d. CallsMeet w xs o l d os' lines' ds')) e h
 
 -- ---- both turns
 
-module _ (w : Program) (due number : ℕ) (ds' : List Device) (m1 m2 : List Line) (o1 o2 : List Outcome) (l1 l2 : List AnswerLine) (d1 d2 : List Device) (grow1 : (import : ℕ) (name : List ℕ) → unwrap_or (slice_get w.binds import) None ≡ Some name → Grows name d1 ds') (grow2 : (import : ℕ) (name : List ℕ) → unwrap_or (slice_get w.binds import) None ≡ Some name → Grows name d2 ds') where
+module _ (w : Program) (due number : ℕ) (ds' : List Device) (m1 m2 : List Line) (o1 o2 : List Outcome) (l1 l2 : List AnswerLine) (d1 d2 : List Device)
+    (grow1 : (import : ℕ) (name : List ℕ) → unwrap_or (slice_get w.binds import) None ≡ Some name → Grows name d1 ds')
+    (grow2 : (import : ℕ) (name : List ℕ) → unwrap_or (slice_get w.binds import) None ≡ Some name → Grows name d2 ds') where
   -- the lines of a turn, and those behind it
   abbrev Lines : List Note → List Line → List Line
   Lines n m = map (line_at due number) (events_with_looks w.looks (turn_of n)) ++ m
@@ -136,7 +138,8 @@ module _ (w : Program) (due number : ℕ) (ds' : List Device) (m1 m2 : List Line
       told ns m = map (line_at due number) (events_with_looks w.looks ns) ++ m
 
   -- where both turns end with notes of one event and store
-  ends : (pre : List Outcome) (done : List Note) (x y : Note) (n1 n2 : List Note) (os1 os2 : List Outcome) (lines : List AnswerLine) (ds : List Device) → new_calls done ≡ length pre → Like x y → call_in x.event ≡ None
+  ends : (pre : List Outcome) (done : List Note) (x y : Note) (n1 n2 : List Note) (os1 os2 : List Outcome) (lines : List AnswerLine) (ds : List Device) → new_calls done ≡ length pre
+      → Like x y → call_in x.event ≡ None
       → ends_turn x.event ≡ true → protocol_story w (pre ++ os1) ≡ done ++ x ∷ n1 → protocol_story w (pre ++ os2) ≡ done ++ y ∷ n2
       → CallsMeet w (turn_of (x ∷ n1)) os1 lines ds o1 l1 d1 → CallsMeet w (turn_of (y ∷ n2)) os2 lines ds o2 l2 d2 → Same (x ∷ n1) (y ∷ n2)
   ends pre done x y n1 n2 os1 os2 lines ds count like none f s1 s2 c1 c2 =
@@ -172,7 +175,8 @@ module _ (w : Program) (due number : ℕ) (ds' : List Device) (m1 m2 : List Line
   -- behind a call that both make
   at_call : (x y : Note) (n1 n2 : List Note) (c : Call) (pre : List Outcome) (done : List Note) (os1 os2 : List Outcome) (lines : List AnswerLine) (ds : List Device) → new_calls done ≡ length pre
       → protocol_story w (pre ++ os1) ≡ done ++ x ∷ n1 → protocol_story w (pre ++ os2) ≡ done ++ y ∷ n2 → new_calls (x ∷ n1) ≤ length os1 → new_calls (y ∷ n2) ≤ length os2
-      → x.event ≡ called c → y.event ≡ x.event → NoteMeets w (Some c) os1 lines ds (λ o l d. CallsMeet w (turn_of n1) o l d o1 l1 d1) → NoteMeets w (Some c) os2 lines ds (λ o l d. CallsMeet w (turn_of n2) o l d o2 l2 d2)
+      → x.event ≡ called c → y.event ≡ x.event → NoteMeets w (Some c) os1 lines ds (λ o l d. CallsMeet w (turn_of n1) o l d o1 l1 d1)
+      → NoteMeets w (Some c) os2 lines ds (λ o l d. CallsMeet w (turn_of n2) o l d o2 l2 d2)
       → SameFaults (Lines n1 m1) (Lines n2 m2) → Turn n1 n2 → Same n1 n2
   at_call x y n1 n2 c pre done os1 os2 lines ds count s1 s2 few1 few2 is e h k faults on =
       let is_y : y.event ≡ called c = e ∙ is in

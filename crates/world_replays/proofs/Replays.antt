@@ -1,14 +1,14 @@
 -- Two runs of a world that end with the same journals and tell faults at the same places are one.
-use Rattle.std.proofs.Common.{arith, ◌≡◌, ◌≤◌, ◌<◌, ◌+◌, ◌⊎◌, inl, inr, ℕ, zero, suc, List, [], ◌∷◌, ◌++◌, length, map, Option, Some, None, Bool, true, false, All, refl, sym, ap, ◌∙◌, subst, ⊎_elim, length-append}
+use Rattle.std.proofs.Common.{arith, ◌≡◌, ◌≤◌, ◌<◌, ◌+◌, ◌⊎◌, inl, inr, ℕ, zero, suc, List, [], ◌∷◌, ◌++◌, length, map, Some, None, refl, sym, ap, ◌∙◌, subst, length-append}
 use Rattle.std.specs.Prelude.{slice_get, slice_set}
 use Rattle.std.specs.List.{AllZip}
 use Rattle.std.specs.Option.{unwrap_or}
-use Rattle.std.proofs.lemmas.List.Elements.{All-nil, All-cons, All-head, All-tail}
+use Rattle.std.proofs.lemmas.List.Elements.{All-cons, All-head, All-tail}
 use Rattle.wa_model.specs.declared.answers.Detach.{Detach}
 use Rattle.wa_model.specs.Outside.{AnswerLine, Event, Line}
 use Rattle.wa_model.specs.Plan.{Outcome}
 use Rattle.wa_model.specs.Blocking.{Note}
-use Rattle.wa_model.specs.World.{Device, detached, Program, turn_of, behind_turn, put_off, CallsMeet, line_at, events_with_looks, turn_lines, protocol_story, Actor, HasNotes, IsNext, Plays, Events, no_event, an_event, IsOver, StartsHeld, ProtocolWorld}
+use Rattle.wa_model.specs.World.{Device, detached, Program, turn_of, behind_turn, put_off, CallsMeet, line_at, events_with_looks, turn_lines, protocol_story, Actor, HasNotes, IsNext, Plays, Events, no_event, an_event, IsOver, StartsHeld}
 use Rattle.world_laws.specs.Originals.{new_calls}
 use Rattle.world_laws.proofs.Shows.{turn_calls}
 use Rattle.world_laws.proofs.Meeting.{Met, EachMet, events_met, calls_take}
@@ -48,7 +48,8 @@ actor_same x y e = cc
 program_same : (x y : Program) → Some x ≡ Some y → x ≡ y
 program_same x y e = cc
 
-trio_at : (ws : List Program) (p q : List Actor) → Trios ws p q → (i : ℕ) (a : Actor) → slice_get p i ≡ Some a → (w : Program) × (b : Actor) × (slice_get ws i ≡ Some w) × (slice_get q i ≡ Some b) × Parallel w a b
+trio_at : (ws : List Program) (p q : List Actor) → Trios ws p q → (i : ℕ) (a : Actor) → slice_get p i ≡ Some a
+    → (w : Program) × (b : Actor) × (slice_get ws i ≡ Some w) × (slice_get q i ≡ Some b) × Parallel w a b
 trio_at [] [] [] h i a e = cc
 trio_at (w ∷ ws) (c ∷ p) (d ∷ q) h zero a e = (w, d, refl, refl, subst (λ (z : Actor). Parallel w z d) (actor_same c a e) h.0)
 trio_at (w ∷ ws) (c ∷ p) (d ∷ q) h (suc i) a e = trio_at ws p q h.1 i a e
@@ -120,7 +121,8 @@ module _ (ws : List Program) (detaches : List Detach) (ds' : List Device) (lasti
   abbrev Both : List Line → List Line → List Line → List Line → List Device → List Device → List Actor → List Actor → Type 0
   Both f1 f2 m1 m2 d1 d2 p' q' = (f1 ≡ f2) × (d1 ≡ d2) × SameFaults m1 m2 × Trios ws p' q'
 
-  plays_same : (number : ℕ) (p q p' q' : List Actor) (ds d1 d2 : List Device) (f1 f2 m1 m2 : List Line) → Trios ws p q → Plays ws detaches number p ds f1 p' d1 → Plays ws detaches number q ds f2 q' d2
+  plays_same : (number : ℕ) (p q p' q' : List Actor) (ds d1 d2 : List Device) (f1 f2 m1 m2 : List Line) → Trios ws p q → Plays ws detaches number p ds f1 p' d1
+      → Plays ws detaches number q ds f2 q' d2
       → ((name : List ℕ) (i import : ℕ) (w : Program) → slice_get ws i ≡ Some w → unwrap_or (slice_get w.binds import) None ≡ Some name → Grows name d1 ds' × Grows name d2 ds')
       → SameFaults (f1 ++ m1) (f2 ++ m2) → Both f1 f2 m1 m2 d1 d2 p' q'
   plays_same number p q p' q' ds d1 d2 f1 f2 m1 m2 tw h g grows faults =
@@ -147,8 +149,10 @@ module _ (ws : List Program) (detaches : List Detach) (ds' : List Device) (lasti
       ∙ ap (λ (k : ℕ). map (line_at k h.i) (events_with_looks w.looks (turn_of b.notes))) (sym t.due) in
       let told : SameFaults (turn_lines h.i w a ++ m1) (map (line_at a.due h.i) (events_with_looks w.looks (turn_of b.notes)) ++ m2) =
       subst (λ (ls : List Line). SameFaults (turn_lines h.i w a ++ m1) (ls ++ m2)) l2 (subst (λ (ls : List Line). SameFaults (ls ++ m1) (f2 ++ m2)) l1 faults) in
-      let r : Same w a.due h.i ds' m1 m2 h.outcomes g.outcomes h.answers g.answers d1 d2 (λ import name bound. (grows name h.i import w h.program bound).0) (λ import name bound. (grows name h.i import w h.program bound).1) a.notes b.notes =
-      turn_same w a.due h.i ds' m1 m2 h.outcomes g.outcomes h.answers g.answers d1 d2 (λ import name bound. (grows name h.i import w h.program bound).0) (λ import name bound. (grows name h.i import w h.program bound).1)
+      let r : Same w a.due h.i ds' m1 m2 h.outcomes g.outcomes h.answers g.answers d1 d2 (λ import name bound. (grows name h.i import w h.program bound).0)
+      (λ import name bound. (grows name h.i import w h.program bound).1) a.notes b.notes =
+      turn_same w a.due h.i ds' m1 m2 h.outcomes g.outcomes h.answers g.answers d1 d2 (λ import name bound. (grows name h.i import w h.program bound).0)
+      (λ import name bound. (grows name h.i import w h.program bound).1)
       a.notes b.notes t.pre t.done a.outcomes b.outcomes a.answers es t.count t.first t.second t.few1 t.few2 h.calls c2 told in
       let lines : f1 ≡ f2 = l1 ∙ ap (λ (evs : List Event). map (line_at a.due h.i) evs) r.events ∙ sym l2 in
       let a' : Actor = record { due = a.due + put_off (turn_of a.notes); notes = behind_turn a.notes; outcomes = h.outcomes; answers = h.answers } in
@@ -205,8 +209,7 @@ start_same : (ws : List Program) (p q : List Actor) → AllZip StartsHeld ws p �
 start_same [] [] [] sp sq mp mq = tt
 start_same (w ∷ ws) (a ∷ p) (b ∷ q) sp sq mp mq =
     let x : StartsHeld w a = sp.0 in
-    let y : StartsHeld w b = sq.0 in
-    (
+    let y : StartsHeld w b = sq.0 in (
       record {
         due = x.starts.due ∙ sym y.starts.due;
         answers = x.starts.answers ∙ sym y.starts.answers;

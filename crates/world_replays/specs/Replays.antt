@@ -1,5 +1,5 @@
 -- What a world's devices keep of it: from journals and told faults the lines follow.
-use Rattle.std.specs.Prelude.{◌≡◌, ℕ, List, Option, Some, None, Bool, true, false, All, slice_get}
+use Rattle.std.specs.Prelude.{◌≡◌, ℕ, List, Some, None, Bool, true, false, All, slice_get}
 use Rattle.std.specs.Option.{unwrap_or}
 use Rattle.wa_types.specs.Validity.{same_name}
 use Rattle.wa_model.specs.declared.answers.Detach.{Detach}
