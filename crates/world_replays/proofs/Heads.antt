@@ -172,7 +172,8 @@ first_back (x ∷ n) [] h = tt
 first_back (x ∷ n) (y ∷ m) h = sym h
 
 pub same_met : (w : Program) (c : Call) (lines : List AnswerLine) (ds ds' : List Device) (n m : List Note) (o q : Outcome) (left left' : List AnswerLine) (es fs : List Device)
-    → Met w c lines ds ds' n o left es → Met w c lines ds ds' m q left' fs → FirstSame n m → (o ≡ q) × (left ≡ left') × (es ≡ fs)
+    → Met w c lines ds ds' n o left es → Met w c lines ds ds' m q left' fs
+    → ((name : List ℕ) → unwrap_or (slice_get w.binds c.import) None ≡ Some name → FirstSame n m) → (o ≡ q) × (left ≡ left') × (es ≡ fs)
 same_met w c lines ds ds' n m o q left left' es fs a b first = by_bound (unwrap_or (slice_get w.binds c.import) None) refl a.meets b.meets
   where
     device_same : (name : List ℕ) → unwrap_or (slice_get w.binds c.import) None ≡ Some name → (t : Bool) → list_any (is_named name) ds ≡ t
@@ -196,10 +197,10 @@ same_met w c lines ds ds' n m o q left left' es fs a b first = by_bound (unwrap_
         )
     device_same name bound true there (inl r) (inr s) =
         let f = b.fails (DeviceFault c.import) s.0 in
-        absurd (fault_apart c.import f.0 n m f.1 a.some.0 a.some.1 first a.some.2 (a.opens (answer_of r.0) r.3) f.2)
+        absurd (fault_apart c.import f.0 n m f.1 a.some.0 a.some.1 (first name bound) a.some.2 (a.opens (answer_of r.0) r.3) f.2)
     device_same name bound true there (inr r) (inl s) =
         let f = a.fails (DeviceFault c.import) r.0 in
-        absurd (fault_apart c.import f.0 m n f.1 b.some.0 b.some.1 (first_back n m first) b.some.2 (b.opens (answer_of s.0) s.3) f.2)
+        absurd (fault_apart c.import f.0 m n f.1 b.some.0 b.some.1 (first_back n m (first name bound)) b.some.2 (b.opens (answer_of s.0) s.3) f.2)
     device_same name bound true there (inr r) (inr s) = (r.0 ∙ sym s.0, r.1 ∙ sym s.1)
     device_same name bound false there r s = (r.0 ∙ sym s.0, r.1 ∙ sym s.1)
 

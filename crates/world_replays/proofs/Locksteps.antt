@@ -77,6 +77,10 @@ module _ (w : Program) (due number : ℕ) (ds' : List Device) (m1 m2 : List Line
   abbrev Lines : List Note → List Line → List Line
   Lines n m = map (line_at due number) (events_with_looks w.looks (turn_of n)) ++ m
 
+  -- where an import is bound they tell faults at the same places
+  abbrev Faults : List Note → List Note → Type 0
+  Faults n1 n2 = (import : ℕ) (name : List ℕ) → unwrap_or (slice_get w.binds import) None ≡ Some name → SameFaults (Lines n1 m1) (Lines n2 m2)
+
   pub record Same (n1 n2 : List Note) : Type 0 where
     pub events : events_with_looks w.looks (turn_of n1) ≡ events_with_looks w.looks (turn_of n2)
     pub off : put_off (turn_of n1) ≡ put_off (turn_of n2)
@@ -170,14 +174,14 @@ module _ (w : Program) (due number : ℕ) (ds' : List Device) (m1 m2 : List Line
   Turn n1 n2 =
       (pre : List Outcome) (done : List Note) (os1 os2 : List Outcome) (lines : List AnswerLine) (ds : List Device) → new_calls done ≡ length pre
       → protocol_story w (pre ++ os1) ≡ done ++ n1 → protocol_story w (pre ++ os2) ≡ done ++ n2 → new_calls n1 ≤ length os1 → new_calls n2 ≤ length os2
-      → CallsMeet w (turn_of n1) os1 lines ds o1 l1 d1 → CallsMeet w (turn_of n2) os2 lines ds o2 l2 d2 → SameFaults (Lines n1 m1) (Lines n2 m2) → Same n1 n2
+      → CallsMeet w (turn_of n1) os1 lines ds o1 l1 d1 → CallsMeet w (turn_of n2) os2 lines ds o2 l2 d2 → Faults n1 n2 → Same n1 n2
 
   -- behind a call that both make
   at_call : (x y : Note) (n1 n2 : List Note) (c : Call) (pre : List Outcome) (done : List Note) (os1 os2 : List Outcome) (lines : List AnswerLine) (ds : List Device) → new_calls done ≡ length pre
       → protocol_story w (pre ++ os1) ≡ done ++ x ∷ n1 → protocol_story w (pre ++ os2) ≡ done ++ y ∷ n2 → new_calls (x ∷ n1) ≤ length os1 → new_calls (y ∷ n2) ≤ length os2
       → x.event ≡ called c → y.event ≡ x.event → NoteMeets w (Some c) os1 lines ds (λ o l d. CallsMeet w (turn_of n1) o l d o1 l1 d1)
       → NoteMeets w (Some c) os2 lines ds (λ o l d. CallsMeet w (turn_of n2) o l d o2 l2 d2)
-      → SameFaults (Lines n1 m1) (Lines n2 m2) → Turn n1 n2 → Same n1 n2
+      → Faults n1 n2 → Turn n1 n2 → Same n1 n2
   at_call x y n1 n2 c pre done os1 os2 lines ds count s1 s2 few1 few2 is e h k faults on =
       let is_y : y.event ≡ called c = e ∙ is in
       let st1 : protocol_story w (pre ++ h.0 ∷ h.1) ≡ done ++ x ∷ n1 = ap (λ (os : List Outcome). protocol_story w (pre ++ os)) (sym h.4) ∙ s1 in
@@ -198,7 +202,7 @@ module _ (w : Program) (due number : ℕ) (ds' : List Device) (m1 m2 : List Line
         fails = λ e z. refusal_behind w pre k.1 done y c n2 e count (ap (λ (o : Outcome). protocol_story w (pre ++ o ∷ k.1)) (sym z) ∙ st2) is_y fw2;
         some = more_behind w pre os2 done y c n2 count s2 is_y few2;
       } in
-      let same = same_met w c lines ds ds' n1 n2 h.0 k.0 h.2 k.2 h.3 k.3 a b (faults_first n1 n2 faults) in
+      let same = same_met w c lines ds ds' n1 n2 h.0 k.0 h.2 k.2 h.3 k.3 a b (λ name bound. faults_first n1 n2 (faults c.import name bound)) in
       let pre' : List Outcome = pre ++ h.0 ∷ [] in
       let done' : List Note = done ++ x ∷ [] in
       let one_x : new_calls (x ∷ []) ≡ 1 = ap (λ (v : Event). one_if (call_in v) + 0) is in
@@ -249,7 +253,7 @@ module _ (w : Program) (due number : ℕ) (ds' : List Device) (m1 m2 : List Line
           let n_y : new_calls (y ∷ n2) ≡ 0 + new_calls n2 = ap (λ (c : Option Call). one_if c + new_calls n2) none_y in
           let rest = on pre (done ++ x ∷ []) os1 os2 lines ds (omega (arith, calls_on done (x ∷ []), none_x, count)) (s1 ∙ sym (append_assoc done (x ∷ []) n1))
           (s2 ∙ ap (λ (v : Note). done ++ v ∷ n2) same ∙ sym (append_assoc done (x ∷ []) n2)) (omega (arith, few1, n_x)) (omega (arith, few2, n_y)) h1 h2
-          (faults_goes x y n1 n2 (sym like.0) f faults) in
+          (λ import name bound. faults_goes x y n1 n2 (sym like.0) f (faults import name bound)) in
           goes x y n1 n2 (sym like.0) f rest
       by_call on (Some c) is b f =
           let e : x.event ≡ called c = call_is x.event c is in
@@ -258,4 +262,4 @@ module _ (w : Program) (due number : ℕ) (ds' : List Device) (m1 m2 : List Line
           let h1 = one_met w x (turn_of n1) os1 lines ds o1 l1 d1 c is (subst (λ (ns : List Note). CallsMeet w ns os1 lines ds o1 l1 d1) (turn_goes x n1 g).0 c1) in
           let h2 = one_met w y (turn_of n2) os2 lines ds o2 l2 d2 c is_y (subst (λ (ns : List Note). CallsMeet w ns os2 lines ds o2 l2 d2) (turn_goes y n2 (ap ends_turn like.0 ∙ g)).0 c2) in
           goes x y n1 n2 (sym like.0) g
-          (at_call x y n1 n2 c pre done os1 os2 lines ds count s1 s2 few1 few2 e like.0 h1 h2 (faults_goes x y n1 n2 (sym like.0) g faults) on)
+          (at_call x y n1 n2 c pre done os1 os2 lines ds count s1 s2 few1 few2 e like.0 h1 h2 (λ import name bound. faults_goes x y n1 n2 (sym like.0) g (faults import name bound)) on)

@@ -1,5 +1,5 @@
 -- Two runs of a world that end with the same journals and tell faults at the same places are one.
-use Rattle.std.proofs.Common.{arith, ◌≡◌, ◌≤◌, ◌<◌, ◌+◌, ◌⊎◌, inl, inr, ℕ, zero, suc, List, [], ◌∷◌, ◌++◌, length, map, Some, None, refl, sym, ap, ◌∙◌, subst, length-append}
+use Rattle.std.proofs.Common.{All, false, arith, ◌≡◌, ◌≤◌, ◌<◌, ◌+◌, ◌⊎◌, inl, inr, ℕ, zero, suc, List, [], ◌∷◌, ◌++◌, length, map, Some, None, refl, sym, ap, ◌∙◌, subst, length-append}
 use Rattle.std.specs.Prelude.{slice_get, slice_set}
 use Rattle.std.specs.List.{AllZip}
 use Rattle.std.specs.Option.{unwrap_or}
@@ -8,12 +8,14 @@ use Rattle.wa_model.specs.declared.answers.Detach.{Detach}
 use Rattle.wa_model.specs.Outside.{AnswerLine, Event, Line}
 use Rattle.wa_model.specs.Plan.{Outcome}
 use Rattle.wa_model.specs.Blocking.{Note}
-use Rattle.wa_model.specs.World.{Device, detached, Program, turn_of, behind_turn, put_off, CallsMeet, line_at, events_with_looks, turn_lines, protocol_story, Actor, HasNotes, IsNext, Plays, Events, no_event, an_event, IsOver, StartsHeld}
+use Rattle.wa_model.specs.World.{Device, detached, Program, turn_of, behind_turn, put_off, CallsMeet, line_at, events_with_looks, turn_lines, protocol_story, Actor, HasNotes, IsNext, Plays, Events, no_event, an_event, IsOver, StartsHeld, ProtocolWorld}
 use Rattle.world_laws.specs.Originals.{new_calls}
 use Rattle.world_laws.proofs.Shows.{turn_calls}
 use Rattle.world_laws.proofs.Meeting.{Met, EachMet, events_met, calls_take}
 use Rattle.world_runs.proofs.GoingOn.{none_to_come, some_to_come}
-use Rattle.world_replays.specs.Replays.{Lasting, SameFaults, JournalsFixLines}
+use Rattle.wa_types.specs.Validity.{same_name}
+use Rattle.world_laws.specs.AloneLines.{Unbound}
+use Rattle.world_replays.specs.Replays.{Lasting, SameFaults, JournalsFixLines, UnboundFixLines}
 use Rattle.world_replays.proofs.Journals.{Grows, events_grow}
 use Rattle.world_replays.proofs.Locksteps.{Same, turn_same}
 
@@ -116,15 +118,19 @@ fewer_left w a lines ds os left es few h =
     let len = ap length t.1 ∙ length-append t.0 os in
     omega (arith, few, len, t.2, turn_calls a.notes)
 
+-- where an import of a program is bound
+abbrev IfBound : List Program → Type 0 → Type 0
+IfBound ws T = (i import : ℕ) (w : Program) (name : List ℕ) → slice_get ws i ≡ Some w → unwrap_or (slice_get w.binds import) None ≡ Some name → T
+
 module _ (ws : List Program) (detaches : List Detach) (ds' : List Device) (lasting : Lasting ws detaches) where
   -- one event
   abbrev Both : List Line → List Line → List Line → List Line → List Device → List Device → List Actor → List Actor → Type 0
-  Both f1 f2 m1 m2 d1 d2 p' q' = (f1 ≡ f2) × (d1 ≡ d2) × SameFaults m1 m2 × Trios ws p' q'
+  Both f1 f2 m1 m2 d1 d2 p' q' = (f1 ≡ f2) × (d1 ≡ d2) × IfBound ws (SameFaults m1 m2) × Trios ws p' q'
 
   plays_same : (number : ℕ) (p q p' q' : List Actor) (ds d1 d2 : List Device) (f1 f2 m1 m2 : List Line) → Trios ws p q → Plays ws detaches number p ds f1 p' d1
       → Plays ws detaches number q ds f2 q' d2
       → ((name : List ℕ) (i import : ℕ) (w : Program) → slice_get ws i ≡ Some w → unwrap_or (slice_get w.binds import) None ≡ Some name → Grows name d1 ds' × Grows name d2 ds')
-      → SameFaults (f1 ++ m1) (f2 ++ m2) → Both f1 f2 m1 m2 d1 d2 p' q'
+      → IfBound ws (SameFaults (f1 ++ m1) (f2 ++ m2)) → Both f1 f2 m1 m2 d1 d2 p' q'
   plays_same number p q p' q' ds d1 d2 f1 f2 m1 m2 tw h g grows faults =
       let same_i : h.i ≡ g.i = next_one ws p q tw h.i g.i h.a g.a h.next g.next in
       let w : Program = h.w in
@@ -147,8 +153,11 @@ module _ (ws : List Program) (detaches : List Detach) (ds' : List Device) (lasti
       ∙ ap (λ (z : Actor). turn_lines g.i w z) b_g
       ∙ ap (λ (k : ℕ). turn_lines k w b) (sym same_i)
       ∙ ap (λ (k : ℕ). map (line_at k h.i) (events_with_looks w.looks (turn_of b.notes))) (sym t.due) in
-      let told : SameFaults (turn_lines h.i w a ++ m1) (map (line_at a.due h.i) (events_with_looks w.looks (turn_of b.notes)) ++ m2) =
-      subst (λ (ls : List Line). SameFaults (turn_lines h.i w a ++ m1) (ls ++ m2)) l2 (subst (λ (ls : List Line). SameFaults (ls ++ m1) (f2 ++ m2)) l1 faults) in
+      let told : (import : ℕ) (name : List ℕ) → unwrap_or (slice_get w.binds import) None ≡ Some name
+      → SameFaults (turn_lines h.i w a ++ m1) (map (line_at a.due h.i) (events_with_looks w.looks (turn_of b.notes)) ++ m2) =
+      λ import name bound.
+      subst (λ (ls : List Line). SameFaults (turn_lines h.i w a ++ m1) (ls ++ m2)) l2
+      (subst (λ (ls : List Line). SameFaults (ls ++ m1) (f2 ++ m2)) l1 (faults h.i import w name h.program bound)) in
       let r : Same w a.due h.i ds' m1 m2 h.outcomes g.outcomes h.answers g.answers d1 d2 (λ import name bound. (grows name h.i import w h.program bound).0)
       (λ import name bound. (grows name h.i import w h.program bound).1) a.notes b.notes =
       turn_same w a.due h.i ds' m1 m2 h.outcomes g.outcomes h.answers g.answers d1 d2 (λ import name bound. (grows name h.i import w h.program bound).0)
@@ -175,27 +184,31 @@ module _ (ws : List Program) (detaches : List Detach) (ds' : List Device) (lasti
       let after : Trios ws p' q' =
       subst (λ (xs : List Actor). Trios ws xs q') (sym h.after)
       (subst (λ (ys : List Actor). Trios ws (slice_set p h.i a') ys) (sym moved) (trio_set ws p q tw h.i w a' b' h.program t')) in
-      (lines, r.devices, faults_behind f2 m1 m2 (subst (λ (ls : List Line). SameFaults (ls ++ m1) (f2 ++ m2)) lines faults), after)
+      (lines, r.devices, (λ i import v name there bound. faults_behind f2 m1 m2 (subst (λ (ls : List Line). SameFaults (ls ++ m1) (f2 ++ m2)) lines (faults i import v name there bound))), after)
 
-  events_same : (number : ℕ) (p q last last' : List Actor) (ds d e1 e2 : List Device) (lines1 lines2 : List Line) → Trios ws p q → ds ≡ d → e1 ≡ ds' → e2 ≡ ds'
-      → Events ws detaches number p ds lines1 last e1 → IsOver last → Events ws detaches number q d lines2 last' e2 → IsOver last' → SameFaults lines1 lines2 → lines1 ≡ lines2
-  events_same number p q last last' ds d e1 e2 lines1 lines2 tw same z1 z2 no_event o no_event o' f = refl
-  events_same number p q last last' ds d e1 e2 lines1 lines2 tw same z1 z2 no_event o (an_event {actors' = q1} {ds' = x} {lines = l} play rest e) o' f =
+  events_same : (number : ℕ) (p q last last' : List Actor) (ds d e1 e2 : List Device) (lines1 lines2 : List Line) → Trios ws p q → ds ≡ d → IfBound ws ((e1 ≡ ds') × (e2 ≡ ds'))
+      → Events ws detaches number p ds lines1 last e1 → IsOver last → Events ws detaches number q d lines2 last' e2 → IsOver last' → IfBound ws (SameFaults lines1 lines2)
+      → (lines1 ≡ lines2) × (e1 ≡ e2)
+  events_same number p q last last' ds d e1 e2 lines1 lines2 tw same z no_event o no_event o' f = (refl, same)
+  events_same number p q last last' ds d e1 e2 lines1 lines2 tw same z no_event o (an_event {actors' = q1} {ds' = x} {lines = l} play rest e) o' f =
       absurd (over_none q (trios_over ws p q tw o) play.i play.a play.next.there play.next.unfinished)
-  events_same number p q last last' ds d e1 e2 lines1 lines2 tw same z1 z2 (an_event {actors' = p1} {ds' = x} {lines = l} play rest e) o no_event o' f =
+  events_same number p q last last' ds d e1 e2 lines1 lines2 tw same z (an_event {actors' = p1} {ds' = x} {lines = l} play rest e) o no_event o' f =
       absurd (over_none p (trios_over_back ws p q tw o') play.i play.a play.next.there play.next.unfinished)
-  events_same number p q last last' ds d e1 e2 lines1 lines2 tw same z1 z2
+  events_same number p q last last' ds d e1 e2 lines1 lines2 tw same z
       (an_event {actors' = p1} {ds' = x1} {lines = f1} {more = m1} play1 rest1 s1) o (an_event {actors' = q1} {ds' = x2} {lines = f2} {more = m2} play2 rest2 s2) o' f =
       let play2' : Plays ws detaches number q ds f2 q1 x2 = subst (λ (z : List Device). Plays ws detaches number q z f2 q1 x2) (sym same) play2 in
-      let faults : SameFaults (f1 ++ m1) (f2 ++ m2) = subst (λ (ls : List Line). SameFaults (f1 ++ m1) ls) s2 (subst (λ (ls : List Line). SameFaults ls lines2) s1 f) in
+      let faults : IfBound ws (SameFaults (f1 ++ m1) (f2 ++ m2)) =
+      λ i import w name there bound.
+      subst (λ (ls : List Line). SameFaults (f1 ++ m1) ls) s2 (subst (λ (ls : List Line). SameFaults ls lines2) s1 (f i import w name there bound)) in
       let one = plays_same number p q p1 q1 ds x1 x2 f1 f2 m1 m2 tw play1 play2'
-      (λ name i import w there bound. (
-        subst (Grows name x1) z1 (events_grow ws detaches name (lasting i import w name there bound) (suc number) p1 last x1 e1 m1 rest1),
-        subst (Grows name x2) z2 (events_grow ws detaches name (lasting i import w name there bound) (suc number) q1 last' x2 e2 m2 rest2),
+      (λ name i import w there bound.
+      let e = z i import w name there bound in (
+        subst (Grows name x1) e.0 (events_grow ws detaches name (lasting i import w name there bound) (suc number) p1 last x1 e1 m1 rest1),
+        subst (Grows name x2) e.1 (events_grow ws detaches name (lasting i import w name there bound) (suc number) q1 last' x2 e2 m2 rest2),
       ))
       faults in
-      let on = events_same (suc number) p1 q1 last last' x1 x2 e1 e2 m1 m2 one.3 one.1 z1 z2 rest1 o rest2 o' one.2 in
-      s1 ∙ ap (λ (ls : List Line). ls ++ m1) one.0 ∙ ap (λ (ls : List Line). f2 ++ ls) on ∙ sym s2
+      let on = events_same (suc number) p1 q1 last last' x1 x2 e1 e2 m1 m2 one.3 one.1 z rest1 o rest2 o' one.2 in
+      (s1 ∙ ap (λ (ls : List Line). ls ++ m1) one.0 ∙ ap (λ (ls : List Line). f2 ++ ls) on.0 ∙ sym s2, on.1)
 
 -- ---- from the start
 
@@ -228,9 +241,33 @@ start_same [] [] (b ∷ q) sp sq mp mq = absurd sq
 start_same (w ∷ ws) [] q sp sq mp mq = absurd sp
 start_same (w ∷ ws) (a ∷ p) [] sp sq mp mq = absurd sq
 
+both_same : (ws : List Program) (detaches : List Detach) (ds ds1 ds2 ds' : List Device) (lines1 lines2 : List Line) → Lasting ws detaches → (one : ProtocolWorld ws detaches ds lines1 ds1)
+    → (other : ProtocolWorld ws detaches ds lines2 ds2) → IfBound ws ((ds1 ≡ ds') × (ds2 ≡ ds')) → IfBound ws (SameFaults lines1 lines2) → (lines1 ≡ lines2) × (ds1 ≡ ds2)
+both_same ws detaches ds ds1 ds2 ds' lines1 lines2 lasting one other z faults =
+    let m1 = events_met ws detaches 1 one.actors ds lines1 one.last ds1 one.events one.over in
+    let m2 = events_met ws detaches 1 other.actors ds lines2 other.last ds2 other.events other.over in
+    let tw = start_same ws one.actors other.actors one.starts other.starts m1 m2 in
+    events_same ws detaches ds' lasting 1 one.actors other.actors one.last other.last ds ds ds1 ds2 lines1 lines2 tw refl z one.events one.over other.events other.over faults
+
 pub journals_fix_lines : JournalsFixLines
 journals_fix_lines ws detaches ds ds' lines1 lines2 lasting one other faults =
-    let m1 = events_met ws detaches 1 one.actors ds lines1 one.last ds' one.events one.over in
-    let m2 = events_met ws detaches 1 other.actors ds lines2 other.last ds' other.events other.over in
-    let tw = start_same ws one.actors other.actors one.starts other.starts m1 m2 in
-    events_same ws detaches ds' lasting 1 one.actors other.actors one.last other.last ds ds ds' ds' lines1 lines2 tw refl refl refl one.events one.over other.events other.over faults
+    (both_same ws detaches ds ds' ds' ds' lines1 lines2 lasting one other (λ i import w name there bound. (refl, refl)) (λ i import w name there bound. faults)).0
+
+unbound_at : (ws : List Program) → All Unbound ws → (i : ℕ) (w : Program) → slice_get ws i ≡ Some w → Unbound w
+unbound_at [] h i w e = cc
+unbound_at (v ∷ ws) h zero w e = subst Unbound (program_same v w e) (All-head Unbound v ws h)
+unbound_at (v ∷ ws) h (suc i) w e = unbound_at ws (All-tail Unbound v ws h) i w e
+
+none_bound : (ws : List Program) (T : Type 0) → All Unbound ws → IfBound ws T
+none_bound ws T h i import w name there bound =
+    let none = unbound_at ws h i w there import in
+    absurd (apart none bound)
+  where
+    apart : unwrap_or (slice_get w.binds import) None ≡ None → unwrap_or (slice_get w.binds import) None ≡ Some name → ⊥
+    apart e f = let bad : None ≡ Some name = sym e ∙ f in cc
+
+pub unbound_fix_lines : UnboundFixLines
+unbound_fix_lines ws detaches ds ds1 ds2 lines1 lines2 none one other =
+    both_same ws detaches ds ds1 ds2 ds1 lines1 lines2 (λ i import w name there bound. none_bound ws
+    (All (λ (x : Detach). same_name x.device name ≡ false) detaches) none i import w name there bound) one other
+    (none_bound ws ((ds1 ≡ ds1) × (ds2 ≡ ds1)) none) (none_bound ws (SameFaults lines1 lines2) none)
