@@ -1,3 +1,5 @@
+pub mod Astray
+pub mod Bounded
 pub mod GoingOn
 pub mod LineCalls
 pub mod Openings
