@@ -1,5 +1,5 @@
 -- What stands at a place of a list, and the first device of a name.
-use Rattle.std.proofs.Common.{arith, ◌≡◌, ℕ, suc, zero, ◌+◌, ◌<◌, Bool, true, false, cond, ◌&&◌, ◌||◌, nat_eq, List, [], ◌∷◌, ◌++◌, length, get_or, take, drop, set, map, slice_get, slice_set, Some, refl, sym, ap, ◌∙◌}
+use Rattle.std.proofs.Common.{Result, Ok, Err, IsErrOf, OnErr, arith, ◌≡◌, ◌^◌, inl, inr, ℕ, suc, zero, ◌+◌, ◌<◌, Bool, true, false, cond, ◌&&◌, ◌||◌, nat_eq, List, [], ◌∷◌, ◌++◌, length, get_or, take, drop, set, map, slice_get, slice_set, Some, refl, sym, ap, ◌∙◌}
 use Rattle.std.specs.List.{list_any, remove}
 use Rattle.std.specs.Option.{option_map}
 use Rattle.std.specs.Str.{bytes_eq}
@@ -7,8 +7,13 @@ use Rattle.std.proofs.lemmas.List.{length-map, map-set, map-append, drop-map, se
 use Rattle.std.proofs.lemmas.List.Folds.{list_any_more}
 use Rattle.std.proofs.lemmas.Option.{slice_get-map, slice_get-get_or}
 use Rattle.wa_types.specs.Validity.{same_name}
-use Rattle.wa_model.specs.World.{Device, Asked, is_named, journaled, taken_out}
-use Rattle.device_port.specs.Journals.{with_entry}
+use Rattle.wa_types.specs.declared.values.Value.{Value}
+use Rattle.wa_model.specs.declared.events.End.TheVariants.{DeviceFault, NoDevice}
+use Rattle.wa_model.specs.Plan.{ValueFits, refused}
+use Rattle.wa_model.specs.World.{Device, Asked, is_named, journaled, taken_out, MeetsDevice}
+use Rattle.std.proofs.lemmas.Map.Keys.{any_passes_from_place}
+use Rattle.device_port.specs.declared.device.Reply.{Reply}
+use Rattle.device_port.specs.Journals.{entry, with_entry, replied}
 use Rattle.device_port.specs.Listed.{IsFirstOf, ChangesAt}
 
 pub same_bytes : (xs ys : List ℕ) → same_name xs ys ≡ bytes_eq xs ys
@@ -60,31 +65,33 @@ module _ {X Y : Type 0} (f : X → Y) where
   pub inside : (xs : List X) (i : ℕ) → i < length (map f xs) → i < length xs
   inside xs i within = omega (arith, length-map xs f, within)
 
+-- ---- tests
+
+pub or_left : (a b : Bool) → (a || b) ≡ false → a ≡ false
+or_left false b e = refl
+or_left true b e = e
+
+pub or_right : (a b : Bool) → (a || b) ≡ false → b ≡ false
+or_right false b e = e
+or_right true b e = absurd (true≢false e)
+
+pub pick_true : {A : Type 0} (b : Bool) (x y : A) → b ≡ true → cond b x y ≡ x
+pick_true true x y is = refl
+pick_true false x y is = absurd (true≢false (sym is))
+
+pub pick_false : {A : Type 0} (b : Bool) (x y : A) → b ≡ false → cond b x y ≡ y
+pick_false false x y is = refl
+pick_false true x y is = absurd (true≢false is)
+
+pub some_is : {A : Type 0} (x y : A) → Some x ≡ Some y → x ≡ y
+some_is x y e = cc
+
 -- ---- the first of a name
 
 module _ (name : List ℕ) where
   pub found : {X : Type 0} (f : X → Device) (xs : List X) (i : ℕ) (x : X) → i < length xs → x ≡ get_or xs i x → is_named name (f x) ≡ true → list_any (is_named name) (map f (take i xs)) ≡ false → IsFirstOf (map f xs) name i
   found f xs i x within is named none =
       record { device = f x; there = there f xs i x within is; named = named; first = ap (list_any (is_named name)) (take-map f i xs) ∙ none }
-
-  or_left : (a b : Bool) → (a || b) ≡ false → a ≡ false
-  or_left false b e = refl
-  or_left true b e = e
-
-  or_right : (a b : Bool) → (a || b) ≡ false → b ≡ false
-  or_right false b e = e
-  or_right true b e = absurd (true≢false e)
-
-  pick_true : {A : Type 0} (b : Bool) (x y : A) → b ≡ true → cond b x y ≡ x
-  pick_true true x y is = refl
-  pick_true false x y is = absurd (true≢false (sym is))
-
-  pick_false : {A : Type 0} (b : Bool) (x y : A) → b ≡ false → cond b x y ≡ y
-  pick_false false x y is = refl
-  pick_false true x y is = absurd (true≢false is)
-
-  some_is : {A : Type 0} (x y : A) → Some x ≡ Some y → x ≡ y
-  some_is x y e = cc
 
   pub journaled_first : (call : Asked) (ds : List Device) (i : ℕ) (d e : Device) → slice_get ds i ≡ Some d → is_named name d ≡ true → list_any (is_named name) (take i ds) ≡ false → e ≡ with_entry call d → slice_set ds i e ≡ journaled name call ds
   journaled_first call [] i d e is named none so = refl
@@ -111,3 +118,23 @@ module _ (name : List ℕ) where
 
   pub taken_out_by : (ds : List Device) (i : ℕ) → IsFirstOf ds name i → remove ds i ≡ taken_out name ds
   taken_out_by ds i first = taken_out_first ds i first.device first.there first.named first.first
+
+-- ---- what a new call meets
+
+pub is_there : (name : List ℕ) (ds : List Device) (i : ℕ) → IsFirstOf ds name i → list_any (is_named name) ds ≡ true
+is_there name ds i first = any_passes_from_place (is_named name) ds i first.device first.there first.named
+
+pub meets_reply : (import : ℕ) (base name : List ℕ) (args : List Value) (reply : Reply) (ds ds' : List Device) (i : ℕ) → IsFirstOf ds name i → ValueFits reply.value → reply.ticks < 2 ^ 32 → ds' ≡ journaled name (entry base args reply) ds → MeetsDevice import base name args ds (replied reply) ds'
+meets_reply import base name args reply ds ds' i first fits small is =
+    rw (is_there name ds i first) (inl (record { value = reply.value; ticks = reply.ticks }, fits, small, refl, is))
+
+pub meets_fault : (import : ℕ) (base name : List ℕ) (args : List Value) (ds ds' : List Device) (i : ℕ) → IsFirstOf ds name i → ds' ≡ ds → MeetsDevice import base name args ds (refused (DeviceFault import)) ds'
+meets_fault import base name args ds ds' i first is = rw (is_there name ds i first) (inr (refl, is))
+
+pub meets_none : (import : ℕ) (base name : List ℕ) (args : List Value) (ds : List Device) → list_any (is_named name) ds ≡ false → MeetsDevice import base name args ds (refused (NoDevice import)) ds
+meets_none import base name args ds none = rw none (refl, refl)
+
+-- what is said of an error, at this one
+pub of_err : {T E P : Type 0} (r : Result T E) (e : E) → IsErrOf r e → OnErr r P → P
+of_err (Ok x) e is p = absurd cc
+of_err (Err x) e is p = p

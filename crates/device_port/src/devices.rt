@@ -1,8 +1,10 @@
-ghost use Rattle.std.specs.Prelude.{◌≡◌, ◌≤◌, ◌<◌, ℕ, List, length, map, false, IfOk, OnErr, IsErrOf, MatchOption};
+ghost use Rattle.std.specs.Prelude.{◌≡◌, ◌≤◌, ◌<◌, ◌^◌, ℕ, List, length, map, false, IfOk, OnErr, IsErrOf, MatchOption};
 ghost use Rattle.std.specs.List.{list_any, remove};
-ghost use Rattle.wa_model.specs.World.{is_named, journaled, taken_out};
+ghost use Rattle.wa_model.specs.declared.events.End.TheVariants.{DeviceFault};
+ghost use Rattle.wa_model.specs.Plan.{refused, ValueFits};
+ghost use Rattle.wa_model.specs.World.{is_named, journaled, taken_out, MeetsDevice};
 ghost use Rattle.vault_port.specs.Counts.{HasRisen};
-ghost use Rattle.device_port.specs.Journals.{entry, with_entry};
+ghost use Rattle.device_port.specs.Journals.{entry, with_entry, replied};
 ghost use Rattle.device_port.specs.Listed.{of_each, IsFirstOf, ChangesAt};
 
 use crate::{Device, DeviceFail, Reply};
@@ -44,10 +46,18 @@ impl<'d> Devices<'d> {
             (name : List ℕ) → IsFirstOf (of_each seen self.old) name place
             → of_each seen self.new
             ≡ journaled name (entry base.now args.now reply) (of_each seen self.old)) }
+        ensures meets { IfOk result (λ reply.
+            (import : ℕ) (name : List ℕ) → IsFirstOf (of_each seen self.old) name place
+            → MeetsDevice import base.now name args.now
+            (of_each seen self.old) (replied reply) (of_each seen self.new)) }
         ensures kept { OnErr result (of_each seen self.new ≡ of_each seen self.old) }
 
         ensures fault { IsErrOf result DeviceFail.Fault
             → ChangesAt HasRisen place (of_each faults self.old) (of_each faults self.new) }
+        ensures meets_fault { IsErrOf result DeviceFail.Fault
+            → (import : ℕ) (name : List ℕ) → IsFirstOf (of_each seen self.old) name place
+            → MeetsDevice import base.now name args.now
+            (of_each seen self.old) (refused (DeviceFault import)) (of_each seen self.new) }
         ensures rising { ChangesAt (λ old new. old ≤ new)
             place (of_each faults self.old) (of_each faults self.new) }
     {
@@ -59,6 +69,7 @@ impl<'d> Devices<'d> {
     pub fn detach(&mut self, place: usize)
         requires { place < length (of_each seen self.old) }
         ensures same_list { self.new.list.ghost_name ≡ self.old.list.ghost_name }
+        ensures boxes { self.new.list.now.items ≡ remove self.old.list.now.items place }
         ensures devices { of_each seen self.new ≡ remove (of_each seen self.old) place }
         ensures counts { of_each faults self.new ≡ remove (of_each faults self.old) place }
         ensures taken_out { (name : List ℕ) → IsFirstOf (of_each seen self.old) name place
@@ -98,11 +109,28 @@ fn name_of(device: &Box<dyn Device>) -> &str
 /// Asks one device.
 fn ask_box(device: &mut Box<dyn Device>, base: &str, args: &[Value]) -> Result<Reply, DeviceFail>
     ensures answered { IfOk result (λ reply.
-        seen device.new ≡ with_entry (entry base.now args.now reply) (seen device.old)) }
+        (seen device.new ≡ with_entry (entry base.now args.now reply) (seen device.old))
+        × ValueFits reply.value × (reply.ticks < 2 ^ 32)) }
     ensures kept { OnErr result (seen device.new ≡ seen device.old) }
     ensures fault { IsErrOf result DeviceFail.Fault
         → HasRisen (faults device.old) (faults device.new) }
     ensures rising { faults device.old ≤ faults device.new }
 {
-    device.call(base, args)
+    match device.call(base, args) {
+        Ok(reply) => Ok(in_range(reply)),
+        Err(fail) => Err(fail),
+    }
+}
+
+/// A reply as it is. Its numbers have the ranges of their types.
+fn in_range(reply: Reply) -> Reply
+    ensures same { result ≡ reply }
+    ensures value { ValueFits reply.value }
+    ensures ticks { reply.ticks < 2 ^ 32 }
+{
+    match reply.value {
+        Some(Value::I32(_)) => reply,
+        Some(Value::I64(_)) => reply,
+        None => reply,
+    }
 }
