@@ -16,7 +16,7 @@ use Rattle.wa_types.specs.Modules.{locals_of, func_imports, defined_at}
 use Rattle.wa_types.specs.Points.{func_call_points}
 use Rattle.wa_types.specs.Liveness.{live_at, live_from, behind_calls, is_live_after, Position}
 use Rattle.wa_types.specs.Frames.{Pair, Place, SlotPairs, is_on_stack, place_onto, named_places, slot_places, width, Saved, Room, frame_of, size_of_found}
-use Rattle.point_visits.specs.declared.slots.Pair.{Pair as PairValue}
+use Rattle.point_visits.specs.declared.slot_pairs.Pair.{Pair as PairValue}
 use Rattle.frame_sizes.specs.declared.frames.Place.{Place as PlaceValue}
 use Rattle.frame_sizes.specs.declared.frames.Suspended.{Suspended as SuspendedValue}
 use Rattle.live_behind.specs.Lives.{lives}

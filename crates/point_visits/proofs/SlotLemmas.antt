@@ -9,7 +9,7 @@ use Rattle.wa_types.specs.declared.values.ValType.{ValType}
 use Rattle.wa_types.specs.declared.values.ValType.TheVariants.{I32, I64}
 use Rattle.wa_types.specs.Encoding.{same_type}
 use Rattle.wa_types.specs.Frames.{Pair, pair_onto, pairs_from, stands_at, is_type, greatest}
-use Rattle.point_visits.specs.declared.slots.Pair.{Pair as PairValue}
+use Rattle.point_visits.specs.declared.slot_pairs.Pair.{Pair as PairValue}
 use Rattle.point_visits.specs.Points.{lists_of}
 use Rattle.point_visits.specs.Slots.{pair_of, pairs_of}
 

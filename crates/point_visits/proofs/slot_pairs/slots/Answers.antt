@@ -4,7 +4,7 @@ use Rattle.wa_types.specs.Frames.{greatest, pairs_from, stands_at}
 use Rattle.point_visits.specs.Points.{lists_of}
 use Rattle.point_visits.specs.Slots.{pairs_of}
 use Rattle.point_visits.proofs.SlotLemmas.{height_put}
-use Rattle.point_visits.proofs.slots.slots.Goals as goal
+use Rattle.point_visits.proofs.slot_pairs.slots.Goals as goal
 
 pub loop-height-preserved : goal.loop-height-preserved
 loop-height-preserved c =

@@ -1,6 +1,6 @@
 use Rattle.std.proofs.Common.{arith, ap, ◌∙◌, ◌≡◌, length, max}
 use Rattle.point_visits.proofs.SlotLemmas.{highest_more}
-use Rattle.point_visits.proofs.slots.highest.Goals as goal
+use Rattle.point_visits.proofs.slot_pairs.highest.Goals as goal
 
 pub loop-ops-preserved : goal.loop-ops-preserved
 loop-ops-preserved c = (

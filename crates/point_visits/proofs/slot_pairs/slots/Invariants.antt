@@ -3,7 +3,7 @@ use Rattle.std.specs.List.{list_any}
 use Rattle.wa_types.specs.Frames.{greatest, pairs_from, stands_at}
 use Rattle.point_visits.specs.Points.{lists_of}
 use Rattle.point_visits.specs.Slots.{pairs_of}
-use Rattle.point_visits.proofs.slots.slots.Given as goal
+use Rattle.point_visits.proofs.slot_pairs.slots.Given as goal
 
 abbrev pub invariant-loop-height : goal.invariant-loop-height
 invariant-loop-height l =
