@@ -1,2 +1,3 @@
+mod TypeLemmas
 pub mod FrameLemmas
 pub mod SavedLemmas
