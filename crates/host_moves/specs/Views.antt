@@ -1,5 +1,5 @@
 -- The place of the protocol's machine for which a stage stands.
-use Rattle.std.specs.Prelude.{◌≡◌, ◌<◌, ◌^◌, ℕ, List, [], ◌∷◌, length, map, reverse, Option, Some, None, All, slice_get}
+use Rattle.std.specs.Prelude.{◌≡◌, ◌<◌, ◌^◌, ℕ, List, [], ◌∷◌, length, map, Option, Some, None, All, slice_get}
 use Rattle.std.specs.Option.{option_map, option_to_list}
 use Rattle.wa_types.specs.declared.values.Value.{Value}
 use Rattle.wa_types.specs.declared.values.Value.TheVariants as V
@@ -35,11 +35,11 @@ entry_of e = record { func = e.func; args = e.args.items }
 
 -- the entries left, and the outcomes that are known: none
 abbrev pub left_of : Left → B.Left
-left_of l = record { number = l.number; entries = map entry_of (reverse l.entries.items); outcomes = [] }
+left_of l = record { number = l.number; entries = map entry_of l.entries.items; outcomes = [] }
 
--- the answer lines left, of which the program keeps the last first
+-- the answer lines left
 abbrev pub lines_in : List AnswerLineValue → List AnswerLine
-lines_in answers = map answer_line_of (reverse answers)
+lines_in answers = map answer_line_of answers
 
 -- ---- stages
 
@@ -75,7 +75,7 @@ abbrev pub place_in : P.Exports → Area → B.Left → Store → Waits → Stag
 place_in x area l s w Free = stands (done_notes s l.entries) (held_on s l l.entries)
 place_in x area l s w (Answering task answer) = with_asker nowhere s task w (answering l (answer_of answer) (poked s (answer_of answer).pokes))
 place_in x area l s w (Giving task value) = with_asker nowhere s task w (giving l value s)
-place_in x area l s w (Pausing entry import answer) = pausing x area l (entry_of entry) import (answer_of answer) s w
-place_in x area l s w (Paused entry import answer) = paused_at x area l (entry_of entry) import (answer_of answer) s
+place_in x area l s w (Pausing pause) = pausing x area l (entry_of pause.entry) pause.import (answer_of pause.answer) s w
+place_in x area l s w (Paused pause) = paused_at x area l (entry_of pause.entry) pause.import (answer_of pause.answer) s
 place_in x area l s w (Ending end) = stands (note (ended end) s ∷ []) (over s)
 place_in x area l s w (Ended end) = has_ended end

@@ -5,6 +5,18 @@
 //! place of the protocol's machine (`specs/Views.antt`), and `next_event` tells the machine's next note (`specs/Moves.antt`).
 #![tactic(auto)]
 
+mod ends;
+mod events;
+mod exports;
+mod memory;
+mod rewinding;
+mod running;
 mod stages;
+mod unwinding;
 
-pub use stages::{EntryCall, Exports, HostImport, Left, Setting, Stage, Task};
+pub use ends::copy_end;
+pub use events::next_event;
+pub use running::start;
+pub use stages::{
+    EntryCall, Exports, HostImport, Left, Moved, Pause, Setting, Stage, Task,
+};

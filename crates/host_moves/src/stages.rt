@@ -1,4 +1,6 @@
-use wa_model::{Answer, Area, End};
+use std::alloc::Global;
+use std::collections::VecDeque;
+use wa_model::{Answer, Area, End, Event};
 use wa_types::{Name, ValType, Value};
 
 /// The functions of the five exports through which a host unwinds and rewinds a stack.
@@ -20,8 +22,9 @@ pub struct HostImport {
 
 /// What stays of a program on its way: its imported functions, which of them are listed where that is told, its area, the
 /// exports that the host calls, and its number of steps.
-#[derive(Debug, Drop)]
+#[derive(Drop)]
 pub struct Setting {
+    pub alloc: Global,
     pub imports: Vec<HostImport>,
     pub listed: Option<Vec<bool>>,
     pub area: Area,
@@ -36,11 +39,11 @@ pub struct EntryCall {
     pub args: Vec<Value>,
 }
 
-/// The number of the entry that runs or comes next, and those that are still to be called, the last one first.
+/// The number of the entry that runs or comes next, and those that are still to be called.
 #[derive(Debug, Drop)]
 pub struct Left {
     pub number: u32,
-    pub entries: Vec<EntryCall>,
+    pub entries: VecDeque<EntryCall>,
 }
 
 /// What the host has called: an import as the start function, the start function, or an entry.
@@ -49,6 +52,14 @@ pub enum Task {
     Outermost,
     Start,
     Entry(EntryCall),
+}
+
+/// A pause: the entry that is called again, the import whose call waits, and its answer.
+#[derive(Debug, Drop)]
+pub struct Pause {
+    pub entry: EntryCall,
+    pub import: u32,
+    pub answer: Answer,
 }
 
 /// Where a program with an instance stands between two events.
@@ -61,19 +72,18 @@ pub enum Stage {
     /// The answer was told, and its value is to be given.
     Giving { task: Task, value: Option<Value> },
     /// A call was told whose answer pauses.
-    Pausing {
-        entry: EntryCall,
-        import: u32,
-        answer: Answer,
-    },
+    Pausing(Pause),
     /// The pause was told.
-    Paused {
-        entry: EntryCall,
-        import: u32,
-        answer: Answer,
-    },
+    Paused(Pause),
     /// The end is told next.
     Ending(End),
     /// The end was told.
     Ended(End),
+}
+
+/// An event, and where the program then stands.
+#[derive(Debug, Drop)]
+pub struct Moved {
+    pub event: Event,
+    pub stage: Stage,
 }
