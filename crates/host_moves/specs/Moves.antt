@@ -120,3 +120,9 @@ IsAsking T.Outermost I.outermost s who = who ≡ outermost s
 IsAsking T.Start (I.inside here under) s who = who ≡ inside the_start (record { store = s; here = here; under = under })
 IsAsking (T.Entry e) (I.inside here under) s who = who ≡ inside (an_entry (entry_of e)) (record { store = s; here = here; under = under })
 IsAsking _ _ s who = ⊥
+
+-- the start function or an entry
+abbrev pub IsTask : Task → B.Task → Type 0
+IsTask T.Start t = t ≡ the_start
+IsTask (T.Entry e) t = t ≡ an_entry (entry_of e)
+IsTask T.Outermost t = ⊥

@@ -1,3 +1,20 @@
+ghost use Rattle.std.specs.Prelude.{◌≡◌, ◌<◌, ◌≤◌, ◌+◌, ◌-◌, ◌^◌, ℕ, List, [], ◌∷◌, All, IfOk, OnOk, None, map, slice_get};
+ghost use Rattle.std.specs.Option.{option_to_list};
+ghost use Rattle.wa_types.specs.Modules.{func_imports};
+ghost use Rattle.wa_model.specs.Configuration.{Configuration};
+ghost use Rattle.wa_model.specs.Outside.{AnswerLine};
+ghost use Rattle.wa_model.specs.Store.{Store};
+ghost use Rattle.wa_model.specs.View.{answer_of};
+ghost use Rattle.wa_model.specs.Blocking.{Asker, Left as PlainLeft, Task as PlainTask, an_entry, fault_of, next_entry, the_start};
+ghost use Rattle.wa_model.specs.Protocol.{Held, busy, exports_of, is_running, starting};
+ghost use Rattle.wa_model.specs.World.{Program};
+ghost use Rattle.run_laws.specs.FittingStates.{HeldFits};
+ghost use Rattle.interp.specs.Host.{code_in, store_in, waits_in};
+ghost use Rattle.interp.specs.Instance.{Calls, Turns};
+ghost use Rattle.host_answers.specs.Answering.{IsShort};
+ghost use Rattle.host_moves.specs.Moves.{Asks, Comes, ComesFrom, HasShortPokes, IsAsking, IsSetting, IsTask, PlaceFits};
+ghost use Rattle.host_moves.specs.Views.{entry_of, free_place, left_of, lines_in, place_in, stage_after, starts};
+
 use crate::ends::ended;
 use crate::memory::write_pokes;
 use crate::stages::{EntryCall, HostImport, Left, Moved, Pause, Setting, Stage, Task};
@@ -16,12 +33,34 @@ pub fn start(
     answers: &mut VecDeque<AnswerLine>,
     steps: &mut Steps,
     func: u32,
-) -> Result<Moved, AllocError> {
+) -> Result<Moved, AllocError>
+    requires { steps.old.left + steps.old.used < 2 ^ 64 }
+    ensures comes { (w : Program) → IsSetting w setting.now → code_in instance.old ≡ w.source → All HasShortPokes (lines_in answers.old.items) → HeldFits w.source (starting func (store_in instance.old) (left_of left.old)) → IfOk result (λ m. Comes w (starting func (store_in instance.old) (left_of left.old)) steps.old.left (steps.new.used - steps.old.used) m (lines_in answers.old.items) (lines_in answers.new.items) (left_of left.new) (store_in instance.new) (waits_in instance.new)) }
+    ensures code { code_in instance.new ≡ code_in instance.old }
+    ensures sum { steps.new.left + steps.new.used ≡ steps.old.left + steps.old.used }
+    ensures grows { steps.old.used ≤ steps.new.used }
+{
     let turn = instance.begin(func, &[], steps)?;
     if (func as usize) < setting.imports.len() {
-        return stopped(setting, instance, answers, Task::Outermost, turn);
+        return start_asked(setting, instance, answers, turn);
     }
     start_ran(setting, instance, left, answers, steps, turn)
+}
+
+// The start function is an import.
+fn start_asked(
+    setting: &Setting,
+    instance: &Instance<'_>,
+    answers: &mut VecDeque<AnswerLine>,
+    turn: Turn,
+) -> Result<Moved, AllocError>
+    ensures { (w : Program) → IsSetting w setting.now → code_in instance.now ≡ w.source → All HasShortPokes (lines_in answers.old.items) → (s : Store) (func : ℕ) (l : PlainLeft) (left_then used : ℕ) → func < func_imports w.source → Calls w.source s func [] left_then used turn (store_in instance.now) (waits_in instance.now) → IfOk result (λ m. Comes w (starting func s l) left_then used m (lines_in answers.old.items) (lines_in answers.new.items) l (store_in instance.now) (waits_in instance.now)) }
+{
+    match turn {
+        Turn::Waiting(call) => called(setting, instance, answers, Task::Outermost, call),
+        Turn::StepsSpent => ended(setting.alloc, End::StepsSpent(setting.steps)),
+        _ => Err(AllocError),
+    }
 }
 
 // The start function ran: the entries come next.
@@ -32,7 +71,13 @@ fn start_ran(
     answers: &mut VecDeque<AnswerLine>,
     steps: &mut Steps,
     turn: Turn,
-) -> Result<Moved, AllocError> {
+) -> Result<Moved, AllocError>
+    requires { steps.old.left + steps.old.used < 2 ^ 64 }
+    ensures comes { (w : Program) → IsSetting w setting.now → code_in instance.old ≡ w.source → All HasShortPokes (lines_in answers.old.items) → (c : Configuration) (left_then used : ℕ) → Turns w.source c left_then used turn (store_in instance.old) (waits_in instance.old) → steps.old.left + used ≡ left_then → HeldFits w.source (busy (is_running the_start) c (left_of left.old)) → IfOk result (λ m. Comes w (busy (is_running the_start) c (left_of left.old)) left_then (used + (steps.new.used - steps.old.used)) m (lines_in answers.old.items) (lines_in answers.new.items) (left_of left.new) (store_in instance.new) (waits_in instance.new)) }
+    ensures code { code_in instance.new ≡ code_in instance.old }
+    ensures sum { steps.new.left + steps.new.used ≡ steps.old.left + steps.old.used }
+    ensures grows { steps.old.used ≤ steps.new.used }
+{
     match turn {
         Turn::Returned(_) => call_next(setting, instance, left, answers, steps),
         other => stopped(setting, instance, answers, Task::Start, other),
@@ -46,7 +91,13 @@ pub(crate) fn call_next(
     left: &mut Left,
     answers: &mut VecDeque<AnswerLine>,
     steps: &mut Steps,
-) -> Result<Moved, AllocError> {
+) -> Result<Moved, AllocError>
+    requires { steps.old.left + steps.old.used < 2 ^ 64 }
+    ensures comes { (w : Program) → IsSetting w setting.now → code_in instance.old ≡ w.source → All HasShortPokes (lines_in answers.old.items) → PlaceFits w (free_place (left_of left.old) (store_in instance.old)) → IfOk result (λ m. ComesFrom w (free_place (left_of left.old) (store_in instance.old)) steps.old.left (steps.new.used - steps.old.used) m (lines_in answers.old.items) (lines_in answers.new.items) (left_of left.new) (store_in instance.new) (waits_in instance.new)) }
+    ensures code { code_in instance.new ≡ code_in instance.old }
+    ensures sum { steps.new.left + steps.new.used ≡ steps.old.left + steps.old.used }
+    ensures grows { steps.old.used ≤ steps.new.used }
+{
     match left.entries.pop_front() {
         None => ended(setting.alloc, End::Done),
         Some(entry) => {
@@ -64,7 +115,9 @@ fn entry_ran(
     answers: &mut VecDeque<AnswerLine>,
     entry: EntryCall,
     turn: Turn,
-) -> Result<Moved, AllocError> {
+) -> Result<Moved, AllocError>
+    ensures { (w : Program) → IsSetting w setting.now → code_in instance.now ≡ w.source → All HasShortPokes (lines_in answers.old.items) → (c : Configuration) (left_then used : ℕ) → Turns w.source c left_then used turn (store_in instance.now) (waits_in instance.now) → IfOk result (λ m. Comes w (busy (is_running (an_entry (entry_of entry))) c (left_of left.old)) left_then used m (lines_in answers.old.items) (lines_in answers.new.items) (left_of left.new) (store_in instance.now) (waits_in instance.now)) }
+{
     match turn {
         Turn::Returned(value) => returned(left, value),
         other => stopped(setting, instance, answers, Task::Entry(entry), other),
@@ -72,7 +125,11 @@ fn entry_ran(
 }
 
 // An entry returned.
-fn returned(left: &mut Left, value: Option<Value>) -> Result<Moved, AllocError> {
+fn returned(left: &mut Left, value: Option<Value>) -> Result<Moved, AllocError>
+    ensures event { IfOk result (λ m. m.event ≡ Event.Returned left.old.number value) }
+    ensures stage { IfOk result (λ m. m.stage ≡ Stage.Free) }
+    ensures left { OnOk result (left_of left.new ≡ next_entry (left_of left.old)) }
+{
     let entry = left.number;
     let Some(next) = entry.checked_add(1) else {
         return Err(AllocError);
@@ -90,7 +147,9 @@ fn stopped(
     answers: &mut VecDeque<AnswerLine>,
     task: Task,
     turn: Turn,
-) -> Result<Moved, AllocError> {
+) -> Result<Moved, AllocError>
+    ensures { (w : Program) → IsSetting w setting.now → code_in instance.now ≡ w.source → All HasShortPokes (lines_in answers.old.items) → (t : PlainTask) (l : PlainLeft) (c : Configuration) (left_then used : ℕ) → IsTask task t → Turns w.source c left_then used turn (store_in instance.now) (waits_in instance.now) → IfOk result (λ m. Comes w (busy (is_running t) c l) left_then used m (lines_in answers.old.items) (lines_in answers.new.items) l (store_in instance.now) (waits_in instance.now)) }
+{
     match turn {
         Turn::Returned(_) => Err(AllocError),
         Turn::Trapped(trap) => ended(setting.alloc, End::Trapped(trap)),
@@ -106,7 +165,9 @@ fn called(
     answers: &mut VecDeque<AnswerLine>,
     task: Task,
     call: Call,
-) -> Result<Moved, AllocError> {
+) -> Result<Moved, AllocError>
+    ensures { (w : Program) → IsSetting w setting.now → code_in instance.now ≡ w.source → All HasShortPokes (lines_in answers.old.items) → (who : Asker) (h : Held) (l : PlainLeft) (left_then used : ℕ) → Asks w h used call.import call.args.items who l → used ≤ left_then → IsAsking task (waits_in instance.now) (store_in instance.now) who → IfOk result (λ m. Comes w h left_then used m (lines_in answers.old.items) (lines_in answers.new.items) l (store_in instance.now) (waits_in instance.now)) }
+{
     let Some(import) = setting.imports.get(call.import as usize) else {
         return Err(AllocError);
     };
@@ -131,7 +192,9 @@ fn answered(
     task: Task,
     number: u32,
     answer: Answer,
-) -> Stage {
+) -> Stage
+    ensures { (w : Program) → IsSetting w setting.now → All IsShort (answer_of answer).pokes → result ≡ stage_after (fault_of (option_to_list import.now.result) size w.plan (starts task) number (answer_of answer)) answer.ticks task number answer }
+{
     let listed = match &setting.listed {
         None => None,
         Some(listed) => Some(listed.as_slice()),
@@ -147,7 +210,9 @@ fn answered(
 }
 
 // An answer that passes its tests.
-fn passed(task: Task, import: u32, answer: Answer) -> Stage {
+fn passed(task: Task, import: u32, answer: Answer) -> Stage
+    ensures { result ≡ stage_after None answer.ticks task import answer }
+{
     if answer.ticks == 0 {
         return Stage::Answering { task, answer };
     }
@@ -166,7 +231,10 @@ pub(crate) fn tell_answer(
     instance: &mut Instance<'_>,
     task: Task,
     answer: Answer,
-) -> Result<Moved, AllocError> {
+) -> Result<Moved, AllocError>
+    ensures comes { (w : Program) (l : PlainLeft) (lines : List AnswerLine) (left_then : ℕ) → PlaceFits w (place_in (exports_of w.source) w.plan.area l (store_in instance.old) (waits_in instance.old) (Stage.Answering task answer)) → IfOk result (λ m. ComesFrom w (place_in (exports_of w.source) w.plan.area l (store_in instance.old) (waits_in instance.old) (Stage.Answering task answer)) left_then 0 m lines lines l (store_in instance.new) (waits_in instance.new)) }
+    ensures code { code_in instance.new ≡ code_in instance.old }
+{
     write_pokes(instance, &answer.pokes)?;
     let value = answer.value;
     let event = Event::Answered(value);
@@ -186,7 +254,13 @@ pub(crate) fn give(
     steps: &mut Steps,
     task: Task,
     value: Option<Value>,
-) -> Result<Moved, AllocError> {
+) -> Result<Moved, AllocError>
+    requires { steps.old.left + steps.old.used < 2 ^ 64 }
+    ensures comes { (w : Program) → IsSetting w setting.now → code_in instance.old ≡ w.source → All HasShortPokes (lines_in answers.old.items) → PlaceFits w (place_in (exports_of w.source) w.plan.area (left_of left.old) (store_in instance.old) (waits_in instance.old) (Stage.Giving task value)) → IfOk result (λ m. ComesFrom w (place_in (exports_of w.source) w.plan.area (left_of left.old) (store_in instance.old) (waits_in instance.old) (Stage.Giving task value)) steps.old.left (steps.new.used - steps.old.used) m (lines_in answers.old.items) (lines_in answers.new.items) (left_of left.new) (store_in instance.new) (waits_in instance.new)) }
+    ensures code { code_in instance.new ≡ code_in instance.old }
+    ensures sum { steps.new.left + steps.new.used ≡ steps.old.left + steps.old.used }
+    ensures grows { steps.old.used ≤ steps.new.used }
+{
     if !instance.is_waiting() {
         return Err(AllocError);
     }

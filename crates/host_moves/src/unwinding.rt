@@ -1,3 +1,20 @@
+ghost use Rattle.std.specs.Prelude.{◌≡◌, ◌<◌, ◌≤◌, ◌+◌, ◌-◌, ◌^◌, List, [], ◌∷◌, IfOk, map, slice_get};
+ghost use Rattle.std.specs.Option.{option_to_list};
+ghost use Rattle.wa_types.specs.declared.values.Value.TheVariants as V;
+ghost use Rattle.wa_model.specs.Configuration.{Activation, Configuration};
+ghost use Rattle.wa_model.specs.Outside.{AnswerLine};
+ghost use Rattle.wa_model.specs.Store.{Store};
+ghost use Rattle.wa_model.specs.Blocking.{Left as PlainLeft, resumed};
+ghost use Rattle.wa_types.specs.Modules.{func_imports};
+ghost use Rattle.wa_model.specs.Protocol.{busy, calling, exports_of, pause_there, test_unwound, zeros_of};
+ghost use Rattle.wa_model.specs.View.{answer_of};
+ghost use Rattle.wa_model.specs.World.{Program};
+ghost use Rattle.run_laws.specs.FittingStates.{HeldFits};
+ghost use Rattle.interp.specs.Host.{code_in, store_in, waits_in};
+ghost use Rattle.interp.specs.Instance.{inside};
+ghost use Rattle.host_moves.specs.Moves.{Comes, ComesFrom, IsSetting, PlaceFits};
+ghost use Rattle.host_moves.specs.Views.{entry_of, pausing, unwinding};
+
 use crate::ends::ended;
 use crate::exports::{Exported, Work, call_export, is_state, trap_end};
 use crate::memory::{used_of, write_words};
@@ -13,7 +30,13 @@ pub(crate) fn unwind(
     instance: &mut Instance<'_>,
     steps: &mut Steps,
     pause: Pause,
-) -> Result<Moved, AllocError> {
+) -> Result<Moved, AllocError>
+    requires { steps.old.left + steps.old.used < 2 ^ 64 }
+    ensures comes { (w : Program) (l : PlainLeft) (lines : List AnswerLine) → IsSetting w setting.now → code_in instance.old ≡ w.source → PlaceFits w (pausing (exports_of w.source) w.plan.area l (entry_of pause.entry) pause.import (answer_of pause.answer) (store_in instance.old) (waits_in instance.old)) → IfOk result (λ m. ComesFrom w (pausing (exports_of w.source) w.plan.area l (entry_of pause.entry) pause.import (answer_of pause.answer) (store_in instance.old) (waits_in instance.old)) steps.old.left (steps.new.used - steps.old.used) m lines lines l (store_in instance.new) (waits_in instance.new)) }
+    ensures code { code_in instance.new ≡ code_in instance.old }
+    ensures sum { steps.new.left + steps.new.used ≡ steps.old.left + steps.old.used }
+    ensures grows { steps.old.used ≤ steps.new.used }
+{
     write_words(instance, setting.area)?;
     let func = setting.exports.start_unwind;
     let area = [Value::I32(setting.area.at)];
@@ -29,7 +52,13 @@ fn give_zero(
     instance: &mut Instance<'_>,
     steps: &mut Steps,
     pause: Pause,
-) -> Result<Moved, AllocError> {
+) -> Result<Moved, AllocError>
+    requires { steps.old.left + steps.old.used < 2 ^ 64 }
+    ensures comes { (w : Program) (l : PlainLeft) (lines : List AnswerLine) (here : Activation) (under : List Activation) → IsSetting w setting.now → code_in instance.old ≡ w.source → waits_in instance.old ≡ inside here under → HeldFits w.source (busy (unwinding pause) (resumed (record { store = store_in instance.old; here = here; under = under }) (store_in instance.old) (zeros_of w.source pause.import)) l) → IfOk result (λ m. Comes w (busy (unwinding pause) (resumed (record { store = store_in instance.old; here = here; under = under }) (store_in instance.old) (zeros_of w.source pause.import)) l) steps.old.left (steps.new.used - steps.old.used) m lines lines l (store_in instance.new) (waits_in instance.new)) }
+    ensures code { code_in instance.new ≡ code_in instance.old }
+    ensures sum { steps.new.left + steps.new.used ≡ steps.old.left + steps.old.used }
+    ensures grows { steps.old.used ≤ steps.new.used }
+{
     if !instance.is_waiting() {
         return Err(AllocError);
     }
@@ -37,7 +66,7 @@ fn give_zero(
     match instance.resume(zero, steps)? {
         Turn::Returned(_) => test_unwound(setting, instance, steps, pause),
         Turn::Trapped(trap) => {
-            let end = trap_end(setting, instance, Work::Unwinding, trap);
+            let end = trap_end(setting, instance, Work::Unwinding, trap)?;
             ended(setting.alloc, end)
         }
         Turn::Waiting(_) => ended(setting.alloc, End::Broken(1)),
@@ -46,7 +75,9 @@ fn give_zero(
 }
 
 // The zero of an import's result.
-fn zero_of(setting: &Setting, import: u32) -> Option<Value> {
+fn zero_of(setting: &Setting, import: u32) -> Option<Value>
+    ensures { (w : Program) → IsSetting w setting.now → import < func_imports w.source → option_to_list result ≡ zeros_of w.source import }
+{
     match setting.imports.get(import as usize)?.result? {
         ValType::I32 => Some(Value::I32(0)),
         ValType::I64 => Some(Value::I64(0)),
@@ -59,7 +90,13 @@ fn test_unwound(
     instance: &mut Instance<'_>,
     steps: &mut Steps,
     pause: Pause,
-) -> Result<Moved, AllocError> {
+) -> Result<Moved, AllocError>
+    requires { steps.old.left + steps.old.used < 2 ^ 64 }
+    ensures comes { (w : Program) (l : PlainLeft) (lines : List AnswerLine) → IsSetting w setting.now → code_in instance.old ≡ w.source → HeldFits w.source (calling (unwinding pause) (store_in instance.old) (exports_of w.source).get_state [] test_unwound l) → IfOk result (λ m. Comes w (calling (unwinding pause) (store_in instance.old) (exports_of w.source).get_state [] test_unwound l) steps.old.left (steps.new.used - steps.old.used) m lines lines l (store_in instance.new) (waits_in instance.new)) }
+    ensures code { code_in instance.new ≡ code_in instance.old }
+    ensures sum { steps.new.left + steps.new.used ≡ steps.old.left + steps.old.used }
+    ensures grows { steps.old.used ≤ steps.new.used }
+{
     let func = setting.exports.get_state;
     match call_export(setting, instance, steps, Work::Unwinding, func, &[])? {
         Exported::Ended(end) => ended(setting.alloc, end),
@@ -79,15 +116,20 @@ fn stop_unwind(
     instance: &mut Instance<'_>,
     steps: &mut Steps,
     pause: Pause,
-) -> Result<Moved, AllocError> {
+) -> Result<Moved, AllocError>
+    requires { steps.old.left + steps.old.used < 2 ^ 64 }
+    ensures comes { (w : Program) (l : PlainLeft) (lines : List AnswerLine) → IsSetting w setting.now → code_in instance.old ≡ w.source → HeldFits w.source (calling (unwinding pause) (store_in instance.old) (exports_of w.source).stop_unwind [] pause_there l) → IfOk result (λ m. Comes w (calling (unwinding pause) (store_in instance.old) (exports_of w.source).stop_unwind [] pause_there l) steps.old.left (steps.new.used - steps.old.used) m lines lines l (store_in instance.new) (waits_in instance.new)) }
+    ensures code { code_in instance.new ≡ code_in instance.old }
+    ensures sum { steps.new.left + steps.new.used ≡ steps.old.left + steps.old.used }
+    ensures grows { steps.old.used ≤ steps.new.used }
+{
     let func = setting.exports.stop_unwind;
     match call_export(setting, instance, steps, Work::Unwinding, func, &[])? {
         Exported::Ended(end) => ended(setting.alloc, end),
         Exported::Returned(_) => {
-            let event = Event::Paused {
-                ticks: pause.answer.ticks,
-                used: used_of(instance, setting.area),
-            };
+            let used = used_of(instance, setting.area)?;
+            let ticks = pause.answer.ticks;
+            let event = Event::Paused { ticks, used };
             let stage = Stage::Paused(pause);
             Ok(Moved { event, stage })
         }
