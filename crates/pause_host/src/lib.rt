@@ -7,8 +7,10 @@
 //! will be another way to one.
 #![tactic(auto)]
 
+mod entries;
 mod plan;
 mod program;
+mod setting;
 
 pub use host_setup::{Entry, SetupFault};
 pub use plan::Plan;
