@@ -1,1 +1,4 @@
+pub mod Comings
+pub mod Fronts
+pub mod Pauses
 pub mod Ways
