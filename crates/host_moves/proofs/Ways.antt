@@ -109,7 +109,7 @@ module _ (w : Program) where
   abbrev x : Exports
   x = exports_of w.source
 
-  asked_dear : (n k import : ℕ) (args : List Value) (who : Asker) (l : Left) (os : List Outcome) → n ≤ k → CostsMore n (held_asked p x w.plan k import args who l os)
+  pub asked_dear : (n k import : ℕ) (args : List Value) (who : Asker) (l : Left) (os : List Outcome) → n ≤ k → CostsMore n (held_asked p x w.plan k import args who l os)
   asked_dear n k import args who l [] h = h
   asked_dear n k import args who l (refused e ∷ os) h = h
   asked_dear n k import args who l (given a ∷ os) h = tested who _ _

@@ -19,9 +19,11 @@ use Rattle.wa_model.specs.Plan.{Outcome}
 use Rattle.wa_model.specs.Alone.{Goes}
 use Rattle.wa_model.specs.Blocking as B
 use Rattle.wa_model.specs.Blocking.{Note, note, Asker, inside, outermost, the_start, an_entry, with_outcomes}
-use Rattle.wa_model.specs.Protocol.{exports_of, protocol, Held, calling, over, Phase, is_running, unwinds, rewinds, Then, held_asked, store_held}
+use Rattle.wa_model.specs.Protocol.{exports_of, protocol, Held, busy, calling, over, Phase, is_running, unwinds, rewinds, Then, held_asked, store_held}
 use Rattle.wa_model.specs.World.{Program, import_names}
 use Rattle.run_laws.specs.FittingStates.{HeldFits, ExportsTyped}
+use Rattle.interp.specs.declared.turns.Turn.{Turn}
+use Rattle.interp.specs.declared.turns.Turn.TheVariants.{StepsSpent}
 use Rattle.interp.specs.Instance as I
 use Rattle.interp.specs.Instance.{Waits}
 use Rattle.host_answers.specs.Answering.{IsShort}
@@ -126,3 +128,9 @@ abbrev pub IsTask : Task → B.Task → Type 0
 IsTask T.Start t = t ≡ the_start
 IsTask (T.Entry e) t = t ≡ an_entry (entry_of e)
 IsTask T.Outermost t = ⊥
+
+-- What the host called for a task has run from where the machine stands, and this turn came of it; or its call costs more than is
+-- left.
+pub data TaskTurn (w : Program) (h : Held) (l : B.Left) (t : B.Task) (left used : ℕ) (turn : Turn) (s : Store) (waits : Waits) : Type 0 where
+  runs_on : (c : Configuration) (u more : ℕ) → Stretch w.source w.plan h [] [] u (busy (is_running t) c l) → u ≤ left → used ≡ u + more → I.Turns w.source c (left - u) more turn s waits → TaskTurn w h l t left used turn s waits
+  too_dear : turn ≡ StepsSpent → EndsAt w h left used (E.StepsSpent w.steps) s → TaskTurn w h l t left used turn s waits

@@ -1,18 +1,17 @@
 ghost use Rattle.std.specs.Prelude.{◌≡◌, ◌<◌, ◌≤◌, ◌+◌, ◌-◌, ◌^◌, ℕ, List, [], ◌∷◌, All, IfOk, OnOk, None, map, slice_get};
 ghost use Rattle.std.specs.Option.{option_to_list};
 ghost use Rattle.wa_types.specs.Modules.{func_imports};
-ghost use Rattle.wa_model.specs.Configuration.{Configuration};
 ghost use Rattle.wa_model.specs.Outside.{AnswerLine};
 ghost use Rattle.wa_model.specs.Store.{Store};
 ghost use Rattle.wa_model.specs.View.{answer_of};
 ghost use Rattle.wa_model.specs.Blocking.{Asker, Left as PlainLeft, Task as PlainTask, an_entry, fault_of, next_entry, the_start};
-ghost use Rattle.wa_model.specs.Protocol.{Held, busy, exports_of, is_running, starting};
+ghost use Rattle.wa_model.specs.Protocol.{Held, exports_of, starting};
 ghost use Rattle.wa_model.specs.World.{Program};
 ghost use Rattle.run_laws.specs.FittingStates.{HeldFits};
 ghost use Rattle.interp.specs.Host.{code_in, store_in, waits_in};
-ghost use Rattle.interp.specs.Instance.{Calls, Turns};
+ghost use Rattle.interp.specs.Instance.{Calls};
 ghost use Rattle.host_answers.specs.Answering.{IsShort};
-ghost use Rattle.host_moves.specs.Moves.{Asks, Comes, ComesFrom, HasShortPokes, IsAsking, IsSetting, IsTask, PlaceFits};
+ghost use Rattle.host_moves.specs.Moves.{Asks, Comes, ComesFrom, HasShortPokes, IsAsking, IsSetting, IsTask, PlaceFits, TaskTurn};
 ghost use Rattle.host_moves.specs.Views.{entry_of, free_place, left_of, lines_in, place_in, stage_after, starts};
 
 use crate::ends::ended;
@@ -73,7 +72,7 @@ fn start_ran(
     turn: Turn,
 ) -> Result<Moved, AllocError>
     requires { steps.old.left + steps.old.used < 2 ^ 64 }
-    ensures comes { (w : Program) → IsSetting w setting.now → code_in instance.old ≡ w.source → All HasShortPokes (lines_in answers.old.items) → (c : Configuration) (left_then used : ℕ) → Turns w.source c left_then used turn (store_in instance.old) (waits_in instance.old) → steps.old.left + used ≡ left_then → HeldFits w.source (busy (is_running the_start) c (left_of left.old)) → IfOk result (λ m. Comes w (busy (is_running the_start) c (left_of left.old)) left_then (used + (steps.new.used - steps.old.used)) m (lines_in answers.old.items) (lines_in answers.new.items) (left_of left.new) (store_in instance.new) (waits_in instance.new)) }
+    ensures comes { (w : Program) → IsSetting w setting.now → code_in instance.old ≡ w.source → All HasShortPokes (lines_in answers.old.items) → (h : Held) (left_then used : ℕ) → TaskTurn w h (left_of left.old) the_start left_then used turn (store_in instance.old) (waits_in instance.old) → steps.old.left + used ≡ left_then → HeldFits w.source h → IfOk result (λ m. Comes w h left_then (used + (steps.new.used - steps.old.used)) m (lines_in answers.old.items) (lines_in answers.new.items) (left_of left.new) (store_in instance.new) (waits_in instance.new)) }
     ensures code { code_in instance.new ≡ code_in instance.old }
     ensures sum { steps.new.left + steps.new.used ≡ steps.old.left + steps.old.used }
     ensures grows { steps.old.used ≤ steps.new.used }
@@ -116,7 +115,7 @@ fn entry_ran(
     entry: EntryCall,
     turn: Turn,
 ) -> Result<Moved, AllocError>
-    ensures { (w : Program) → IsSetting w setting.now → code_in instance.now ≡ w.source → All HasShortPokes (lines_in answers.old.items) → (c : Configuration) (left_then used : ℕ) → Turns w.source c left_then used turn (store_in instance.now) (waits_in instance.now) → IfOk result (λ m. Comes w (busy (is_running (an_entry (entry_of entry))) c (left_of left.old)) left_then used m (lines_in answers.old.items) (lines_in answers.new.items) (left_of left.new) (store_in instance.now) (waits_in instance.now)) }
+    ensures { (w : Program) → IsSetting w setting.now → code_in instance.now ≡ w.source → All HasShortPokes (lines_in answers.old.items) → (h : Held) (left_then used : ℕ) → TaskTurn w h (left_of left.old) (an_entry (entry_of entry)) left_then used turn (store_in instance.now) (waits_in instance.now) → IfOk result (λ m. Comes w h left_then used m (lines_in answers.old.items) (lines_in answers.new.items) (left_of left.new) (store_in instance.now) (waits_in instance.now)) }
 {
     match turn {
         Turn::Returned(value) => returned(left, value),
@@ -148,7 +147,7 @@ fn stopped(
     task: Task,
     turn: Turn,
 ) -> Result<Moved, AllocError>
-    ensures { (w : Program) → IsSetting w setting.now → code_in instance.now ≡ w.source → All HasShortPokes (lines_in answers.old.items) → (t : PlainTask) (l : PlainLeft) (c : Configuration) (left_then used : ℕ) → IsTask task t → Turns w.source c left_then used turn (store_in instance.now) (waits_in instance.now) → IfOk result (λ m. Comes w (busy (is_running t) c l) left_then used m (lines_in answers.old.items) (lines_in answers.new.items) l (store_in instance.now) (waits_in instance.now)) }
+    ensures { (w : Program) → IsSetting w setting.now → code_in instance.now ≡ w.source → All HasShortPokes (lines_in answers.old.items) → (t : PlainTask) (h : Held) (l : PlainLeft) (left_then used : ℕ) → IsTask task t → TaskTurn w h l t left_then used turn (store_in instance.now) (waits_in instance.now) → IfOk result (λ m. Comes w h left_then used m (lines_in answers.old.items) (lines_in answers.new.items) l (store_in instance.now) (waits_in instance.now)) }
 {
     match turn {
         Turn::Returned(_) => Err(AllocError),

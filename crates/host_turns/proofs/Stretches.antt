@@ -22,7 +22,7 @@ nowhere_on p plan h = λ more. stays
 
 -- ---- what instantiation makes doesn't depend on the outcomes
 
-on_last : (s : Store) (l : Left) (es : List Entry) (os : List Outcome) → held_on s (with_outcomes l os) es ≡ meeting os (held_on s l es)
+pub on_last : (s : Store) (l : Left) (es : List Entry) (os : List Outcome) → held_on s (with_outcomes l os) es ≡ meeting os (held_on s l es)
 on_last s l [] os = refl
 on_last s l (e ∷ es) os = refl
 
