@@ -1,2 +1,2 @@
-pub mod Faults
-pub mod Lines
+pub mod BadPokes
+pub mod MetLines

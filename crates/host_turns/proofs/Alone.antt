@@ -1,14 +1,13 @@
 -- The story of a program alone is a run of the protocol world.
-use Rattle.std.proofs.Common.{◌≡◌, ◌<◌, ◌≤◌, ℕ, zero, suc, ◌+◌, ◌++◌, List, [], ◌∷◌, length, map, Bool, true, false, cond, Option, Some, None, ◌⊎◌, inl, inr, refl, sym, ap, ◌∙◌, subst, append_assoc, append-nil, add-zero, arith}
-use Rattle.std.specs.Prelude.{slice_get, slice_set}
-use Rattle.std.specs.List.{AllZip}
+use Rattle.std.proofs.Common.{◌≡◌, ◌<◌, ◌≤◌, ℕ, zero, suc, ◌+◌, ◌++◌, List, [], ◌∷◌, length, map, Bool, true, false, cond, Option, Some, None, ◌⊎◌, inr, refl, sym, ap, ◌∙◌, subst, append_assoc, append-nil, add-zero, arith}
+use Rattle.std.specs.Prelude.{slice_get}
 use Rattle.std.proofs.lemmas.List.{map-append}
 use Rattle.std.proofs.lemmas.List.Elements.{All-nil, All-cons}
-use Rattle.wa_model.specs.Outside.{Call, AnswerLine, Event, called, answered, paused, returned, ended, shown, Line}
+use Rattle.wa_model.specs.Outside.{Call, AnswerLine, Event, called, answered, paused, returned, ended, shown}
 use Rattle.wa_model.specs.Plan.{Outcome}
 use Rattle.wa_model.specs.Blocking.{Note}
-use Rattle.wa_model.specs.World.{Program, Device, Actor, Meets, ends_turn, turn_of, behind_turn, call_in, NoteMeets, CallsMeet, ticks_in, put_off, line_at, looks_after, events_with_looks, turn_lines, HasNotes, IsNext, Plays, Events, no_event, an_event, protocol_story, Starts, StartsHeld, IsOver, ProtocolWorld}
-use Rattle.host_turns.specs.Stories.{Unbound, IsStory, lines_from}
+use Rattle.wa_model.specs.World.{Program, Device, Actor, ends_turn, turn_of, behind_turn, call_in, NoteMeets, CallsMeet, ticks_in, put_off, line_at, looks_after, events_with_looks, turn_lines, HasNotes, IsNext, Plays, Events, no_event, an_event}
+use Rattle.host_turns.specs.Stories.{lines_from}
 use Rattle.host_turns.specs.Laws.{StoryIsWorld}
 
 -- ---- turns
@@ -73,7 +72,7 @@ module _ (w : Program) where
   lines_split [] due = refl
   lines_split (x ∷ xs) due = at (ends_turn x.event) refl (lines_split xs due)
     where
-      abbrev here : List Event
+      here : List Event
       here = x.event ∷ looks_after w.looks x x.event
 
       at : (b : Bool) → ends_turn x.event ≡ b → lines_from w due xs ≡ map (line_at due 0) (events_with_looks w.looks (turn_of xs)) ++ lines_from w (due + put_off (turn_of xs)) (behind_turn xs)
@@ -130,20 +129,20 @@ module _ (w : Program) where
       let a : Actor = record { due = due; notes = notes; outcomes = os; answers = lines } in
       let s : Split w notes os lines ds [] lines' ds' = split notes os lines ds [] lines' ds' h in
       let more : Played (suc number) (due + put_off (turn_of notes)) (behind_turn notes) s.outcomes s.answers s.devices ds' =
-          played fuel (suc number) (due + put_off (turn_of notes)) (behind_turn notes) s.outcomes s.answers lines' s.devices ds' (behind_shorter x xs fuel le) s.rest in
+      played fuel (suc number) (due + put_off (turn_of notes)) (behind_turn notes) s.outcomes s.answers lines' s.devices ds' (behind_shorter x xs fuel le) s.rest in
       let plays : Plays (w ∷ []) [] number (a ∷ []) ds (turn_lines 0 w a) (record { due = due + put_off (turn_of notes); notes = behind_turn notes; outcomes = s.outcomes; answers = s.answers } ∷ []) s.devices =
-          record {
-            i = 0;
-            a = a;
-            w = w;
-            next = only_next a (omega arith);
-            program = refl;
-            outcomes = s.outcomes;
-            answers = s.answers;
-            calls = s.first;
-            made = refl;
-            after = refl;
-          } in
+      record {
+        i = 0;
+        a = a;
+        w = w;
+        next = only_next a (omega arith);
+        program = refl;
+        outcomes = s.outcomes;
+        answers = s.answers;
+        calls = s.first;
+        made = refl;
+        after = refl;
+      } in
       record { last = more.last; over = more.over; events = an_event plays more.events (lines_split notes due) }
 
 pub story_is_world : StoryIsWorld

@@ -1,14 +1,14 @@
 -- Stretches compose, and are parts of whole runs.
-use Rattle.std.proofs.Common.{◌≡◌, ℕ, ◌+◌, ◌++◌, List, [], ◌∷◌, Option, Some, None, false, refl, sym, ap, ◌∙◌, subst, append_assoc}
+use Rattle.std.proofs.Common.{◌≡◌, ℕ, ◌+◌, ◌++◌, List, [], ◌∷◌, Option, Some, None, refl, sym, ap, ◌∙◌, subst, append_assoc}
 use Rattle.wa_types.specs.Syntax.{Module}
 use Rattle.wa_model.specs.Machine.{Turn, stops, goes, Ran, after, still, run, Leads, stays, CostsMore}
 use Rattle.wa_model.specs.Store.{Store}
 use Rattle.wa_model.specs.Plan.{Entry, Plan, Outcome}
 use Rattle.wa_model.specs.Instantiation.{Opening, fails_as, opens, opening}
-use Rattle.wa_model.specs.Blocking.{Note, note, Left, with_outcomes, all_left, done_notes}
+use Rattle.wa_model.specs.Blocking.{Note, Left, with_outcomes, all_left}
 use Rattle.wa_model.specs.Protocol.{Held, free, starting, busy, calling, aside, entering, over, held_on, exports_of, protocol, held_begun, Protocol, store_held}
 use Rattle.wa_model.proofs.Runs.{leads_on, leads_run, too_dear, no_move}
-use Rattle.host_turns.specs.Stretch.{meeting, Stretch, is_over, IsSpent}
+use Rattle.host_turns.specs.Stretch.{meeting, Stretch, IsSpent}
 use Rattle.host_turns.specs.Stories.{opened}
 use Rattle.host_turns.specs.Laws.{StretchesCompose}
 

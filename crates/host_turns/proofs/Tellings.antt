@@ -1,20 +1,16 @@
 -- What a program has told begins its story, and is all of it at its end.
-use Rattle.std.proofs.Common.{◌≡◌, ◌≤◌, ℕ, ◌+◌, ◌-◌, ◌++◌, List, [], ◌∷◌, Option, Some, None, true, false, refl, sym, ap, ◌∙◌, subst, append_assoc, append-nil, arith}
-use Rattle.std.specs.Option.{unwrap_or}
-use Rattle.std.specs.Prelude.{slice_get}
-use Rattle.wa_model.specs.declared.events.End.{End}
+use Rattle.std.proofs.Common.{◌≡◌, ◌≤◌, ℕ, ◌+◌, ◌-◌, ◌++◌, List, [], ◌∷◌, Option, Some, None, false, refl, sym, ap, ◌∙◌, subst, append_assoc, append-nil, arith}
 use Rattle.wa_model.specs.declared.events.End.TheVariants.{StepsSpent}
-use Rattle.wa_model.specs.Machine.{Ran, after, still, run}
+use Rattle.wa_model.specs.Machine.{Ran, still, run}
 use Rattle.wa_model.specs.Outside.{Call, AnswerLine, ended}
-use Rattle.wa_model.specs.Store.{Store}
 use Rattle.wa_model.specs.Plan.{Outcome}
 use Rattle.wa_model.specs.Blocking.{Note, note}
 use Rattle.wa_model.specs.Protocol.{Held, free, starting, busy, calling, aside, entering, over, exports_of, protocol, Protocol, store_held}
 use Rattle.wa_model.specs.Behaves.{IsPrefix}
-use Rattle.wa_model.specs.World.{Program, Device, Meets, MeetsBound, call_in, NoteMeets, CallsMeet, unless_over, protocol_story, import_names, name_at}
-use Rattle.host_turns.specs.Stretch.{meeting, Stretch, is_over, IsSpent}
-use Rattle.host_turns.specs.Places.{Place, stands, has_ended, nowhere, Takes, Lands, goes_on, ends, spends, Tells, TellsFrom}
-use Rattle.host_turns.specs.Stories.{opened, Unbound, Made, IsWhole, IsAt, Told, BeginsStory, IsStory}
+use Rattle.wa_model.specs.World.{Program, Device, MeetsBound, call_in, NoteMeets, CallsMeet, unless_over, protocol_story}
+use Rattle.host_turns.specs.Stretch.{meeting, Stretch, is_over}
+use Rattle.host_turns.specs.Places.{Place, stands, has_ended, nowhere, Takes, Lands, goes_on, ends, spends}
+use Rattle.host_turns.specs.Stories.{opened, Unbound, Made, IsAt}
 use Rattle.host_turns.specs.Laws.{NothingToldYet, OneMoreTold, ToldBegins, ToldWhole}
 use Rattle.host_turns.proofs.Stretches.{compose, nowhere_on, whole_run, over_still, spent_still}
 
@@ -37,9 +33,9 @@ calls_longer w (y ∷ ys) x os os' lines lines1 lines2 ds ds1 ds2 h k =
 
 one_met : (w : Program) (c : Option Call) (os : List Outcome) (lines lines' : List AnswerLine) → Unbound w → Takes w.source c lines os lines'
     → NoteMeets w c os lines [] (λ o l d. CallsMeet w [] o l d [] lines' [])
-one_met w None os lines lines' free t = (sym t.0, t.1, refl)
-one_met w (Some c) os lines lines' free t =
-    (t.0, [], lines', [], t.1, subst (λ b. MeetsBound w.source c.import c.args b lines [] t.0 lines' []) (sym (free c.import)) (t.2, refl), (refl, refl, refl))
+one_met w None os lines lines' loose t = (sym t.0, t.1, refl)
+one_met w (Some c) os lines lines' loose t =
+    (t.0, [], lines', [], t.1, subst (λ b. MeetsBound w.source c.import c.args b lines [] t.0 lines' []) (sym (loose c.import)) (t.2, refl), (refl, refl, refl))
 
 -- ---- stories
 
@@ -77,13 +73,12 @@ module _ (w : Program) where
   begun_prefix notes ready os left h m more =
       let r : Ran Held Note = going left (meeting more h) in
       let e : protocol_story w (os ++ more) ≡ (events ++ (m.behind ++ r.events)) ++ unless_over w.steps r.last = story_at os more m.behind m.used left h m.steps m.stretch in
-      let regroup : (a b c d : List Note) → (a ++ (b ++ c)) ++ d ≡ (a ++ b) ++ (c ++ d) = λ a b c d. simp append_assoc in
-      (
+      let regroup : (a b c d : List Note) → (a ++ (b ++ c)) ++ d ≡ (a ++ b) ++ (c ++ d) = λ a b c d. simp append_assoc in (
         ready ++ (r.events ++ unless_over w.steps r.last),
         e
-        ∙ regroup events m.behind r.events (unless_over w.steps r.last)
-        ∙ ap (λ xs. xs ++ (r.events ++ unless_over w.steps r.last)) (sym m.made)
-        ∙ append_assoc notes ready (r.events ++ unless_over w.steps r.last),
+            ∙ regroup events m.behind r.events (unless_over w.steps r.last)
+            ∙ ap (λ xs. xs ++ (r.events ++ unless_over w.steps r.last)) (sym m.made)
+            ∙ append_assoc notes ready (r.events ++ unless_over w.steps r.last),
       )
 
   -- notes behind those that were made
@@ -147,13 +142,13 @@ nothing_told_yet w = record {
 }
 
 pub one_more_told : OneMoreTold
-one_more_told w notes left lines (stands ready h) x used lines' place' free told tells = record {
+one_more_told w notes left lines (stands ready h) x used lines' place' loose told tells = record {
   outcomes = told.outcomes ++ tells.outcomes;
-  meets = calls_longer w notes x told.outcomes tells.outcomes w.answers lines lines' [] [] [] told.meets (one_met w (call_in x.event) tells.outcomes lines lines' free tells.takes);
+  meets = calls_longer w notes x told.outcomes tells.outcomes w.answers lines lines' [] [] [] told.meets (one_met w (call_in x.event) tells.outcomes lines lines' loose tells.takes);
   at = landed w notes ready told.outcomes tells.outcomes left used h x place' told.at tells.within tells.lands;
 }
-one_more_told w notes left lines (has_ended how) x used lines' place' free told tells = absurd tells
-one_more_told w notes left lines nowhere x used lines' place' free told tells = absurd tells
+one_more_told w notes left lines (has_ended how) x used lines' place' loose told tells = absurd tells
+one_more_told w notes left lines nowhere x used lines' place' loose told tells = absurd tells
 
 pub told_begins : ToldBegins
 told_begins w notes left lines place told = record { outcomes = told.outcomes; lines = lines; meets = told.meets; begins = by_place place told.at }

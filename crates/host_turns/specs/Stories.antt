@@ -1,10 +1,10 @@
 -- What a program has told, as the beginning of its story in the protocol world.
-use Rattle.std.specs.Prelude.{◌≡◌, ℕ, ◌+◌, ◌++◌, List, [], ◌∷◌, map, Option, Some, None, slice_get}
+use Rattle.std.specs.Prelude.{◌≡◌, ℕ, ◌+◌, ◌++◌, List, [], ◌∷◌, map, None, slice_get}
 use Rattle.std.specs.Option.{unwrap_or}
 use Rattle.wa_types.specs.Syntax.{Module}
 use Rattle.wa_model.specs.declared.events.End.{End}
 use Rattle.wa_model.specs.Machine.{Ran}
-use Rattle.wa_model.specs.Outside.{AnswerLine, Event, Line, ended}
+use Rattle.wa_model.specs.Outside.{AnswerLine, Line, ended}
 use Rattle.wa_model.specs.Plan.{Plan, Outcome}
 use Rattle.wa_model.specs.Instantiation.{opening}
 use Rattle.wa_model.specs.Blocking.{Note, all_left}

@@ -27,6 +27,7 @@ use Rattle.host_turns.specs.Places.{Place, stands, has_ended, nowhere}
 use Rattle.host_turns.specs.Stories.{Unbound, Told}
 use Rattle.host_moves.specs.Views.{exports_in, left_of, lines_in, place_in}
 use Rattle.host_moves.specs.Moves.{IsSetting, PlaceFits, HasShortPokes}
+use Rattle.pause_host.specs.Settings.{calls_of}
 use Rattle.pause_host.specs.declared.plan.Plan.{Plan}
 use Rattle.pause_host.specs.declared.program.State.{State}
 use Rattle.pause_host.specs.declared.program.State.TheVariants.{Fresh, Live, Failed, Lost}
@@ -49,12 +50,6 @@ pub record IsPlan (x : Plan) : Type 0 where
   pub few_steps : x.steps ≤ 1000000000
   pub entries : length x.entries.items < 2 ^ 32
   pub pokes : All HasShortPokes (map answer_line_of x.answers.items)
-
--- the entry calls of these functions
-abbrev pub calls_of : List NamedEntry → List ℕ → List W.Entry
-calls_of [] funcs = []
-calls_of (e ∷ es) [] = []
-calls_of (e ∷ es) (f ∷ fs) = record { func = f; args = e.args } ∷ calls_of es fs
 
 -- the program of a world that a plan is, where its entries are of these functions and these looks come after its end
 abbrev pub world_program : Plan → List ℕ → List Look → W.Program
@@ -105,16 +100,20 @@ abbrev pub RunsCode : Module → State → Type 0
 RunsCode p (Live instance stage) = code_in instance ≡ p
 RunsCode p _ = Unit {0}
 
--- The program has told these notes of the story of a program of a world, and goes on with it.
-pub record Follows (w : W.Program) (notes : List Note) (x : Program) : Type 0 where
+-- The program has told these notes of the story of a program of a world, and stands here.
+pub record FollowsAt (w : W.Program) (notes : List Note) (x : Program) (place : Place) : Type 0 where
   pub source : w.source ≡ module_of x.valid.now
   pub unbound : Unbound w
   pub setting : IsSetting w x.setting
   pub globals : types_of x.globals.items ≡ global_types (imported imported_global w.source)
   pub pokes : All HasShortPokes (lines_in x.answers.items)
+  pub fits : PlaceFits w place
+  pub told : Told w notes x.steps_left (lines_in x.answers.items) place
+
+-- It has told these notes, and goes on with the story.
+pub record Follows (w : W.Program) (notes : List Note) (x : Program) : Type 0 where
+  pub at : FollowsAt w notes x (place_of x x.state)
   pub code : RunsCode w.source x.state
-  pub fits : PlaceFits w (place_of x x.state)
-  pub told : Told w notes x.steps_left (lines_in x.answers.items) (place_of x x.state)
 
 -- It told one note more, with this event; the instance has that note's store; and where the event is its end, it has ended so.
 pub record Advances (w : W.Program) (notes : List Note) (event : EventValue) (x : Program) : Type 0 where
