@@ -1,9 +1,6 @@
-ghost use Rattle.std.specs.Prelude.{◌≡◌, ◌<◌, ◌^◌, ◌&&◌, List, All, Bool, not, length, map, position, slice_get};
-ghost use Rattle.std.specs.Option.{option_map, option_to_list};
-ghost use Rattle.wa_types.specs.Encoding.{same_type};
-ghost use Rattle.wa_types.specs.Pausing.{is_told};
-ghost use Rattle.wa_types.specs.Typing.{type_of};
-ghost use Rattle.wa_model.specs.Outside.{Poke as PlainPoke};
+ghost use Rattle.std.specs.Prelude.{◌≡◌, ◌<◌, ◌^◌, ◌+◌, ◌&&◌, List, All, Bool, not, length, map};
+ghost use Rattle.std.specs.Option.{option_copied, option_to_list};
+ghost use Rattle.std.specs.List.{find};
 ghost use Rattle.wa_model.specs.Plan.{Plan};
 ghost use Rattle.wa_model.specs.Blocking.{answers, bad_pause, bad_poke, fault_of, is_unlisted, overlap, poke_fits};
 ghost use Rattle.wa_model.specs.View.{answer_of, poke_of};
@@ -23,7 +20,7 @@ pub fn answer_fault(
     import: u32,
     answer: &Answer,
 ) -> Option<End>
-    ensures { (plan : Plan) → plan.area ≡ area → plan.listed ≡ listed_of listed → All IsShort (map poke_of answer.now.pokes.items) → result ≡ fault_of (option_to_list result_type) size plan in_start import (answer_of answer.now) }
+    ensures { (plan : Plan) → plan.area ≡ area → plan.listed ≡ listed_of listed.entry → All IsShort (map poke_of answer.now.pokes.items) → result ≡ fault_of (option_to_list result_type) size plan in_start import (answer_of answer.now) }
 {
     if !is_result(result_type, answer.value) {
         return Some(End::BadAnswer {
@@ -51,18 +48,23 @@ fn is_result(result_type: Option<ValType>, value: Option<Value>) -> bool
     }
 }
 
-// The first poke that reaches past the memory or into the area.
+// The end by the first poke that reaches past the memory or into the area.
 fn bad_poke(size: u64, area: Area, pokes: &[Poke]) -> Option<End>
     ensures { All IsShort (map poke_of pokes.now) → result ≡ bad_poke size area (map poke_of pokes.now) }
 {
-    let place = pokes
-        .iter()
-        .position(|poke| !poke_fits(size, area, poke))?;
-    let poke = pokes.get(place)?;
-    Some(End::BadPoke {
-        at: poke.at,
-        len: u32::try_from(poke.bytes.len()).unwrap_or(u32::MAX),
-    })
+    match first_bad(size, area, pokes) {
+        None => None,
+        Some(poke) => Some(End::BadPoke {
+            at: poke.at,
+            len: u32::try_from(poke.bytes.len()).unwrap_or(u32::MAX),
+        }),
+    }
+}
+
+fn first_bad(size: u64, area: Area, pokes: &[Poke]) -> Option<&Poke>
+    ensures { option_copied result ≡ find (λ poke. not (poke_fits size area (poke_of poke))) pokes.now }
+{
+    pokes.iter().find(|poke| !poke_fits(size, area, poke))
 }
 
 // Whether a poke lies inside a memory of this size and off the area.
@@ -89,7 +91,7 @@ fn overlap(at: u64, len: u64, area: Area) -> bool
 
 // Whether it is told which imports are listed, and this one isn't.
 fn is_unlisted(listed: Option<&[bool]>, import: u32) -> bool
-    ensures { result ≡ is_unlisted (listed_of listed) import }
+    ensures { result ≡ is_unlisted (listed_of listed.entry) import }
 {
     match listed {
         None => false,
