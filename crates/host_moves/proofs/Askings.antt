@@ -60,7 +60,7 @@ asking_start (T.Entry e) I.nothing s who h = absurd h
 record GivenLeads (w : Program) (l : Left) (a : Answer) (task : Task) (waits : Waits) (s : Store) (who : Asker) : Type 0 where
   behind : List Note
   to : Held
-  place : with_asker nowhere (poked s a.pokes) task waits (answering l a (poked s a.pokes)) ≡ stands behind to
+  place : with_asker nowhere s task waits (answering l a (poked s a.pokes)) ≡ stands behind to
   leads : (k : ℕ) (y : Note) (more : List Outcome) → held_given k y a (poked (store_at who) a.pokes) (with_outcomes l more) who ≡ goes k (y ∷ behind) (meeting more to)
 
 given_leads : (w : Program) (l : Left) (a : Answer) (task : Task) (waits : Waits) (s : Store) (who : Asker) → IsAsking task waits s who → GivenLeads w l a task waits s who

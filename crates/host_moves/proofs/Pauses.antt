@@ -1,6 +1,6 @@
 -- Unwinding and rewinding, by the turns of the interpreter.
 use Rattle.std.proofs.Common.{◌≡◌, ◌≤◌, ◌<◌, ℕ, suc, ◌+◌, ◌-◌, ◌++◌, List, [], ◌∷◌, length, Option, Some, None, Bool, true, false, cond, nat_le, refl, sym, ap, ◌∙◌, subst, arith}
-use Rattle.std.proofs.lemmas.Bool.{cases_lt, lt-leb, le-leb}
+use Rattle.std.proofs.lemmas.Bool.{leb-true, leb-false}
 use Rattle.std.specs.Prelude.{nat_eq}
 use Rattle.std.specs.Option.{option_to_list}
 use Rattle.wa_types.specs.declared.values.Value.{Value}
@@ -49,8 +49,8 @@ pub calls_in : (p : Module) (s : Store) (x : ℕ) (args : List Value) (g : Func)
 calls_in p s x args g left used t s' w' there h = by_cost (nat_le left (length args)) refl (subst (λ o. CallsAs p s x args (nat_le left (length args)) o left used t s' w') there h)
   where
     by_cost : (b : Bool) → nat_le left (length args) ≡ b → CallsAs p s x args b (Some g) left used t s' w' → CallsIn p s x args g left used t s' w'
-    by_cost true e k = too_dear (grind arith) k.cost k.turn_is k.store_is
-    by_cost false e k = it_enters (grind arith) k.more k.cost k.turns
+    by_cost true e k = too_dear (leb-true left (length args) e) k.cost k.turn_is k.store_is
+    by_cost false e k = it_enters (let lt : length args < left = leb-false left (length args) e in omega arith) k.more k.cost k.turns
 
 module _ (w : Program) where
   abbrev p : Module

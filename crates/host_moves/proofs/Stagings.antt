@@ -1,5 +1,5 @@
 -- What the place of a stage says of what waits in the instance.
-use Rattle.std.proofs.Common.{◌≡◌, ◌≤◌, ℕ, zero, suc, ◌+◌, ◌-◌, ◌++◌, List, [], ◌∷◌, Option, Some, None, refl, sym, ap, ◌∙◌, subst, arith}
+use Rattle.std.proofs.Common.{◌≡◌, ◌≤◌, ℕ, zero, suc, ◌+◌, ◌-◌, ◌++◌, List, [], ◌∷◌, Option, Some, None, refl, sym, ap, ◌∙◌, subst, append-nil, arith}
 use Rattle.std.specs.Option.{option_to_list}
 use Rattle.wa_types.specs.declared.values.ValType.{ValType}
 use Rattle.wa_types.specs.declared.values.Value.{Value}
@@ -37,8 +37,8 @@ module _ (w : Program) where
 
   -- ---- an answer is told
 
-  abbrev Place_of : TV.Task → Waits → Left → Answer → Store → Place
-  Place_of task waits l a s' = with_asker nowhere s' task waits (answering l a s')
+  abbrev Place_of : Store → TV.Task → Waits → Left → Answer → Store → Place
+  Place_of s task waits l a s' = with_asker nowhere s task waits (answering l a s')
 
   told_next : (from : Place) (left : ℕ) (m : Moved) (lines : List AnswerLine) (l : Left) (a : Answer) (s' : Store) (waits : Waits) (behind : List Note) (h : Held) → from ≡ stands (note (answered a.value) s' ∷ behind) h → m.event ≡ EV.Answered a.value
       → place_in (exports_of p) w.plan.area l s' waits m.stage ≡ stands behind h → ComesFrom w from left 0 m lines lines l s' waits
@@ -48,26 +48,26 @@ module _ (w : Program) where
         note = note (answered a.value) s';
         event_is = ap event_of (sym ev);
         store_is = refl;
-        tells = record { outcomes = []; takes = (refl, refl); within = omega arith; lands = goes_on [] behind h (nowhere_on p w.plan h) refl refl place };
+        tells = record { outcomes = []; takes = (refl, refl); within = omega arith; lands = goes_on [] behind h (nowhere_on p w.plan h) (append-nil (note (answered a.value) s' ∷ behind)) refl place };
       })
 
-  pub tell_comes : (task : TV.Task) (waits : Waits) (left : ℕ) (m : Moved) (lines : List AnswerLine) (l : Left) (answer : AnswerValue) (s' : Store) → PlaceFits w (Place_of task waits l (answer_of answer) s')
+  pub tell_comes : (s : Store) (task : TV.Task) (waits : Waits) (left : ℕ) (m : Moved) (lines : List AnswerLine) (l : Left) (answer : AnswerValue) (s' : Store) → PlaceFits w (Place_of s task waits l (answer_of answer) s')
       → m.event ≡ EV.Answered answer.value → (task ≡ T.Outermost → m.stage ≡ S.Free) → ((task ≡ T.Outermost → ⊥) → m.stage ≡ S.Giving task answer.value)
-      → ComesFrom w (Place_of task waits l (answer_of answer) s') left 0 m lines lines l s' waits
-  tell_comes T.Outermost I.outermost left m lines l answer s' f ev free give =
-      told_next (Place_of T.Outermost I.outermost l (answer_of answer) s') left m lines l (answer_of answer) s' I.outermost (done_notes s' l.entries) (held_on s' l l.entries) refl ev (ap (place_in (exports_of p) w.plan.area l s' I.outermost) (free refl))
-  tell_comes T.Start (I.inside here under) left m lines l answer s' f ev free give =
-      told_next (Place_of T.Start (I.inside here under) l (answer_of answer) s') left m lines l (answer_of answer) s' (I.inside here under) []
+      → ComesFrom w (Place_of s task waits l (answer_of answer) s') left 0 m lines lines l s' waits
+  tell_comes s T.Outermost I.outermost left m lines l answer s' f ev free give =
+      told_next (Place_of s T.Outermost I.outermost l (answer_of answer) s') left m lines l (answer_of answer) s' I.outermost (done_notes s' l.entries) (held_on s' l l.entries) refl ev (ap (place_in (exports_of p) w.plan.area l s' I.outermost) (free refl))
+  tell_comes s T.Start (I.inside here under) left m lines l answer s' f ev free give =
+      told_next (Place_of s T.Start (I.inside here under) l (answer_of answer) s') left m lines l (answer_of answer) s' (I.inside here under) []
       (busy (is_running the_start) (resumed (record { store = s'; here = here; under = under }) s' (option_to_list answer.value)) l) refl ev (ap (place_in (exports_of p) w.plan.area l s' (I.inside here under)) (give (λ z. cc)))
-  tell_comes (T.Entry e) (I.inside here under) left m lines l answer s' f ev free give =
-      told_next (Place_of (T.Entry e) (I.inside here under) l (answer_of answer) s') left m lines l (answer_of answer) s' (I.inside here under) []
+  tell_comes s (T.Entry e) (I.inside here under) left m lines l answer s' f ev free give =
+      told_next (Place_of s (T.Entry e) (I.inside here under) l (answer_of answer) s') left m lines l (answer_of answer) s' (I.inside here under) []
       (busy (is_running (an_entry (entry_of e))) (resumed (record { store = s'; here = here; under = under }) s' (option_to_list answer.value)) l) refl ev (ap (place_in (exports_of p) w.plan.area l s' (I.inside here under)) (give (λ z. cc)))
-  tell_comes T.Outermost I.nothing left m lines l answer s' f ev free give = absurd f
-  tell_comes T.Outermost (I.inside here under) left m lines l answer s' f ev free give = absurd f
-  tell_comes T.Start I.nothing left m lines l answer s' f ev free give = absurd f
-  tell_comes T.Start I.outermost left m lines l answer s' f ev free give = absurd f
-  tell_comes (T.Entry e) I.nothing left m lines l answer s' f ev free give = absurd f
-  tell_comes (T.Entry e) I.outermost left m lines l answer s' f ev free give = absurd f
+  tell_comes s T.Outermost I.nothing left m lines l answer s' f ev free give = absurd f
+  tell_comes s T.Outermost (I.inside here under) left m lines l answer s' f ev free give = absurd f
+  tell_comes s T.Start I.nothing left m lines l answer s' f ev free give = absurd f
+  tell_comes s T.Start I.outermost left m lines l answer s' f ev free give = absurd f
+  tell_comes s (T.Entry e) I.nothing left m lines l answer s' f ev free give = absurd f
+  tell_comes s (T.Entry e) I.outermost left m lines l answer s' f ev free give = absurd f
 
   -- ---- a value is given
 

@@ -1,5 +1,6 @@
 -- The start function and entries, by the turns of the interpreter.
 use Rattle.std.proofs.Common.{◌≡◌, ◌≤◌, ◌<◌, ℕ, zero, suc, ◌+◌, ◌-◌, ◌++◌, List, [], ◌∷◌, length, map, Option, Some, None, Bool, true, false, cond, nat_le, refl, sym, ap, ◌∙◌, subst, append-nil, arith}
+use Rattle.std.proofs.lemmas.Bool.{leb-true, leb-false, lt-ltb}
 use Rattle.std.specs.Prelude.{nat_lt, slice_get, if◌then◌else◌}
 use Rattle.std.specs.Option.{option_to_list}
 use Rattle.wa_types.specs.declared.values.Value.{Value}
@@ -180,7 +181,7 @@ module _ (w : Program) where
   -- ---- a start function that is an import
 
   none_defined : (f : ℕ) → f < func_imports p → defined_at p f ≡ None
-  none_defined f lt = by_test (nat_lt f (func_imports p)) (grind arith)
+  none_defined f lt = by_test (nat_lt f (func_imports p)) (lt-ltb f (func_imports p) lt)
     where
       by_test : (b : Bool) → b ≡ true → cond b None (slice_get p.funcs (f - func_imports p)) ≡ None
       by_test true e = refl
@@ -188,7 +189,7 @@ module _ (w : Program) where
 
   start_move : (l : Left) (f : ℕ) (s : Store) (os : List Outcome) → f < func_imports p → next (meeting os (starting f s l)) ≡ held_asked p x w.plan 0 f [] (outermost s) (with_outcomes l os) os
   start_move l f s os lt =
-      ap (held_start p x w.plan f s (with_outcomes l os)) (none_defined f lt) ∙ by_test (nat_lt f (func_imports p)) (grind arith)
+      ap (held_start p x w.plan f s (with_outcomes l os)) (none_defined f lt) ∙ by_test (nat_lt f (func_imports p)) (lt-ltb f (func_imports p) lt)
     where
       by_test : (b : Bool) → b ≡ true → cond b (held_asked p x w.plan 0 f [] (outermost s) (with_outcomes l os) os) stops ≡ held_asked p x w.plan 0 f [] (outermost s) (with_outcomes l os) os
       by_test true e = refl
@@ -208,7 +209,8 @@ module _ (w : Program) where
         by_cost : (b : Bool) → nat_le left 0 ≡ b → Asked b (Waiting call) → (s' ≡ s) × (w' ≡ I.outermost) × Asks w (starting f s l) used call.import call.args.items (outermost s) l × (used ≤ left)
         by_cost true e k = let z : Waiting call ≡ StepsSpent = k.turn_is in cc
         by_cost false e k =
-            let enough : 1 ≤ left = grind arith in
+            let some : 0 < left = leb-false left 0 e in
+            let enough : 1 ≤ left = omega arith in
             (
               k.store_is,
               k.waits,
@@ -232,7 +234,8 @@ module _ (w : Program) where
         by_cost : (b : Bool) → nat_le left 0 ≡ b → Asked b StepsSpent → EndsAt w (starting f s l) left used (E.StepsSpent w.steps) s'
         by_cost false e k = absurd k.call
         by_cost true e k =
-            let none : left - 0 ≤ 0 = grind arith in
+            let zero_left : left ≤ 0 = leb-true left 0 e in
+            let none : left - 0 ≤ 0 = omega arith in
             subst (λ n. EndsAt w (starting f s l) left n (E.StepsSpent w.steps) s') (sym k.cost)
             (at_spent (starting f s l) (nowhere_on p w.plan (starting f s l)) (omega arith) (sym k.store_is)
             (record { goes_on = refl; dearer = λ os. subst (CostsMore (left - 0)) (sym (start_move l f s os lt)) (asked_dear w (left - 0) 0 f [] (outermost s) (with_outcomes l os) os none) }) refl)

@@ -44,15 +44,14 @@ pub(crate) fn call_export(
     ensures sum { steps.new.left + steps.new.used ≡ steps.old.left + steps.old.used }
     ensures grows { steps.old.used ≤ steps.new.used }
 {
-    let turn = instance.aside(func, args, steps)?;
-    match turn {
-        Turn::Returned(value) => Ok(Exported::Returned(value)),
+    match instance.aside(func, args, steps)? {
+        Turn::Returned(value) => return Ok(Exported::Returned(value)),
         Turn::Trapped(trap) => {
             let end = trap_end(setting, instance, work, trap)?;
-            Ok(Exported::Ended(end))
+            return Ok(Exported::Ended(end));
         }
-        Turn::Waiting(_) => Ok(Exported::Ended(End::Broken(6))),
-        Turn::StepsSpent => Ok(Exported::Ended(End::StepsSpent(setting.steps))),
+        Turn::Waiting(_) => return Ok(Exported::Ended(End::Broken(6))),
+        Turn::StepsSpent => return Ok(Exported::Ended(End::StepsSpent(setting.steps))),
     }
 }
 

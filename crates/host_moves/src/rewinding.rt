@@ -57,19 +57,18 @@ fn call_again(
     ensures grows { steps.old.used ≤ steps.new.used }
 {
     match instance.begin(pause.entry.func, &pause.entry.args, steps)? {
-        Turn::Returned(_) => ended(setting.alloc, End::Broken(5)),
+        Turn::Returned(_) => return ended(setting.alloc, End::Broken(5)),
         Turn::Trapped(trap) => {
             let end = trap_end(setting, instance, Work::Rewinding, trap)?;
-            ended(setting.alloc, end)
+            return ended(setting.alloc, end);
         }
         Turn::Waiting(call) => {
             if call.import == pause.import {
-                test_rewound(setting, instance, steps, pause)
-            } else {
-                ended(setting.alloc, End::Broken(3))
+                return test_rewound(setting, instance, steps, pause);
             }
+            return ended(setting.alloc, End::Broken(3));
         }
-        Turn::StepsSpent => ended(setting.alloc, End::StepsSpent(setting.steps)),
+        Turn::StepsSpent => return ended(setting.alloc, End::StepsSpent(setting.steps)),
     }
 }
 

@@ -5,7 +5,6 @@ ghost use Rattle.wa_model.specs.Configuration.{Activation, Configuration};
 ghost use Rattle.wa_model.specs.Outside.{AnswerLine};
 ghost use Rattle.wa_model.specs.Store.{Store};
 ghost use Rattle.wa_model.specs.Blocking.{Left as PlainLeft, resumed};
-ghost use Rattle.wa_types.specs.Modules.{func_imports};
 ghost use Rattle.wa_model.specs.Protocol.{busy, calling, exports_of, pause_there, test_unwound, zeros_of};
 ghost use Rattle.wa_model.specs.View.{answer_of};
 ghost use Rattle.wa_model.specs.World.{Program};
@@ -62,25 +61,29 @@ fn give_zero(
     if !instance.is_waiting() {
         return Err(AllocError);
     }
-    let zero = zero_of(setting, pause.import);
+    let zero = zero_of(setting, pause.import)?;
     match instance.resume(zero, steps)? {
-        Turn::Returned(_) => test_unwound(setting, instance, steps, pause),
+        Turn::Returned(_) => return test_unwound(setting, instance, steps, pause),
         Turn::Trapped(trap) => {
             let end = trap_end(setting, instance, Work::Unwinding, trap)?;
-            ended(setting.alloc, end)
+            return ended(setting.alloc, end);
         }
-        Turn::Waiting(_) => ended(setting.alloc, End::Broken(1)),
-        Turn::StepsSpent => ended(setting.alloc, End::StepsSpent(setting.steps)),
+        Turn::Waiting(_) => return ended(setting.alloc, End::Broken(1)),
+        Turn::StepsSpent => return ended(setting.alloc, End::StepsSpent(setting.steps)),
     }
 }
 
 // The zero of an import's result.
-fn zero_of(setting: &Setting, import: u32) -> Option<Value>
-    ensures { (w : Program) → IsSetting w setting.now → import < func_imports w.source → option_to_list result ≡ zeros_of w.source import }
+fn zero_of(setting: &Setting, import: u32) -> Result<Option<Value>, AllocError>
+    ensures { (w : Program) → IsSetting w setting.now → IfOk result (λ zero. option_to_list zero ≡ zeros_of w.source import) }
 {
-    match setting.imports.get(import as usize)?.result? {
-        ValType::I32 => Some(Value::I32(0)),
-        ValType::I64 => Some(Value::I64(0)),
+    let Some(import) = setting.imports.get(import as usize) else {
+        return Err(AllocError);
+    };
+    match import.result {
+        None => Ok(None),
+        Some(ValType::I32) => Ok(Some(Value::I32(0))),
+        Some(ValType::I64) => Ok(Some(Value::I64(0))),
     }
 }
 

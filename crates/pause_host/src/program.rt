@@ -39,9 +39,13 @@ impl<'m> Program<'m> {
     ghost use Rattle.wa_model.specs.declared.events.End.{End};
     ghost use Rattle.wa_model.specs.Outside.{ended};
     ghost use Rattle.wa_model.specs.View.{event_of};
-    ghost use Rattle.wa_model.specs.Blocking.{Note};
+    ghost use Rattle.wa_model.specs.Blocking.{Note, no_store, note};
+    ghost use Rattle.wa_model.specs.Protocol.{over, starting};
     ghost use Rattle.wa_model.specs.World.{Program as WorldProgram, bytes_shown};
-    ghost use Rattle.pause_host.specs.Programs.{Advances, Follows, IsPlan, SetsUp, ended_as, memory_in};
+    ghost use Rattle.interp.specs.Host.{code_in, store_in};
+    ghost use Rattle.host_turns.specs.Places.{stands};
+    ghost use Rattle.host_moves.specs.Views.{end_of, left_of};
+    ghost use Rattle.pause_host.specs.Programs.{Advances, Follows, FollowsAt, IsPlan, RunsCode, SetsUp, ended_as, memory_in, place_of};
 
     /// A program of a plan, before its instantiation, or the first fault of the plan.
     pub fn new(alloc: Global, plan: Plan<'m>) -> Result<Program<'m>, SetupFault>
@@ -86,7 +90,9 @@ impl<'m> Program<'m> {
     }
 
     // The module is instantiated, and its start function called where it has one.
-    fn open(&mut self) -> Result<Event, AllocError> {
+    fn open(&mut self) -> Result<Event, AllocError>
+        ensures { (w : WorldProgram) (notes : List Note) → FollowsAt w notes self.old (place_of self.old State.Fresh) → IfOk result (λ event. Advances w notes event self.new) }
+    {
         match Instance::make(self.setting.alloc, self.valid, &self.globals) {
             Ok(instance) => match self.valid.module().start {
                 None => self.go_on(instance, Stage::Free),
@@ -102,13 +108,19 @@ impl<'m> Program<'m> {
     }
 
     // The program has ended without an instance.
-    fn fail(&mut self, end: End) -> Result<Event, AllocError> {
+    fn fail(&mut self, end: End) -> Result<Event, AllocError>
+        ensures next { (w : WorldProgram) (notes : List Note) → FollowsAt w notes self.old (stands (note (ended end) no_store ∷ []) (over no_store)) → IfOk result (λ event. Advances w notes event self.new) }
+        ensures again { IfOk result (λ event. (event_of event ≡ ended end) × (self.new ≡ record self.old { state = State.Failed end })) }
+    {
         let told = copy_end(self.setting.alloc, &end)?;
         self.state = State::Failed(end);
         Ok(Event::Ended(told))
     }
 
-    fn live(&mut self, instance: Instance<'m>, stage: Stage) -> Result<Event, AllocError> {
+    fn live(&mut self, instance: Instance<'m>, stage: Stage) -> Result<Event, AllocError>
+        ensures next { (w : WorldProgram) (notes : List Note) → FollowsAt w notes self.old (place_of self.old (State.Live instance.entry stage)) → RunsCode w.source (State.Live instance.entry stage) → end_of stage ≡ None → IfOk result (λ event. Advances w notes event self.new) }
+        ensures again { (how : End) → end_of stage ≡ Some how → IfOk result (λ event. (event_of event ≡ ended how) × (self.new ≡ record self.old { state = (State.Live instance.entry stage) })) }
+    {
         match stage {
             Stage::Ended(end) => self.end_again(instance, end),
             stage => self.go_on(instance, stage),
@@ -116,7 +128,9 @@ impl<'m> Program<'m> {
     }
 
     // The end was told before.
-    fn end_again(&mut self, instance: Instance<'m>, end: End) -> Result<Event, AllocError> {
+    fn end_again(&mut self, instance: Instance<'m>, end: End) -> Result<Event, AllocError>
+        ensures { IfOk result (λ event. (event_of event ≡ ended end) × (self.new ≡ record self.old { state = State.Live instance.entry (Stage.Ended end) })) }
+    {
         let told = copy_end(self.setting.alloc, &end)?;
         let stage = Stage::Ended(end);
         self.state = State::Live { instance, stage };
@@ -124,7 +138,9 @@ impl<'m> Program<'m> {
     }
 
     // From a stage to the next event.
-    fn go_on(&mut self, mut instance: Instance<'m>, stage: Stage) -> Result<Event, AllocError> {
+    fn go_on(&mut self, mut instance: Instance<'m>, stage: Stage) -> Result<Event, AllocError>
+        ensures { (w : WorldProgram) (notes : List Note) → FollowsAt w notes self.old (place_of self.old (State.Live instance.entry stage)) → RunsCode w.source (State.Live instance.entry stage) → end_of stage ≡ None → IfOk result (λ event. Advances w notes event self.new) }
+    {
         let mut steps = Steps {
             left: self.steps_left,
             used: 0,
@@ -144,7 +160,9 @@ impl<'m> Program<'m> {
     }
 
     // From the call of the start function to the first event.
-    fn begin(&mut self, mut instance: Instance<'m>, func: u32) -> Result<Event, AllocError> {
+    fn begin(&mut self, mut instance: Instance<'m>, func: u32) -> Result<Event, AllocError>
+        ensures { (w : WorldProgram) (notes : List Note) → code_in instance.entry ≡ w.source → FollowsAt w notes self.old (stands [] (starting func (store_in instance.entry) (left_of self.old.left))) → IfOk result (λ event. Advances w notes event self.new) }
+    {
         let mut steps = Steps {
             left: self.steps_left,
             used: 0,
