@@ -27,7 +27,7 @@ use Rattle.host_moves.specs.declared.stages.Stage.{Stage}
 use Rattle.host_moves.specs.declared.stages.Stage.TheVariants as S
 use Rattle.host_moves.specs.declared.stages.Task as TV
 use Rattle.host_moves.specs.declared.stages.Task.TheVariants as T
-use Rattle.host_moves.specs.Views.{entry_of, with_asker, answering, giving, pausing, unwinding, place_in}
+use Rattle.host_moves.specs.Views.{entry_of, stage_told, with_asker, answering, giving, pausing, unwinding, place_in}
 use Rattle.host_moves.specs.Moves.{ComesFrom, PlaceFits, TaskTurn, runs_on, IsTask}
 use Rattle.host_moves.proofs.Fronts.{awaits_from}
 
@@ -52,22 +52,22 @@ module _ (w : Program) where
       })
 
   pub tell_comes : (s : Store) (task : TV.Task) (waits : Waits) (left : ℕ) (m : Moved) (lines : List AnswerLine) (l : Left) (answer : AnswerValue) (s' : Store) → PlaceFits w (Place_of s task waits l (answer_of answer) s')
-      → m.event ≡ EV.Answered answer.value → (task ≡ T.Outermost → m.stage ≡ S.Free) → ((task ≡ T.Outermost → ⊥) → m.stage ≡ S.Giving task answer.value)
+      → m.event ≡ EV.Answered answer.value → m.stage ≡ stage_told task answer.value
       → ComesFrom w (Place_of s task waits l (answer_of answer) s') left 0 m lines lines l s' waits
-  tell_comes s T.Outermost I.outermost left m lines l answer s' f ev free give =
-      told_next (Place_of s T.Outermost I.outermost l (answer_of answer) s') left m lines l (answer_of answer) s' I.outermost (done_notes s' l.entries) (held_on s' l l.entries) refl ev (ap (place_in (exports_of p) w.plan.area l s' I.outermost) (free refl))
-  tell_comes s T.Start (I.inside here under) left m lines l answer s' f ev free give =
+  tell_comes s T.Outermost I.outermost left m lines l answer s' f ev st =
+      told_next (Place_of s T.Outermost I.outermost l (answer_of answer) s') left m lines l (answer_of answer) s' I.outermost (done_notes s' l.entries) (held_on s' l l.entries) refl ev (ap (place_in (exports_of p) w.plan.area l s' I.outermost) st)
+  tell_comes s T.Start (I.inside here under) left m lines l answer s' f ev st =
       told_next (Place_of s T.Start (I.inside here under) l (answer_of answer) s') left m lines l (answer_of answer) s' (I.inside here under) []
-      (busy (is_running the_start) (resumed (record { store = s'; here = here; under = under }) s' (option_to_list answer.value)) l) refl ev (ap (place_in (exports_of p) w.plan.area l s' (I.inside here under)) (give (λ z. cc)))
-  tell_comes s (T.Entry e) (I.inside here under) left m lines l answer s' f ev free give =
+      (busy (is_running the_start) (resumed (record { store = s'; here = here; under = under }) s' (option_to_list answer.value)) l) refl ev (ap (place_in (exports_of p) w.plan.area l s' (I.inside here under)) st)
+  tell_comes s (T.Entry e) (I.inside here under) left m lines l answer s' f ev st =
       told_next (Place_of s (T.Entry e) (I.inside here under) l (answer_of answer) s') left m lines l (answer_of answer) s' (I.inside here under) []
-      (busy (is_running (an_entry (entry_of e))) (resumed (record { store = s'; here = here; under = under }) s' (option_to_list answer.value)) l) refl ev (ap (place_in (exports_of p) w.plan.area l s' (I.inside here under)) (give (λ z. cc)))
-  tell_comes s T.Outermost I.nothing left m lines l answer s' f ev free give = absurd f
-  tell_comes s T.Outermost (I.inside here under) left m lines l answer s' f ev free give = absurd f
-  tell_comes s T.Start I.nothing left m lines l answer s' f ev free give = absurd f
-  tell_comes s T.Start I.outermost left m lines l answer s' f ev free give = absurd f
-  tell_comes s (T.Entry e) I.nothing left m lines l answer s' f ev free give = absurd f
-  tell_comes s (T.Entry e) I.outermost left m lines l answer s' f ev free give = absurd f
+      (busy (is_running (an_entry (entry_of e))) (resumed (record { store = s'; here = here; under = under }) s' (option_to_list answer.value)) l) refl ev (ap (place_in (exports_of p) w.plan.area l s' (I.inside here under)) st)
+  tell_comes s T.Outermost I.nothing left m lines l answer s' f ev st = absurd f
+  tell_comes s T.Outermost (I.inside here under) left m lines l answer s' f ev st = absurd f
+  tell_comes s T.Start I.nothing left m lines l answer s' f ev st = absurd f
+  tell_comes s T.Start I.outermost left m lines l answer s' f ev st = absurd f
+  tell_comes s (T.Entry e) I.nothing left m lines l answer s' f ev st = absurd f
+  tell_comes s (T.Entry e) I.outermost left m lines l answer s' f ev st = absurd f
 
   -- ---- a value is given
 

@@ -100,6 +100,13 @@ abbrev pub end_of : Stage → Option End
 end_of (Ended end) = Some end
 end_of _ = None
 
+-- ---- the stage behind an answer that was told
+
+abbrev pub stage_told : Task → Option Value → Stage
+stage_told T.Outermost value = Free
+stage_told T.Start value = Giving T.Start value
+stage_told (T.Entry e) value = Giving (T.Entry e) value
+
 -- ---- the stage behind a call
 
 -- the call is inside the start function, or is it

@@ -1,5 +1,5 @@
 ghost use Rattle.std.specs.Prelude.{◌≡◌, ◌<◌, ◌≤◌, ◌+◌, ◌-◌, ◌^◌, ℕ, List, [], ◌∷◌, All, IfOk, OnOk, None, map, slice_get};
-ghost use Rattle.std.specs.Option.{option_to_list};
+ghost use Rattle.std.specs.Option.{option_map, option_to_list};
 ghost use Rattle.wa_types.specs.Modules.{func_imports};
 ghost use Rattle.wa_model.specs.Outside.{AnswerLine as PlainLine};
 ghost use Rattle.wa_model.specs.Store.{Store};
@@ -10,9 +10,9 @@ ghost use Rattle.wa_model.specs.World.{Program};
 ghost use Rattle.run_laws.specs.FittingStates.{HeldFits};
 ghost use Rattle.interp.specs.Host.{code_in, store_in, waits_in};
 ghost use Rattle.interp.specs.Instance.{Calls};
-ghost use Rattle.host_answers.specs.Answering.{IsShort};
+ghost use Rattle.host_answers.specs.Answering.{IsShort, listed_of};
 ghost use Rattle.host_moves.specs.Moves.{Asks, Comes, ComesFrom, HasShortPokes, IsAsking, IsSetting, IsTask, PlaceFits, TaskTurn};
-ghost use Rattle.host_moves.specs.Views.{entry_of, free_place, left_of, lines_in, place_in, stage_after, starts};
+ghost use Rattle.host_moves.specs.Views.{entry_of, free_place, left_of, lines_in, place_in, stage_after, stage_told, starts};
 
 use crate::ends::ended;
 use crate::memory::write_pokes;
@@ -56,9 +56,9 @@ fn start_asked(
     ensures { (w : Program) → IsSetting w setting.now → code_in instance.now ≡ w.source → All HasShortPokes (lines_in answers.old.items) → (s : Store) (func : ℕ) (l : PlainLeft) (left_then used : ℕ) → func < func_imports w.source → Calls w.source s func [] left_then used turn (store_in instance.now) (waits_in instance.now) → IfOk result (λ m. Comes w (starting func s l) left_then used m (lines_in answers.old.items) (lines_in answers.new.items) l (store_in instance.now) (waits_in instance.now)) }
 {
     match turn {
-        Turn::Waiting(call) => called(setting, instance, answers, Task::Outermost, call),
-        Turn::StepsSpent => ended(setting.alloc, End::StepsSpent(setting.steps)),
-        _ => Err(AllocError),
+        Turn::Waiting(call) => return called(setting, instance, answers, Task::Outermost, call),
+        Turn::StepsSpent => return ended(setting.alloc, End::StepsSpent(setting.steps)),
+        _ => return Err(AllocError),
     }
 }
 
@@ -150,10 +150,10 @@ fn stopped(
     ensures { (w : Program) → IsSetting w setting.now → code_in instance.now ≡ w.source → All HasShortPokes (lines_in answers.old.items) → (t : PlainTask) (h : Held) (l : PlainLeft) (left_then used : ℕ) → IsTask task t → TaskTurn w h l t left_then used turn (store_in instance.now) (waits_in instance.now) → IfOk result (λ m. Comes w h left_then used m (lines_in answers.old.items) (lines_in answers.new.items) l (store_in instance.now) (waits_in instance.now)) }
 {
     match turn {
-        Turn::Returned(_) => Err(AllocError),
-        Turn::Trapped(trap) => ended(setting.alloc, End::Trapped(trap)),
-        Turn::Waiting(call) => called(setting, instance, answers, task, call),
-        Turn::StepsSpent => ended(setting.alloc, End::StepsSpent(setting.steps)),
+        Turn::Returned(_) => return Err(AllocError),
+        Turn::Trapped(trap) => return ended(setting.alloc, End::Trapped(trap)),
+        Turn::Waiting(call) => return called(setting, instance, answers, task, call),
+        Turn::StepsSpent => return ended(setting.alloc, End::StepsSpent(setting.steps)),
     }
 }
 
@@ -175,12 +175,18 @@ fn called(
     };
     let size = memory.len() as u64;
     let name = import.name.as_str();
-    let stage = match next_answer(setting.alloc, call.import, name, answers)? {
-        Met::Refused(end) => Stage::Ending(end),
-        Met::Given(answer) => answered(setting, import, size, task, call.import, answer),
-    };
-    let event = Event::Called(call);
-    Ok(Moved { event, stage })
+    match next_answer(setting.alloc, call.import, name, answers)? {
+        Met::Refused(end) => {
+            let stage = Stage::Ending(end);
+            let event = Event::Called(call);
+            return Ok(Moved { event, stage });
+        }
+        Met::Given(answer) => {
+            let stage = answered(setting, import, size, task, call.import, answer);
+            let event = Event::Called(call);
+            return Ok(Moved { event, stage });
+        }
+    }
 }
 
 // Where an answer leads: to an end by the first test that it fails, to a pause, or to itself.
@@ -194,17 +200,31 @@ fn answered(
 ) -> Stage
     ensures { (w : Program) → IsSetting w setting.now → All IsShort (answer_of answer).pokes → result ≡ stage_after (fault_of (option_to_list import.now.result) size w.plan (starts task) number (answer_of answer)) answer.ticks task number answer }
 {
-    let listed = match &setting.listed {
-        None => None,
-        Some(listed) => Some(listed.as_slice()),
-    };
-    let in_start = match task {
-        Task::Entry(_) => false,
-        _ => true,
-    };
+    let listed = listed_in(setting);
+    let in_start = is_start(&task);
     match answer_fault(import.result, size, setting.area, listed, in_start, number, &answer) {
         Some(end) => Stage::Ending(end),
         None => passed(task, number, answer),
+    }
+}
+
+// Which function imports are listed, where that is told.
+fn listed_in(setting: &Setting) -> Option<&[bool]>
+    ensures { listed_of result ≡ option_map (λ l. l.items) setting.now.listed }
+{
+    match &setting.listed {
+        None => None,
+        Some(listed) => Some(listed.as_slice()),
+    }
+}
+
+// Whether a call for the task is inside the start function, or is it.
+fn is_start(task: &Task) -> bool
+    ensures { result ≡ starts task.now }
+{
+    match task {
+        Task::Entry(_) => false,
+        _ => true,
     }
 }
 
@@ -237,11 +257,25 @@ pub(crate) fn tell_answer(
     write_pokes(instance, &answer.pokes)?;
     let value = answer.value;
     let event = Event::Answered(value);
-    let stage = match task {
-        Task::Outermost => Stage::Free,
-        task => Stage::Giving { task, value },
-    };
+    let stage = told(task, value);
     Ok(Moved { event, stage })
+}
+
+// Where a program stands behind an answer that was told.
+fn told(task: Task, value: Option<Value>) -> Stage
+    ensures { result ≡ stage_told task value }
+{
+    match task {
+        Task::Outermost => Stage::Free,
+        Task::Start => Stage::Giving {
+            task: Task::Start,
+            value,
+        },
+        Task::Entry(entry) => Stage::Giving {
+            task: Task::Entry(entry),
+            value,
+        },
+    }
 }
 
 /// A value that was told is given to what waits for it.

@@ -5,6 +5,7 @@ ghost use Rattle.wa_model.specs.Configuration.{Activation, Configuration};
 ghost use Rattle.wa_model.specs.Outside.{AnswerLine};
 ghost use Rattle.wa_model.specs.Store.{Store};
 ghost use Rattle.wa_model.specs.Blocking.{Left as PlainLeft, resumed};
+ghost use Rattle.wa_model.specs.Step.{zero_of};
 ghost use Rattle.wa_model.specs.Protocol.{busy, calling, exports_of, pause_there, test_unwound, zeros_of};
 ghost use Rattle.wa_model.specs.View.{answer_of};
 ghost use Rattle.wa_model.specs.World.{Program};
@@ -61,7 +62,7 @@ fn give_zero(
     if !instance.is_waiting() {
         return Err(AllocError);
     }
-    let zero = zero_of(setting, pause.import)?;
+    let zero = import_zero(setting, pause.import)?;
     match instance.resume(zero, steps)? {
         Turn::Returned(_) => return test_unwound(setting, instance, steps, pause),
         Turn::Trapped(trap) => {
@@ -74,7 +75,7 @@ fn give_zero(
 }
 
 // The zero of an import's result.
-fn zero_of(setting: &Setting, import: u32) -> Result<Option<Value>, AllocError>
+fn import_zero(setting: &Setting, import: u32) -> Result<Option<Value>, AllocError>
     ensures { (w : Program) → IsSetting w setting.now → IfOk result (λ zero. option_to_list zero ≡ zeros_of w.source import) }
 {
     let Some(import) = setting.imports.get(import as usize) else {
@@ -82,8 +83,16 @@ fn zero_of(setting: &Setting, import: u32) -> Result<Option<Value>, AllocError>
     };
     match import.result {
         None => Ok(None),
-        Some(ValType::I32) => Ok(Some(Value::I32(0))),
-        Some(ValType::I64) => Ok(Some(Value::I64(0))),
+        Some(ty) => Ok(Some(zero_value(ty))),
+    }
+}
+
+fn zero_value(ty: ValType) -> Value
+    ensures { result ≡ zero_of ty }
+{
+    match ty {
+        ValType::I32 => Value::I32(0),
+        ValType::I64 => Value::I64(0),
     }
 }
 

@@ -19,6 +19,7 @@ use Rattle.host_moves.proofs.Stagings.{pauses}
 use Rattle.host_moves.proofs.Pauses.{calls_in, turn_trapped, turn_spent, unwound, unwound_asked, again_returned, again_trapped, again_spent, again_other, again_asked, started_unwind, state_unwound, state_not_unwound, stopped_unwind, started_rewind, state_rewound, state_not_rewound, stopped_rewind}
 use Rattle.wa_types.specs.Modules.{func_type_at}
 use Rattle.interp.specs.declared.turns.Turn.TheVariants as U
+use Rattle.host_moves.proofs.Tables.{eq_true, ne_false}
 use Rattle.host_moves.proofs.rewinding.call_again.Goals as goal
 
 pub returns-in-Returned-clause-comes : goal.returns-in-Returned-clause-comes
@@ -58,8 +59,8 @@ returns-in-Trapped-clause-comes c = λ w l lines since is code f.
     ended_ok w from left used c.in_ok-end-in-Trapped.end s' c.ended-in-Trapped.result lines l w' c.ended-in-Trapped.ensures.event c.ended-in-Trapped.ensures.stage
     (subst (λ z. EndsAt w from left used z s') (sym is_end) (again_trapped w c.args.pause since s l f.1.0.0 left used s' w' f.1.0.1 c.in-Trapped.trap again))
 
-pub returns-then-eq-clause-comes : goal.returns-then-eq-clause-comes
-returns-then-eq-clause-comes c = λ w l lines since is code f.
+pub returns-then-call-pause-clause-comes : goal.returns-then-call-pause-clause-comes
+returns-then-call-pause-clause-comes c = λ w l lines since is code f.
     let s = store_in c.args.instance.now in
     let s' = store_in c.begin.new.self in
     let w' = waits_in c.begin.new.self in
@@ -73,7 +74,7 @@ returns-then-eq-clause-comes c = λ w l lines since is code f.
         (subst (λ z. Calls z s e.func e.args left used c.in_ok-begin.field-0 s' w') code (subst (λ vs. Calls m s e.func vs left used c.in_ok-begin.field-0 s' w') c.deref.ensures.value told)) in
     let again = calls_in w.source s e.func e.args f.1.0.0 left used (U.Waiting c.in-Waiting.call) s' w' f.1.0.1 calls in
     let from = entering (rewinding c.args.pause since) e s l in
-    let on = again_asked w c.args.pause since s l f.1.0.0 left used s' w' f.1.0.1 c.in-Waiting.call ? again in
+    let on = again_asked w c.args.pause since s l f.1.0.0 left used s' w' f.1.0.1 c.in-Waiting.call (eq_true c.in-Waiting.call.import c.args.pause.import c.if-call-pause.true) again in
     let next = calling (rewinding c.args.pause since) s' (exports_of w.source).get_state [] (test_rewound (record { store = s'; here = on.0; under = on.1 })) l in
     let fits = fits_on w.source w.plan from next [] [] used is.valid is.typed on.3 f in
     behind_ok w from next [] left c.args.steps.now.used c.begin.new.steps.left c.begin.new.steps.used c.test_rewound.new.steps.used c.test_rewound.result lines lines l
@@ -96,7 +97,7 @@ returns-in-Waiting-clause-comes c = λ w l lines since is code f.
     let again = calls_in w.source s e.func e.args f.1.0.0 left used (U.Waiting c.in-Waiting.call) s' w' f.1.0.1 calls in
     let from = entering (rewinding c.args.pause since) e s l in
     ended_ok w from left used (E.Broken 3) s' c.ended-in-Waiting.result lines l w' c.ended-in-Waiting.ensures.event c.ended-in-Waiting.ensures.stage
-    (again_other w c.args.pause since s l f.1.0.0 left used s' w' f.1.0.1 c.in-Waiting.call ? again)
+    (again_other w c.args.pause since s l f.1.0.0 left used s' w' f.1.0.1 c.in-Waiting.call (ne_false c.in-Waiting.call.import c.args.pause.import c.if-call-pause.false) again)
 
 pub returns-in-StepsSpent-clause-comes : goal.returns-in-StepsSpent-clause-comes
 returns-in-StepsSpent-clause-comes c = λ w l lines since is code f.

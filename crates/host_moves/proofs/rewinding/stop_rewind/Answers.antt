@@ -1,11 +1,11 @@
-use Rattle.std.proofs.Common.{arith, ◌≡◌, ◌≤◌, ◌+◌, ◌-◌, [], ◌∷◌, IfOk, true, false, refl, sym, ap, ◌∙◌, subst}
+use Rattle.std.proofs.Common.{arith, ◌≡◌, ◌≤◌, ◌+◌, ◌-◌, [], ◌∷◌, IfOk, map, true, false, refl, sym, ap, ◌∙◌, subst}
 use Rattle.std.specs.Option.{option_to_list}
 use Rattle.wa_types.specs.declared.values.Value.TheVariants as V
 use Rattle.wa_model.specs.declared.events.End.TheVariants as E
 use Rattle.wa_model.specs.Fitting.{types_of, StoreFits}
-use Rattle.wa_model.specs.Blocking.{resumed}
+use Rattle.wa_model.specs.Blocking.{poked}
 use Rattle.wa_model.specs.Protocol.{exports_of, busy, calling, entering, give_zero, test_unwound, pause_there, call_again, test_rewound, give_answer, is_state, trap_end, used_of, zeros_of, with_words}
-use Rattle.wa_model.specs.View.{answer_of}
+use Rattle.wa_model.specs.View.{answer_of, poke_of}
 use Rattle.run_laws.specs.FittingStates.{Callable}
 use Rattle.interp.specs.Host.{code_in, store_in, waits_in}
 use Rattle.interp.specs.Instance.{Awaits, Calls, Resumes, Turns, inside}
@@ -41,4 +41,4 @@ returns-in_ok-write_pokes-in-Returned-clause-comes c = λ w l lines since at her
     let told = c.in_ok-end.ensures.exports w is code f.0 (subst (λ n. Callable w.source n (types_of [])) (sym e) f.1) in
     let got = export_got w Rewinding s s' c.args.setting.now.exports.stop_rewind (exports_of w.source).stop_rewind ([]) ([]) left used c.in_ok-end.field-0 _ e refl c.in-Returned.is told in
     stopped_rewind w c.args.pause l s left used (option_to_list c.in-Returned.field-0) s' since at (store_in c.write_pokes.new.instance) here under (exports_of w.source).stop_rewind [] _ lines
-    (waits_in c.write_pokes.new.instance) ? (c.write_pokes.ensures.waits ∙ c.call_export.ensures.waits ∙ waits) refl refl got
+    (waits_in c.write_pokes.new.instance) (c.in_ok-write_pokes-in-Returned.ensures.store ∙ ap (λ ps. poked s' (map poke_of ps)) c.deref.ensures.value) (c.write_pokes.ensures.waits ∙ c.call_export.ensures.waits ∙ waits) refl refl got
