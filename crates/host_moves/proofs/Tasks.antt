@@ -6,7 +6,7 @@ use Rattle.std.specs.Option.{option_to_list}
 use Rattle.wa_types.specs.declared.values.Value.{Value}
 use Rattle.wa_types.specs.declared.values.Trap.{Trap}
 use Rattle.wa_types.specs.Syntax.{Func, Module}
-use Rattle.wa_types.specs.Modules.{defined_at, func_imports}
+use Rattle.wa_types.specs.Modules.{defined_at, func_imports, func_sorts}
 use Rattle.wa_model.specs.declared.events.Call.{Call as CallValue}
 use Rattle.wa_model.specs.declared.events.End.{End}
 use Rattle.wa_model.specs.declared.events.End.TheVariants as E
@@ -23,6 +23,7 @@ use Rattle.wa_model.specs.Blocking.{Note, note, Left, with_outcomes, Asker, insi
 use Rattle.wa_model.specs.Protocol.{Exports, exports_of, is_running, Held, free, starting, busy, over, held_on, held_asked, held_start, held_next, busy_enters, busy_step, trap_end, protocol}
 use Rattle.wa_model.specs.World.{Program}
 use Rattle.wa_model.proofs.Runs.{leads_on}
+use Rattle.wa_model.proofs.FittingNames.{not_defined}
 use Rattle.interp.specs.declared.turns.Turn.{Turn}
 use Rattle.interp.specs.declared.turns.Turn.TheVariants.{Returned, Trapped, Waiting, StepsSpent}
 use Rattle.interp.specs.Instance as I
@@ -179,6 +180,14 @@ module _ (w : Program) where
           (record { goes_on = refl; dearer = λ os. subst (CostsMore (left - 0)) (sym (to os)) (subst (λ n. n ≤ 0) (sym short) le) }) refl))
 
   -- ---- a start function that is an import
+
+  -- one that is there and isn't an import is defined
+  pub start_defined : (f : ℕ) → f < length (func_sorts p) → func_imports p ≤ f → (g : Func) × (defined_at p f ≡ Some g)
+  start_defined f lt le = by_option (defined_at p f) refl
+    where
+      by_option : (o : Option Func) → defined_at p f ≡ o → (g : Func) × (defined_at p f ≡ Some g)
+      by_option (Some g) e = (g, e)
+      by_option None e = let no : f < func_imports p = not_defined p f lt e in let z : ⊥ = omega arith in absurd z
 
   none_defined : (f : ℕ) → f < func_imports p → defined_at p f ≡ None
   none_defined f lt = by_test (nat_lt f (func_imports p)) (lt-ltb f (func_imports p) lt)
