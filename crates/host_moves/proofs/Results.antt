@@ -38,8 +38,8 @@ module _ {F : Type 0} (w : Program) (h : Held) where
   -- the end that was told
   pub ended_ok : (left used : ℕ) (how : End) (s : Store) (r : Result Moved F) (lines : List AnswerLine) (l : Left) (waits : Waits) → IfOk r (λ m. m.event ≡ V.Ended how) → IfOk r (λ m. m.stage ≡ S.Ended how)
       → EndsAt w h left used how s → IfOk r (λ m. Comes w h left used m lines lines l s waits)
-  ended_ok left used how s (Ok m) lines l waits e st ends = ends_come w h left used how s m lines l waits ends e st
-  ended_ok left used how s (Err d) lines l waits e st ends = tt
+  ended_ok left used how s (Ok m) lines l waits e st k = ends_come w h left used how s m lines l waits k e st
+  ended_ok left used how s (Err d) lines l waits e st k = tt
 
   -- behind a stretch, where l0 and u0 were left and used before it, l1 and u1 behind it, and u2 in the end
   pub behind_ok : (h1 : Held) (ready : List Note) (l0 u0 l1 u1 u2 : ℕ) (r : Result Moved F) (lines lines' : List AnswerLine) (l : Left) (s : Store) (waits : Waits) → l1 + u1 ≡ l0 + u0 → u0 ≤ u1 → u1 ≤ u2

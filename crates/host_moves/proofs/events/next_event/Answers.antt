@@ -24,7 +24,7 @@ use Rattle.host_moves.specs.declared.stages.Stage.{Stage}
 use Rattle.host_moves.proofs.events.next_event.Goals as goal
 
 pub returns-in-Free-clause-comes : goal.returns-in-Free-clause-comes
-returns-in-Free-clause-comes c = λ w is code pokes f open.
+returns-in-Free-clause-comes c = λ w is code pokes f more.
     let s = store_in c.args.instance.now in
     let waits = waits_in c.args.instance.now in
     let l = left_of c.args.left.now in
@@ -36,7 +36,7 @@ returns-in-Free-clause-comes c = λ w is code pokes f open.
     (c.call_next.ensures.comes w is code pokes f')
 
 pub returns-in-Answering-clause-comes : goal.returns-in-Answering-clause-comes
-returns-in-Answering-clause-comes c = λ w is code pokes f open.
+returns-in-Answering-clause-comes c = λ w is code pokes f more.
     let s = store_in c.args.instance.now in
     let waits = waits_in c.args.instance.now in
     let l = left_of c.args.left.now in
@@ -50,7 +50,7 @@ returns-in-Answering-clause-comes c = λ w is code pokes f open.
     (c.tell_answer.ensures.comes w l lines left f'))
 
 pub returns-in-Giving-clause-comes : goal.returns-in-Giving-clause-comes
-returns-in-Giving-clause-comes c = λ w is code pokes f open.
+returns-in-Giving-clause-comes c = λ w is code pokes f more.
     let s = store_in c.args.instance.now in
     let waits = waits_in c.args.instance.now in
     let l = left_of c.args.left.now in
@@ -62,7 +62,7 @@ returns-in-Giving-clause-comes c = λ w is code pokes f open.
     (c.give.ensures.comes w is code pokes f')
 
 pub returns-in-Pausing-clause-comes : goal.returns-in-Pausing-clause-comes
-returns-in-Pausing-clause-comes c = λ w is code pokes f open.
+returns-in-Pausing-clause-comes c = λ w is code pokes f more.
     let s = store_in c.args.instance.now in
     let waits = waits_in c.args.instance.now in
     let l = left_of c.args.left.now in
@@ -74,7 +74,7 @@ returns-in-Pausing-clause-comes c = λ w is code pokes f open.
     (c.unwind.ensures.comes w l lines is code f')
 
 pub returns-in-Paused-clause-comes : goal.returns-in-Paused-clause-comes
-returns-in-Paused-clause-comes c = λ w is code pokes f open.
+returns-in-Paused-clause-comes c = λ w is code pokes f more.
     let s = store_in c.args.instance.now in
     let waits = waits_in c.args.instance.now in
     let l = left_of c.args.left.now in
@@ -86,7 +86,7 @@ returns-in-Paused-clause-comes c = λ w is code pokes f open.
     (c.rewind.ensures.comes w l lines is code f')
 
 pub returns-in-Ending-clause-comes : goal.returns-in-Ending-clause-comes
-returns-in-Ending-clause-comes c = λ w is code pokes f open.
+returns-in-Ending-clause-comes c = λ w is code pokes f more.
     let s = store_in c.args.instance.now in
     let waits = waits_in c.args.instance.now in
     let l = left_of c.args.left.now in
@@ -98,4 +98,4 @@ returns-in-Ending-clause-comes c = λ w is code pokes f open.
     (ending_ok w c.in-Ending.end s left _ c.ended.result lines l waits (omega arith) c.ended.ensures.event c.ended.ensures.stage)
 
 pub returns-in-Ended-clause-comes : goal.returns-in-Ended-clause-comes
-returns-in-Ended-clause-comes c = λ w is code pokes f open. let no : Some c.in-Ended.end ≡ None = sym (ap end_of c.in-Ended.is) ∙ open in cc
+returns-in-Ended-clause-comes c = λ w is code pokes f more. let no : Some c.in-Ended.end ≡ None = sym (ap end_of c.in-Ended.is) ∙ more in cc

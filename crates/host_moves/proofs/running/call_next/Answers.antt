@@ -1,4 +1,4 @@
-use Rattle.std.proofs.Common.{arith, ◌≡◌, ◌≤◌, ◌+◌, ◌-◌, [], ◌∷◌, IfOk, length, map, true, false, refl, sym, ap, ◌∙◌, subst}
+use Rattle.std.proofs.Common.{arith, ◌≡◌, ◌≤◌, ◌+◌, ◌-◌, [], ◌∷◌, IfOk, length, drop, length-drop, map, true, false, refl, sym, ap, ◌∙◌, subst}
 use Rattle.std.specs.Option.{option_to_list}
 use Rattle.wa_types.specs.Modules.{func_type_at}
 use Rattle.wa_model.specs.declared.events.End.TheVariants as E
@@ -25,15 +25,17 @@ use Rattle.host_moves.proofs.running.call_next.Goals as goal
 pub returns-in-None-clause-comes : goal.returns-in-None-clause-comes
 returns-in-None-clause-comes c = λ w is code pokes f.
     done_ok w (left_of c.args.left.now) (store_in c.args.instance.now) c.args.steps.now.left _ c.ended.result (lines_in c.args.answers.now.items) _ (waits_in c.args.instance.now)
-    (none_left c.args.left.now.entries.items ?) (omega arith) c.ended.ensures.event c.ended.ensures.stage
+    (none_left c.args.left.now.entries.items
+    (let e : length c.args.left.now.entries.items ≡ length (drop 1 c.args.left.now.entries.items) = ap length (c.in-None.ensures.items ∙ c.in-None.ensures.rest) in
+    omega (arith, e, length-drop 1 c.args.left.now.entries.items))) (omega arith) c.ended.ensures.event c.ended.ensures.stage
 
 pub returns-in_ok-turn-in-Some-clause-comes : goal.returns-in_ok-turn-in-Some-clause-comes
 returns-in_ok-turn-in-Some-clause-comes c = λ w is code pokes f.
     let s = store_in c.args.instance.now in
-    let s' = store_in c.begin-turn.new.self in
-    let w' = waits_in c.begin-turn.new.self in
+    let s' = store_in c.begin.new.self in
+    let w' = waits_in c.begin.new.self in
     let left = c.args.steps.now.left in
-    let used = c.begin-turn.new.steps.used - c.args.steps.now.used in
+    let used = c.begin.new.steps.used - c.args.steps.now.used in
     let m = code_in c.args.instance.now in
     let l = left_of c.args.left.now in
     let e = entry_of c.in-Some.entry in
@@ -45,4 +47,4 @@ returns-in_ok-turn-in-Some-clause-comes c = λ w is code pokes f.
     let calls = subst (λ z. Calls z s e.func e.args left used c.in_ok-turn-in-Some.turn s' w') code (subst (λ vs. Calls m s e.func vs left used c.in_ok-turn-in-Some.turn s' w') c.deref.ensures.value told) in
     let ran = entry_turn w l (record { number = l.number; entries = rest; outcomes = [] }) e rest fits.1.0.0 s left used c.in_ok-turn-in-Some.turn s' w' entries refl refl fits.1.0.1 calls in
     subst (λ z. IfOk c.entry_ran.result (λ m. ComesFrom w z left used m (lines_in c.args.answers.now.items) (lines_in c.entry_ran.new.answers.items) (left_of c.entry_ran.new.left) s' w')) (sym (free_is s l e rest entries))
-    (c.entry_ran.ensures w is (c.begin-turn.ensures.code ∙ code) pokes (free s l) left used ran)
+    (c.entry_ran.ensures w is (c.begin.ensures.code ∙ code) pokes (free s l) left used ran)

@@ -1,3 +1,4 @@
+use Rattle.host_moves.specs.declared.stages.Moved.{Moved}
 use Rattle.std.proofs.Common.{arith, ◌≡◌, ◌≤◌, ◌+◌, ◌-◌, [], ◌∷◌, IfOk, length, map, true, false, refl, sym, ap, ◌∙◌, subst}
 use Rattle.std.specs.Option.{option_to_list}
 use Rattle.wa_types.specs.Modules.{func_type_at}
@@ -36,7 +37,7 @@ returns-in-Refused c = λ w is code pokes who h l left used asks within asking.
     let at = found_at c.deref.result.now x.imports.items i c.in-Some.import.now c.deref.ensures.value c.in-Some.ensures.lookup.3.0 c.in-Some.ensures.lookup.1 in
     let meets0 = subst (λ n. MeetsLine i n lines (outcome_of c.in_ok-end.field-0) lines') (c.as_str-name.ensures ∙ name_told w x i c.in-Some.import.now is at) c.in_ok-end.ensures in
     let meets = subst (λ z. MeetsLine i (name_at (import_names w.source) i) lines (outcome_of z) lines') c.in-Refused.is meets0 in
-    let m = record { event = EV.Called c.args.call; stage = S.Ending c.in-Refused.end } in
+    let m : Moved = record { event = EV.Called c.args.call; stage = S.Ending c.in-Refused.end } in
     told_refused w h l left used c.args.call who c.args.task waits s asks within asking m lines lines' c.in-Refused.end refl refl meets
 
 pub returns-in-Given : goal.returns-in-Given
@@ -50,7 +51,7 @@ returns-in-Given c = λ w is code pokes who h l left used asks within asking.
     let at = found_at c.deref.result.now x.imports.items i c.in-Some.import.now c.deref.ensures.value c.in-Some.ensures.lookup.3.0 c.in-Some.ensures.lookup.1 in
     let meets0 = subst (λ n. MeetsLine i n lines (outcome_of c.in_ok-end.field-0) lines') (c.as_str-name.ensures ∙ name_told w x i c.in-Some.import.now is at) c.in_ok-end.ensures in
     let meets = subst (λ z. MeetsLine i (name_at (import_names w.source) i) lines (outcome_of z) lines') c.in-Given.is meets0 in
-    let m = record { event = EV.Called c.args.call; stage = c.answered-stage.result } in
+    let m : Moved = record { event = EV.Called c.args.call; stage = c.answered-stage.result } in
     let a = answer_of c.in-Given.answer in
     let bytes = c.in-Some-memory.memory.now in
     let rs = (func_type_at w.source i).results in

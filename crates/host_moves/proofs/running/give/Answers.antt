@@ -30,10 +30,10 @@ pub returns-in-Entry-clause-comes : goal.returns-in-Entry-clause-comes
 returns-in-Entry-clause-comes c = λ w is code pokes f.
     let s = store_in c.args.instance.now in
     let waits = waits_in c.args.instance.now in
-    let s' = store_in c.resume-turn.new.self in
-    let w' = waits_in c.resume-turn.new.self in
+    let s' = store_in c.resume.new.self in
+    let w' = waits_in c.resume.new.self in
     let left = c.args.steps.now.left in
-    let used = c.resume-turn.new.steps.used - c.args.steps.now.used in
+    let used = c.resume.new.steps.used - c.args.steps.now.used in
     let l = left_of c.args.left.now in
     let f' = subst (λ z. PlaceFits w (place_in (exports_of w.source) w.plan.area l s waits (S.Giving z c.args.value))) c.in-Entry.is f in
     let g = gives w (T.Entry c.in-Entry.entry) (an_entry (entry_of c.in-Entry.entry)) waits l c.args.value s refl f' in
@@ -43,16 +43,16 @@ returns-in-Entry-clause-comes c = λ w is code pokes f.
     let h = busy (is_running (an_entry (entry_of c.in-Entry.entry))) (resumed (record { store = s; here = g.here; under = g.under }) s (option_to_list c.args.value)) l in
     let place = ap (λ z. place_in (exports_of w.source) w.plan.area l s waits (S.Giving z c.args.value)) c.in-Entry.is ∙ g.place_is in
     subst (λ z. IfOk c.entry_ran.result (λ m. ComesFrom w z left used m (lines_in c.args.answers.now.items) (lines_in c.entry_ran.new.answers.items) (left_of c.entry_ran.new.left) s' w')) (sym place)
-    (c.entry_ran.ensures w is (c.resume-turn.ensures.code ∙ code) pokes h left used ran)
+    (c.entry_ran.ensures w is (c.resume.ensures.code ∙ code) pokes h left used ran)
 
 pub returns-in-Start-clause-comes : goal.returns-in-Start-clause-comes
 returns-in-Start-clause-comes c = λ w is code pokes f.
     let s = store_in c.args.instance.now in
     let waits = waits_in c.args.instance.now in
-    let s' = store_in c.resume-turn.new.self in
-    let w' = waits_in c.resume-turn.new.self in
+    let s' = store_in c.resume.new.self in
+    let w' = waits_in c.resume.new.self in
     let left = c.args.steps.now.left in
-    let used = c.resume-turn.new.steps.used - c.args.steps.now.used in
+    let used = c.resume.new.steps.used - c.args.steps.now.used in
     let l = left_of c.args.left.now in
     let f' = subst (λ z. PlaceFits w (place_in (exports_of w.source) w.plan.area l s waits (S.Giving z c.args.value))) c.in-Start.is f in
     let g = gives w T.Start the_start waits l c.args.value s refl f' in
@@ -61,8 +61,8 @@ returns-in-Start-clause-comes c = λ w is code pokes f.
     let ran = gives_turn w T.Start the_start waits l c.args.value s g left used c.in_ok-turn.turn s' w' (subst (λ z. Resumes z s waits c.args.value left used c.in_ok-turn.turn s' w') code told) in
     let h = busy (is_running the_start) (resumed (record { store = s; here = g.here; under = g.under }) s (option_to_list c.args.value)) l in
     let place = ap (λ z. place_in (exports_of w.source) w.plan.area l s waits (S.Giving z c.args.value)) c.in-Start.is ∙ g.place_is in
-    let sum : c.resume-turn.new.steps.left + used ≡ left = omega (arith, c.resume-turn.ensures.sum, c.resume-turn.ensures.grows) in
-    let total : used + (c.start_ran.new.steps.used - c.resume-turn.new.steps.used) ≡ c.start_ran.new.steps.used - c.args.steps.now.used = omega (arith, c.resume-turn.ensures.grows, c.start_ran.ensures.grows) in
+    let sum : c.resume.new.steps.left + used ≡ left = omega (arith, c.resume.ensures.sum, c.resume.ensures.grows) in
+    let total : used + (c.start_ran.new.steps.used - c.resume.new.steps.used) ≡ c.start_ran.new.steps.used - c.args.steps.now.used = omega (arith, c.resume.ensures.grows, c.start_ran.ensures.grows) in
     subst (λ z. IfOk c.start_ran.result (λ m. ComesFrom w z left (c.start_ran.new.steps.used - c.args.steps.now.used) m (lines_in c.args.answers.now.items) (lines_in c.start_ran.new.answers.items) (left_of c.start_ran.new.left) (store_in c.start_ran.new.instance) (waits_in c.start_ran.new.instance))) (sym place)
     (subst (λ n. IfOk c.start_ran.result (λ m. Comes w h left n m (lines_in c.args.answers.now.items) (lines_in c.start_ran.new.answers.items) (left_of c.start_ran.new.left) (store_in c.start_ran.new.instance) (waits_in c.start_ran.new.instance))) total
-    (c.start_ran.ensures.comes w is (c.resume-turn.ensures.code ∙ code) pokes h left used ran sum g.fits))
+    (c.start_ran.ensures.comes w is (c.resume.ensures.code ∙ code) pokes h left used ran sum g.fits))

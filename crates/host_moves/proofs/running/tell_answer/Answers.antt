@@ -1,3 +1,4 @@
+use Rattle.host_moves.specs.declared.stages.Moved.{Moved}
 use Rattle.std.proofs.Common.{◌≡◌, map, ◌∙◌, ap, refl, sym, subst}
 use Rattle.wa_model.specs.declared.events.Event.TheVariants as EV
 use Rattle.wa_model.specs.Blocking.{poked}
@@ -16,7 +17,7 @@ returns-clause-comes c = λ w l lines left f.
     let waits = waits_in c.args.instance.now in
     let s' = poked s (answer_of c.args.answer).pokes in
     let from = place_in (exports_of w.source) w.plan.area l s waits (S.Answering c.args.task c.args.answer) in
-    let m = record { event = EV.Answered c.args.answer.value; stage = c.told-stage.result } in
+    let m : Moved = record { event = EV.Answered c.args.answer.value; stage = c.told-stage.result } in
     let written = c.in_ok-write_pokes.ensures.store ∙ ap (λ ps. poked s (map poke_of ps)) c.deref.ensures.value in
     subst (λ z. ComesFrom w from left 0 m lines lines l z (waits_in c.write_pokes.new.instance)) (sym written)
     (subst (λ ws. ComesFrom w from left 0 m lines lines l s' ws) (sym c.write_pokes.ensures.waits)
