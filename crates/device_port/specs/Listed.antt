@@ -10,6 +10,10 @@ use Rattle.device_port.specs.declared.devices.Devices.{Devices}
 abbrev pub of_each : {X A : Type 0} {F : X → Type 0} → (DynBox X Global F → A) → Devices X F → List A
 of_each meaning devices = map meaning devices.list.now.items
 
+-- the same of a meaning as clauses name it that see no box: of a vtable and the value behind it
+abbrev pub of_all : {X A : Type 0} {F : X → Type 0} → ((x : X) × F x → A) → Devices X F → List A
+of_all meaning devices = of_each (λ b. meaning (b.vtable, b.value)) devices
+
 -- The device at this place has the name, and none before it has.
 pub record IsFirstOf (devices : List Device) (name : List ℕ) (place : ℕ) : Type 0 where
   pub device : Device

@@ -1,10 +1,10 @@
 -- The least pair of due tick and number, with one more program, and in a world.
-use Rattle.std.proofs.Common.{arith, ◌≡◌, ◌<◌, ◌≤◌, ◌⊎◌, inl, inr, ℕ, suc, zero, List, [], ◌∷◌, ◌++◌, length, get_or, map, Option, Some, None, slice_get, All, refl, sym, ap, ◌∙◌}
+use Rattle.std.proofs.Common.{arith, ◌≡◌, ◌<◌, ◌≤◌, ◌⊎◌, inl, inr, ℕ, suc, zero, List, [], ◌∷◌, ◌++◌, length, get_or, map, Option, Some, None, slice_get, refl, sym, ap, ◌∙◌}
 use Rattle.std.specs.Option.{option_map}
 use Rattle.std.proofs.lemmas.Bool.{cases_lt}
 use Rattle.std.proofs.lemmas.Option.{slice_get-map, slice_get-get_or, slice_get_within}
 use Rattle.wa_model.specs.Blocking.{Note}
-use Rattle.wa_model.specs.World.{Actor, HasNotes, IsNext, IsOver}
+use Rattle.wa_model.specs.World.{Actor, HasNotes, IsNext}
 use Rattle.many_host.specs.Dues.{IsLeast, HaveEnded, unless_ended, due_of}
 use Rattle.many_host.specs.Laws.{LeastIsNext, EndedIsOver}
 
@@ -44,8 +44,8 @@ module _ (xs : List (Option ℕ)) where
         least = λ j tick e. elim (pushed xs (Some due) (Some tick) j e) [ inl there ↦ absurd (ended j tick there) | inr more ↦ inr (some_is due tick more.1, omega (arith, more.0)) ];
       }
     where
-    some_is : (a b : ℕ) → Some a ≡ Some b → a ≡ b
-    some_is a b e = cc
+      some_is : (a b : ℕ) → Some a ≡ Some b → a ≡ b
+      some_is a b e = cc
 
   pub least_sooner : (i due new : ℕ) → IsLeast xs i due → new < due → IsLeast (xs ++ Some new ∷ []) (length xs) new
   least_sooner i due new l sooner =
@@ -54,12 +54,12 @@ module _ (xs : List (Option ℕ)) where
         least = λ j tick e. elim (pushed xs (Some new) (Some tick) j e) [ inl there ↦ inl (before tick (l.least j tick there)) | inr more ↦ inr (some_is new tick more.1, omega (arith, more.0)) ];
       }
     where
-    some_is : (a b : ℕ) → Some a ≡ Some b → a ≡ b
-    some_is a b e = cc
+      some_is : (a b : ℕ) → Some a ≡ Some b → a ≡ b
+      some_is a b e = cc
 
-    before : {P : Type 0} (tick : ℕ) → (due < tick) ⊎ ((due ≡ tick) × P) → new < tick
-    before tick (inl less) = omega (arith, less, sooner)
-    before tick (inr same) = omega (arith, same.0, sooner)
+      before : {P : Type 0} (tick : ℕ) → (due < tick) ⊎ ((due ≡ tick) × P) → new < tick
+      before tick (inl less) = omega (arith, less, sooner)
+      before tick (inr same) = omega (arith, same.0, sooner)
 
   pub least_later : (i due new : ℕ) → IsLeast xs i due → due ≤ new → IsLeast (xs ++ Some new ∷ []) i due
   least_later i due new l later =
@@ -68,14 +68,14 @@ module _ (xs : List (Option ℕ)) where
         least = λ j tick e. elim (pushed xs (Some new) (Some tick) j e) [ inl there ↦ l.least j tick there | inr more ↦ behind j tick more.0 (some_is new tick more.1) ];
       }
     where
-    some_is : (a b : ℕ) → Some a ≡ Some b → a ≡ b
-    some_is a b e = cc
+      some_is : (a b : ℕ) → Some a ≡ Some b → a ≡ b
+      some_is a b e = cc
 
-    within : i < length xs
-    within = slice_get_within xs i (Some due) l.there
+      within : i < length xs
+      within = slice_get_within xs i (Some due) l.there
 
-    behind : (j tick : ℕ) → j ≡ length xs → new ≡ tick → (due < tick) ⊎ ((due ≡ tick) × (i ≤ j))
-    behind j tick at is = elim (cases_lt due tick) [ inl less ↦ inl less | inr more ↦ inr (omega (arith, more, later, is), omega (arith, at, within)) ]
+      behind : (j tick : ℕ) → j ≡ length xs → new ≡ tick → (due < tick) ⊎ ((due ≡ tick) × (i ≤ j))
+      behind j tick at is = elim (cases_lt due tick) [ inl less ↦ inl less | inr more ↦ inr (omega (arith, more, later, is), omega (arith, at, within)) ]
 
 -- ---- in a world
 
@@ -100,17 +100,18 @@ least_next actors i due l = of_actor (slice_get actors i) refl where
   of_actor (Some a) e =
       let is : Some (due_of a) ≡ Some (Some due) = sym (slice_get-map due_of actors i ∙ ap (option_map due_of) e) ∙ l.there in
       let facts = due_is a.due due a.notes cc in
-      let same : a.due ≡ due = facts.1 in
-      ( a
-      , record {
+      let same : a.due ≡ due = facts.1 in (
+        a,
+        record {
           there = e;
           unfinished = facts.0;
           least = λ j b there some. elim (l.least j b.due (at_place actors j b there some)) [ inl less ↦ inl (omega (arith, less, same)) | inr more ↦ inr (omega (arith, more.0, same), more.1) ];
-        }
-      , same)
+        },
+        same,
+      )
 
 pub ended_over : EndedIsOver
 ended_over actors ended k d within = none (get_or actors k d).notes (λ some. ended k _ (at_place actors k (get_or actors k d) (slice_get-get_or actors k d within) some)) where
   none : (notes : List Note) → ((0 < length notes) → ⊥) → notes ≡ []
-  none [] no = refl
-  none (x ∷ xs) no = absurd (no (omega arith))
+  none [] never = refl
+  none (x ∷ xs) never = absurd (never (omega arith))

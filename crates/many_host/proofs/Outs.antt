@@ -1,5 +1,5 @@
 -- Devices that are taken out.
-use Rattle.std.proofs.Common.{◌≡◌, ◌<◌, ◌+◌, ℕ, suc, zero, Bool, true, false, ◌||◌, if◌then◌else◌, nat_eq, List, [], ◌∷◌, length, get_or, take, drop, map, slice_get, Some, refl, sym, ap, ◌∙◌}
+use Rattle.std.proofs.Common.{◌≡◌, ◌<◌, ◌+◌, ℕ, suc, zero, true, false, nat_eq, List, [], ◌∷◌, length, get_or, take, drop, map, slice_get, Some, refl, sym, ap, ◌∙◌}
 use Rattle.std.specs.List.{list_any, remove}
 use Rattle.std.proofs.lemmas.List.{drop_more}
 use Rattle.wa_model.specs.declared.answers.Detach.{Detach}
@@ -39,7 +39,7 @@ module _ (name : List ℕ) where
         ∙ sym (pick_false (is_named name (f x).device) _ _ (or_left (is_named name (f x).device) _ none))
 
     without_at : (xs : List X) (i : ℕ) (d : Device) → slice_get (map (λ x. (f x).device) xs) i ≡ Some d → is_named name d ≡ true → list_any (is_named name) (take i (map (λ x. (f x).device) xs)) ≡ false → remove (map f xs) i ≡ without name (map f xs)
-    without_at [] i d is named none = refl
+    without_at [] i d is named none = absurd cc
     without_at (x ∷ xs) zero d is named none =
         sym (pick_true (is_named name (f x).device) _ _ (ap (is_named name) (some_is (f x).device d is) ∙ named))
     without_at (x ∷ xs) (suc i) d is named none =

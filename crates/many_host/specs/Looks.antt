@@ -1,5 +1,5 @@
 -- What is shown of a program's memory after its end.
-use Rattle.std.specs.Prelude.{◌≡◌, ◌<◌, ◌≤◌, ℕ, suc, nat_eq, List, drop, ◌∷◌, slice_get, Option, Some, None, if◌then◌else◌}
+use Rattle.std.specs.Prelude.{◌≡◌, ◌≤◌, ℕ, suc, nat_eq, List, drop, ◌∷◌, slice_get, Option, Some, None, if◌then◌else◌}
 use Rattle.std.specs.List.{filter_map}
 use Rattle.wa_model.specs.World.{Look}
 use Rattle.many_host.specs.declared.shows.Show.{Show}

@@ -20,7 +20,8 @@ pub fn next_show(shows: &[Show], from: usize, program: u32) -> Option<usize>
         (λ place. IsNextShow program shows.now from place) }
 {
     for place in from..shows.len() {
-        if shows[place].program == program {
+        let show = &shows[place];
+        if show.program == program {
             return Some(place);
         }
     }
