@@ -1,3 +1,0 @@
-pub mod Advancing
-pub mod Beginning
-pub mod Making
