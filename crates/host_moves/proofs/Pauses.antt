@@ -164,8 +164,7 @@ module _ (w : Program) where
         let r = asks_by p c0 (left - suc (length e.args)) more call.import call.args.items h.at h.ends in
         let to : Store → Held = λ z. calling ph z x.get_state [] (test_rewound (record { store = z; here = h.at.here; under = h.at.under })) l in
         let go : Stretch p w.plan (busy ph c0 l) [] [] more (to h.at.store) =
-            busy_last w ph l c0 (left - suc (length e.args)) more (λ k. asks k call.import call.args.items h.at) [] [] (to h.at.store) r (λ k os. asked_step call h.at true eq k os) in
-        (
+        busy_last w ph l c0 (left - suc (length e.args)) more (λ k. asks k call.import call.args.items h.at) [] [] (to h.at.store) r (λ k os. asked_step call h.at true eq k os) in (
           h.at.here,
           h.at.under,
           h.waits,

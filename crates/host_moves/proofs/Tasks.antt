@@ -76,8 +76,7 @@ module _ (w : Program) where
         → (at : Configuration) × (at.store ≡ s) × (waits ≡ I.inside at.here at.under) × Asks w h used call.import call.args.items (inside t at) l × (used ≤ left)
     task_asks call (too_dear is h1) = cc
     task_asks call (runs_on c u more go le e h1) =
-        let r = asks_by p c (left - u) more call.import call.args.items h1.at h1.ends in
-        (
+        let r = asks_by p c (left - u) more call.import call.args.items h1.at h1.ends in (
           h1.at,
           h1.store_is,
           h1.waits,
@@ -104,7 +103,7 @@ module _ (w : Program) where
       let behind : List Note = done_notes s l.entries in
       let to : Held = held_on s (next_entry l) l.entries in
       let first : Stretch p w.plan (busy (is_running (an_entry e)) c l) [] (y ∷ behind) more to =
-          busy_last w (is_running (an_entry e)) l c (left - u) more (λ k. returns k (option_to_list v) s) [] (y ∷ behind) to r (λ k os. ap (goes k (y ∷ behind)) (on_last s (next_entry l) l.entries os)) in
+      busy_last w (is_running (an_entry e)) l c (left - u) more (λ k. returns k (option_to_list v) s) [] (y ∷ behind) to r (λ k os. ap (goes k (y ∷ behind)) (on_last s (next_entry l) l.entries os)) in
       record {
         note = y;
         event_is = ap (returned l.number) (value_back v) ∙ ap event_of (sym ev);
@@ -127,8 +126,7 @@ module _ (w : Program) where
       let r = returns_by p c (left - u) more (option_to_list v) s h1.0 in
       let to : Held = held_on s l l.entries in
       let first : Stretch p w.plan (busy (is_running the_start) c l) [] (done_notes s l.entries) more to =
-          busy_last w (is_running the_start) l c (left - u) more (λ k. returns k (option_to_list v) s) [] (done_notes s l.entries) to r (λ k os. ap (goes k (done_notes s l.entries)) (on_last s l l.entries os)) in
-      (
+      busy_last w (is_running the_start) l c (left - u) more (λ k. returns k (option_to_list v) s) [] (done_notes s l.entries) to r (λ k os. ap (goes k (done_notes s l.entries)) (on_last s l l.entries os)) in (
         subst (λ n. Stretch p w.plan h [] (done_notes s l.entries) n to) (sym eu) (compose p w.plan h (busy (is_running the_start) c l) to [] [] [] (done_notes s l.entries) u more go first),
         omega (arith, r.within),
       )
@@ -219,8 +217,7 @@ module _ (w : Program) where
         by_cost true e k = let z : Waiting call ≡ StepsSpent = k.turn_is in cc
         by_cost false e k =
             let some : 0 < left = leb-false left 0 e in
-            let enough : 1 ≤ left = omega arith in
-            (
+            let enough : 1 ≤ left = omega arith in (
               k.store_is,
               k.waits,
               record {

@@ -17,6 +17,4 @@ mod unwinding;
 pub use ends::copy_end;
 pub use events::next_event;
 pub use running::start;
-pub use stages::{
-    EntryCall, Exports, HostImport, Left, Moved, Pause, Setting, Stage, Task,
-};
+pub use stages::{EntryCall, Exports, HostImport, Left, Moved, Pause, Setting, Stage, Task};

@@ -34,10 +34,7 @@ fn write_word(instance: &mut Instance<'_>, at: u64, word: u64) -> Result<(), All
 }
 
 /// Writes what an answer puts into the memory, in order.
-pub(crate) fn write_pokes(
-    instance: &mut Instance<'_>,
-    pokes: &[Poke],
-) -> Result<(), AllocError>
+pub(crate) fn write_pokes(instance: &mut Instance<'_>, pokes: &[Poke]) -> Result<(), AllocError>
     ensures store { OnOk result (store_in instance.new ≡ poked (store_in instance.old) (map poke_of pokes.now)) }
     ensures waits { waits_in instance.new ≡ waits_in instance.old }
     ensures code { code_in instance.new ≡ code_in instance.old }

@@ -202,7 +202,15 @@ fn answered(
 {
     let listed = listed_in(setting);
     let in_start = is_start(&task);
-    match answer_fault(import.result, size, setting.area, listed, in_start, number, &answer) {
+    match answer_fault(
+        import.result,
+        size,
+        setting.area,
+        listed,
+        in_start,
+        number,
+        &answer,
+    ) {
         Some(end) => Stage::Ending(end),
         None => passed(task, number, answer),
     }

@@ -34,7 +34,7 @@ returns-in-Returned-clause-comes c = λ w l lines since is code f.
     let typed = ap types_of c.deref.ensures.value ∙ f.1.1 ∙ ap (λ z. (func_type_at z e.func).params) (sym code) in
     let told = c.in_ok-begin.ensures.calls (subst (λ z. StoreFits z s) (sym code) f.0) typed in
     let calls = subst (λ t. Calls w.source s e.func e.args left used t s' w') c.in-Returned.is
-        (subst (λ z. Calls z s e.func e.args left used c.in_ok-begin.field-0 s' w') code (subst (λ vs. Calls m s e.func vs left used c.in_ok-begin.field-0 s' w') c.deref.ensures.value told)) in
+    (subst (λ z. Calls z s e.func e.args left used c.in_ok-begin.field-0 s' w') code (subst (λ vs. Calls m s e.func vs left used c.in_ok-begin.field-0 s' w') c.deref.ensures.value told)) in
     let again = calls_in w.source s e.func e.args f.1.0.0 left used (U.Returned c.in-Returned.field-0) s' w' f.1.0.1 calls in
     let from = entering (rewinding c.args.pause since) e s l in
     ended_ok w from left used (E.Broken 5) s' c.ended.result lines l w' c.ended.ensures.event c.ended.ensures.stage
@@ -52,7 +52,7 @@ returns-in-Trapped-clause-comes c = λ w l lines since is code f.
     let typed = ap types_of c.deref.ensures.value ∙ f.1.1 ∙ ap (λ z. (func_type_at z e.func).params) (sym code) in
     let told = c.in_ok-begin.ensures.calls (subst (λ z. StoreFits z s) (sym code) f.0) typed in
     let calls = subst (λ t. Calls w.source s e.func e.args left used t s' w') c.in-Trapped.is
-        (subst (λ z. Calls z s e.func e.args left used c.in_ok-begin.field-0 s' w') code (subst (λ vs. Calls m s e.func vs left used c.in_ok-begin.field-0 s' w') c.deref.ensures.value told)) in
+    (subst (λ z. Calls z s e.func e.args left used c.in_ok-begin.field-0 s' w') code (subst (λ vs. Calls m s e.func vs left used c.in_ok-begin.field-0 s' w') c.deref.ensures.value told)) in
     let again = calls_in w.source s e.func e.args f.1.0.0 left used (U.Trapped c.in-Trapped.trap) s' w' f.1.0.1 calls in
     let from = entering (rewinding c.args.pause since) e s l in
     let is_end = c.in_ok-end-in-Trapped.ensures (rewinding c.args.pause since) tt ∙ ap (λ a. trap_end a (rewinding c.args.pause since) c.in-Trapped.trap s') (sym is.area) in
@@ -71,7 +71,7 @@ returns-then-call-pause-clause-comes c = λ w l lines since is code f.
     let typed = ap types_of c.deref.ensures.value ∙ f.1.1 ∙ ap (λ z. (func_type_at z e.func).params) (sym code) in
     let told = c.in_ok-begin.ensures.calls (subst (λ z. StoreFits z s) (sym code) f.0) typed in
     let calls = subst (λ t. Calls w.source s e.func e.args left used t s' w') c.in-Waiting.is
-        (subst (λ z. Calls z s e.func e.args left used c.in_ok-begin.field-0 s' w') code (subst (λ vs. Calls m s e.func vs left used c.in_ok-begin.field-0 s' w') c.deref.ensures.value told)) in
+    (subst (λ z. Calls z s e.func e.args left used c.in_ok-begin.field-0 s' w') code (subst (λ vs. Calls m s e.func vs left used c.in_ok-begin.field-0 s' w') c.deref.ensures.value told)) in
     let again = calls_in w.source s e.func e.args f.1.0.0 left used (U.Waiting c.in-Waiting.call) s' w' f.1.0.1 calls in
     let from = entering (rewinding c.args.pause since) e s l in
     let on = again_asked w c.args.pause since s l f.1.0.0 left used s' w' f.1.0.1 c.in-Waiting.call (eq_true c.in-Waiting.call.import c.args.pause.import c.if-call-pause.true) again in
@@ -93,7 +93,7 @@ returns-in-Waiting-clause-comes c = λ w l lines since is code f.
     let typed = ap types_of c.deref.ensures.value ∙ f.1.1 ∙ ap (λ z. (func_type_at z e.func).params) (sym code) in
     let told = c.in_ok-begin.ensures.calls (subst (λ z. StoreFits z s) (sym code) f.0) typed in
     let calls = subst (λ t. Calls w.source s e.func e.args left used t s' w') c.in-Waiting.is
-        (subst (λ z. Calls z s e.func e.args left used c.in_ok-begin.field-0 s' w') code (subst (λ vs. Calls m s e.func vs left used c.in_ok-begin.field-0 s' w') c.deref.ensures.value told)) in
+    (subst (λ z. Calls z s e.func e.args left used c.in_ok-begin.field-0 s' w') code (subst (λ vs. Calls m s e.func vs left used c.in_ok-begin.field-0 s' w') c.deref.ensures.value told)) in
     let again = calls_in w.source s e.func e.args f.1.0.0 left used (U.Waiting c.in-Waiting.call) s' w' f.1.0.1 calls in
     let from = entering (rewinding c.args.pause since) e s l in
     ended_ok w from left used (E.Broken 3) s' c.ended-in-Waiting.result lines l w' c.ended-in-Waiting.ensures.event c.ended-in-Waiting.ensures.stage
@@ -111,7 +111,7 @@ returns-in-StepsSpent-clause-comes c = λ w l lines since is code f.
     let typed = ap types_of c.deref.ensures.value ∙ f.1.1 ∙ ap (λ z. (func_type_at z e.func).params) (sym code) in
     let told = c.in_ok-begin.ensures.calls (subst (λ z. StoreFits z s) (sym code) f.0) typed in
     let calls = subst (λ t. Calls w.source s e.func e.args left used t s' w') c.in-StepsSpent.is
-        (subst (λ z. Calls z s e.func e.args left used c.in_ok-begin.field-0 s' w') code (subst (λ vs. Calls m s e.func vs left used c.in_ok-begin.field-0 s' w') c.deref.ensures.value told)) in
+    (subst (λ z. Calls z s e.func e.args left used c.in_ok-begin.field-0 s' w') code (subst (λ vs. Calls m s e.func vs left used c.in_ok-begin.field-0 s' w') c.deref.ensures.value told)) in
     let again = calls_in w.source s e.func e.args f.1.0.0 left used U.StepsSpent s' w' f.1.0.1 calls in
     let from = entering (rewinding c.args.pause since) e s l in
     ended_ok w from left used (E.StepsSpent c.args.setting.now.steps) s' c.ended-in-StepsSpent.result lines l w' c.ended-in-StepsSpent.ensures.event c.ended-in-StepsSpent.ensures.stage

@@ -57,7 +57,7 @@ returns-in-Given c = λ w is code pokes who h l left used asks within asking.
     let rs = (func_type_at w.source i).results in
     let size = size_told w x (code_in c.args.instance.now) s bytes is code c.in-Some-memory.ensures in
     let fault = ap (λ r. fault_of r (length bytes) w.plan (starts c.args.task) i a) (sym (is.results i c.in-Some.import.now at))
-        ∙ ap (λ n. fault_of rs n w.plan (starts c.args.task) i a) (sym size ∙ sym (ap (λ z. length z.memory) (asking_store c.args.task waits s who asking)))
-        ∙ ap (λ b. fault_of rs (length (store_at who).memory) w.plan b i a) (sym (asking_start c.args.task waits s who asking)) in
+    ∙ ap (λ n. fault_of rs n w.plan (starts c.args.task) i a) (sym size ∙ sym (ap (λ z. length z.memory) (asking_store c.args.task waits s who asking)))
+    ∙ ap (λ b. fault_of rs (length (store_at who).memory) w.plan b i a) (sym (asking_start c.args.task waits s who asking)) in
     told_answer w h l left used c.args.call who c.args.task waits s asks within asking m lines lines' c.in-Given.answer refl meets
     (c.answered-stage.ensures w is (short_given i (name_at (import_names w.source) i) lines a lines' meets pokes) ∙ ap (λ f. stage_after f c.in-Given.answer.ticks c.args.task i c.in-Given.answer) fault)
