@@ -1,1 +1,2 @@
 pub mod BackAgain
+pub mod StacksAgain

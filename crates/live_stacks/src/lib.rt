@@ -4,4 +4,4 @@
 
 mod laws;
 
-pub use laws::live_comes_back;
+pub use laws::{live_comes_back, live_stacks_come_back};
