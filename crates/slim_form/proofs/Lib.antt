@@ -1,0 +1,10 @@
+pub mod Acts
+pub mod Cases
+pub mod Emits
+pub mod Locals
+pub mod Parting
+pub mod Sizings
+pub mod Steps
+pub mod Top
+pub mod Typings
+pub mod Walks

@@ -1,0 +1,7 @@
+ghost use Rattle.slim_form.specs.Parts.{BodiesAreSlim, PiecesAreSlim};
+
+/// Slim pieces with the same units make slim code, and a slim body.
+pub fn pieces_are_slim()
+    ensures code { PiecesAreSlim }
+    ensures body { BodiesAreSlim }
+{}
