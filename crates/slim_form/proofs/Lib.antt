@@ -1,10 +1,6 @@
-pub mod Acts
 pub mod Cases
-pub mod Emits
-pub mod Locals
-pub mod Parting
-pub mod Sizings
-pub mod Steps
-pub mod Top
-pub mod Typings
-pub mod Walks
+pub mod EmittedCode
+pub mod KeptSizes
+pub mod KeptTypes
+pub mod Shapes
+pub mod SlimPieces

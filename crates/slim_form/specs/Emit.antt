@@ -124,7 +124,8 @@ computed_by t op to (Some xs) pend base next = op_on t op to (length xs) next (t
 
 -- a local set from the one operand
 abbrev pub put : Terms → ℕ → (pend base : List ℕ) → Next → Option Code
-put t to pend base next = if t.slot to then only_if (can_keep t to pend) (next (to ∷ pend) (without (to ∷ []) base)) else only_if (not (elem to pend)) (then_code (plain (local_set to)) (next pend base))
+put t to pend base next = if t.slot to then only_if (can_keep t to pend) (next (to ∷ pend) (without (to ∷ []) base)) else only_if (not (elem to pend))
+    (then_code (plain (local_set to)) (next pend base))
 
 abbrev pub put_on : Terms → ℕ → Next → Option Part → Option Code
 put_on t to next None = None
@@ -246,7 +247,8 @@ emit t ts out (leaps_if c l rest) pend base = with_operand c pend base (λ b. on
 emit t ts out (leaps_by c ls l rest) pend base = with_operand c pend base (λ b. only_if (reaches_all ts b) (Some (plain (br_table ls l) (code_of rest))))
 emit t ts out (nests s body rest) pend base =
     then_code (flushed pend)
-    (if_behind (goes_behind s body) (both_codes (nest s None) (emit t ((pend ++ base) ∷ ts) (Some (behind_of t s body (pend ++ base))) body [] (pend ++ base)) (emit t ts out rest [] (behind_of t s body (pend ++ base))))
+    (if_behind (goes_behind s body) (both_codes (nest s None) (emit t ((pend ++ base) ∷ ts) (Some (behind_of t s body (pend ++ base))) body [] (pend ++ base))
+    (emit t ts out rest [] (behind_of t s body (pend ++ base))))
     (then_code (λ k. nest s None k (code_of rest)) (emit t ((pend ++ base) ∷ ts) None body [] (pend ++ base))))
 emit t ts out (decides c a b rest) pend base = with_operand c pend base (λ k. three_codes (branch None) (emit t (k ∷ ts) (Some k) a [] k) (emit t (k ∷ ts) (Some k) b [] k) (emit t ts out rest [] k))
 emit t ts out (halts rest) pend base = Some (plain unreachable (code_of rest))

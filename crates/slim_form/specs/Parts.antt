@@ -85,13 +85,16 @@ emit_units t n ts out first (call_unit slots x to behind rest) pend base =
     (result_pends t to (without slots (end_of t first (pend ++ base))) (emit_units t n ts out behind rest)))
 emit_units t n ts out first (nest_unit s inner body behind rest) pend base =
     with_two (λ p q. nest_unit s p.first p.units q.first q.units) (emit t ts (Some (end_of t first (pend ++ base))) first pend base)
-    (emit_units t (length (calls_of (whole behind rest)) + n) (end_of t first (pend ++ base) ∷ ts) (Some (behind_units t s inner body (end_of t first (pend ++ base)))) inner body [] (end_of t first (pend ++ base)))
+    (emit_units t (length (calls_of (whole behind rest)) + n) (end_of t first (pend ++ base) ∷ ts)
+    (Some (behind_units t s inner body (end_of t first (pend ++ base)))) inner body [] (end_of t first (pend ++ base)))
     (emit_units t n ts out behind rest [] (behind_units t s inner body (end_of t first (pend ++ base))))
 emit_units t n ts out first (if_unit x fa a fb b behind rest) pend base =
     when (elem x (end_of t first (pend ++ base)))
     (with_three (λ p q r. if_unit x p.first p.units q.first q.units r.first r.units) (emit t ts (Some (end_of t first (pend ++ base))) first pend base)
-    (emit_units t (length (calls_of (whole fb b)) + (length (calls_of (whole behind rest)) + n)) (without (x ∷ []) (end_of t first (pend ++ base)) ∷ ts) (Some (without (x ∷ []) (end_of t first (pend ++ base)))) fa a [] (without (x ∷ []) (end_of t first (pend ++ base))))
-    (emit_units t (length (calls_of (whole behind rest)) + n) (without (x ∷ []) (end_of t first (pend ++ base)) ∷ ts) (Some (without (x ∷ []) (end_of t first (pend ++ base)))) fb b [] (without (x ∷ []) (end_of t first (pend ++ base))))
+    (emit_units t (length (calls_of (whole fb b)) + (length (calls_of (whole behind rest)) + n)) (without (x ∷ []) (end_of t first (pend ++ base)) ∷ ts)
+    (Some (without (x ∷ []) (end_of t first (pend ++ base)))) fa a [] (without (x ∷ []) (end_of t first (pend ++ base))))
+    (emit_units t (length (calls_of (whole behind rest)) + n) (without (x ∷ []) (end_of t first (pend ++ base)) ∷ ts)
+    (Some (without (x ∷ []) (end_of t first (pend ++ base)))) fb b [] (without (x ∷ []) (end_of t first (pend ++ base))))
     (emit_units t n ts out behind rest [] (without (x ∷ []) (end_of t first (pend ++ base)))))
 
 -- Each piece that units stand behind comes to its end, by code, and no local is fixed at a call in a piece.
@@ -110,9 +113,11 @@ PiecesTold t n first no_unit = Told t n first
 PiecesTold t n first (call_unit slots x to behind rest) =
     (goes_on (code_of first) ≡ true) × Told t (length (calls_of (flat_units (codes (call_unit slots x to behind rest)))) + n) first × PiecesTold t n behind rest
 PiecesTold t n first (nest_unit s inner body behind rest) =
-    (goes_on (code_of first) ≡ true) × Told t (length (calls_of (flat_units (codes (nest_unit s inner body behind rest)))) + n) first × PiecesTold t (length (calls_of (whole behind rest)) + n) inner body × PiecesTold t n behind rest
+    (goes_on (code_of first) ≡ true) × Told t (length (calls_of (flat_units (codes (nest_unit s inner body behind rest)))) + n) first
+    × PiecesTold t (length (calls_of (whole behind rest)) + n) inner body × PiecesTold t n behind rest
 PiecesTold t n first (if_unit x fa a fb b behind rest) =
-    (goes_on (code_of first) ≡ true) × Told t (length (calls_of (flat_units (codes (if_unit x fa a fb b behind rest)))) + n) first × PiecesTold t (length (calls_of (whole fb b)) + (length (calls_of (whole behind rest)) + n)) fa a
+    (goes_on (code_of first) ≡ true) × Told t (length (calls_of (flat_units (codes (if_unit x fa a fb b behind rest)))) + n) first
+    × PiecesTold t (length (calls_of (whole fb b)) + (length (calls_of (whole behind rest)) + n)) fa a
     × PiecesTold t (length (calls_of (whole behind rest)) + n) fb b × PiecesTold t n behind rest
 
 -- The code of slim pieces with the same units is slim.
@@ -133,5 +138,6 @@ IsNoSlot t (Some x) = t.slot x ≡ false
 -- With the slim pieces of its statements a function has a slim body.
 abbrev pub BodiesAreSlim : Type 0
 BodiesAreSlim =
-    (t : Terms) (f : FlatFunc) (first : Stmts) (us : Units Stmts) (p : Pieces) → ((x : ℕ) → t.slot x ≡ true → x < t.size) → code_of f.body ≡ whole first us → PiecesTold t 0 first us → IsNoSlot t f.result
+    (t : Terms) (f : FlatFunc) (first : Stmts) (us : Units Stmts) (p : Pieces) → ((x : ℕ) → t.slot x ≡ true → x < t.size) → code_of f.body ≡ whole first us
+    → PiecesTold t 0 first us → IsNoSlot t f.result
     → emit_units t 0 ([] ∷ []) (Some []) first us [] [] ≡ Some p → Slims t 0 [] (λ y. true) (free_by t.slot []) [] (body_of f) (slim_body p f.result)

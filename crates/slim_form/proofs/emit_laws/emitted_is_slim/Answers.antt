@@ -1,4 +1,4 @@
-use Rattle.slim_form.proofs.Emits.{emits_slim}
+use Rattle.slim_form.proofs.EmittedCode.{emits_slim}
 use Rattle.slim_form.proofs.emit_laws.emitted_is_slim.Goals as goal
 
 pub returns : goal.returns

@@ -1,4 +1,4 @@
-use Rattle.slim_form.proofs.Parting as P
+use Rattle.slim_form.proofs.SlimPieces as P
 use Rattle.slim_form.proofs.part_laws.pieces_are_slim.Goals as goal
 
 pub returns-clause-code : goal.returns-clause-code

@@ -1,4 +1,4 @@
-use Rattle.slim_form.proofs.Sizings as Z
+use Rattle.slim_form.proofs.KeptSizes as Z
 use Rattle.slim_form.proofs.size_laws.sizes_are_kept.Goals as goal
 
 pub returns-clause-count : goal.returns-clause-count

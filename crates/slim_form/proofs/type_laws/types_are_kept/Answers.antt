@@ -1,4 +1,4 @@
-use Rattle.slim_form.proofs.Typings as T
+use Rattle.slim_form.proofs.KeptTypes as T
 use Rattle.slim_form.proofs.type_laws.types_are_kept.Goals as goal
 
 pub returns-clause-code : goal.returns-clause-code

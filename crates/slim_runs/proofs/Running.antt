@@ -7,14 +7,18 @@ use Rattle.wa_types.specs.Pausing.{calls_of}
 use Rattle.wa_model.specs.Store.{value_at}
 use Rattle.wa_model.specs.Configuration.{Label, Configuration, running}
 use Rattle.wa_model.specs.Step.{Next, steps, zero_of, entered, step}
-use Rattle.slim_form.specs.Beside.{Sides, Twin, both_import, both_defined, woven, in_body, waits, bottom, above, Beside, beside, lean, Way, way_ends, way_same, way_sets, ComesToo, it_steps, it_asks, it_returns, it_traps, it_is_stuck, EachStep, EachStretch, stays, moves, Follows, CallsBegin, AnswersGoOn, WaitsWithAny, WaitingAgrees, Around, in_block, in_loop, calls_behind}
+use Rattle.slim_runs.specs.Beside.{Sides, Twin, both_import, both_defined, woven, in_body, waits, bottom, above, Beside, beside, lean, Way, way_ends, way_same, way_sets, ComesToo, it_steps}
+use Rattle.slim_runs.specs.Beside.{it_asks, it_returns, it_traps, it_is_stuck, EachStep, EachStretch, stays, moves, Follows, CallsBegin, AnswersGoOn, WaitsWithAny, WaitingAgrees, Around}
+use Rattle.slim_runs.specs.Beside.{in_block, in_loop, calls_behind}
 use Rattle.slim_form.specs.Slim.{Free, Held, Terms}
-use Rattle.slim_form.proofs.Walks.{Comes, none, one, on}
-use Rattle.slim_form.proofs.Steps.{table}
+use Rattle.slim_runs.proofs.Stretches.{Comes, none, one, on}
+use Rattle.slim_runs.proofs.StepTable.{table}
 
 pub each_step : EachStep
-each_step w spare _ _ ok (beside {n = n} {ts = ts} {out = out} {sh = sh} {code = code} {code' = code'} {labels = labels} {labels' = labels'} {ls = ls} {ls' = ls'} {ops = ops} {ops' = ops'} {under = under} {under' = under'} s fn f e size ag wo sl ar us) pr =
-    subst (λ n. ComesToo w (running s fn under ls ops code labels) (running s fn under' ls' ops' code' labels') n (lean w (running s fn under ls ops code labels)) (step w.flat (running s fn under ls ops code labels))) e
+each_step w spare _ _ ok (beside {n = n} {ts = ts} {out = out} {sh = sh} {code = code} {code' = code'} {labels = labels} {labels' = labels'} {ls = ls} {ls' = ls'} {ops =
+    ops} {ops' = ops'} {under = under} {under' = under'} s fn f e size ag wo sl ar us) pr =
+    subst (λ n. ComesToo w (running s fn under ls ops code labels) (running s fn under' ls' ops' code' labels') n (lean w (running s fn under ls ops code labels))
+    (step w.flat (running s fn under ls ops code labels))) e
     (table w ok s fn under under' us ls size f ls' ag n ts out sh ops ops' code code' labels labels' wo sl ar pr)
 
 -- a way is a stretch
@@ -25,7 +29,8 @@ way_goes w c c' d _ (way_sets {n = n} {c2 = c2} is e go em) = subst (λ j. Comes
 
 pub each_stretch : EachStretch
 each_stretch w spare _ _ c c' _ ok bs stays = record { took = 0; left = spare; to = c'; goes = (none w.slim c').by; enough = omega arith; no_more = omega arith; near = bs }
-each_stretch w spare m j c c' d ok bs (moves {d = e} {k = k} {n = n} {l = l} pr is rest em ej) = by_next (step w.flat c) is (each_step w spare c c' ok bs pr) (λ left to b. each_stretch w left n l e to d ok b rest)
+each_stretch w spare m j c c' d ok bs (moves {d = e} {k = k} {n = n} {l = l} pr is rest em ej) =
+    by_next (step w.flat c) is (each_step w spare c c' ok bs pr) (λ left to b. each_stretch w left n l e to d ok b rest)
   where
     by_next : (o : Next) → o ≡ steps k e → ComesToo w c c' spare (lean w c) o → ((left : ℕ) (to : Configuration) → Beside w left e to → Follows w to left n l d) → Follows w c' spare m j d
     by_next _ z (it_steps {k = k2} {d = e2} cost left to go le mo b) ih =
@@ -34,7 +39,16 @@ each_stretch w spare m j c c' d ok bs (moves {d = e} {k = k} {n = n} {l = l} pr 
         let r = ih left to (subst (λ y. Beside w left y to) qe b) in
         let le2 : lean w c (suc k) ≤ cost = subst (λ i. lean w c (suc i) ≤ cost) qk le in
         let re = r.enough in let rn = r.no_more in
-        record { took = cost + r.took; left = r.left; to = r.to; goes = (on w.slim cost r.took c' to r.to (way_goes w c c' to cost go) (record { by = r.goes })).by; enough = omega arith; no_more = omega arith; near = r.near }
+        record {
+          took = cost + r.took;
+          left = r.left;
+          to = r.to;
+          goes = (on w.slim cost r.took c' to r.to (way_goes w c c' to cost go) (record { by = r.goes })).by;
+          enough =
+              omega arith;
+          no_more = omega arith;
+          near = r.near;
+        }
     by_next _ z (it_asks cost at to go mo sn st a) ih = cc
     by_next _ z (it_returns cost at go mo sn st) ih = cc
     by_next _ z (it_traps cost at go mo sn st) ih = cc
@@ -76,4 +90,12 @@ behind_is t m _ _ _ _ (in_loop {n = n} {ts = ts} {out = out} {labels = lb} {labe
 
 pub waiting_agrees : WaitingAgrees
 waiting_agrees w _ _ (waits {n = n} {ts = ts} {out = out} {rest = rest} {labels = labels} {labels' = labels'} fn f ac ls ls' ops taken size ag sl ar) =
-    record { func = refl; operands = refl; taken = refl; free = f; held = subst (λ j. Held f ((w.terms fn).fixed (length (calls_of rest) + j))) (behind_is (w.terms fn) n ts out labels labels' ar) ac; locals = ag }
+    record {
+      func = refl;
+      operands = refl;
+      taken = refl;
+      free = f;
+      held =
+          subst (λ j. Held f ((w.terms fn).fixed (length (calls_of rest) + j))) (behind_is (w.terms fn) n ts out labels labels' ar) ac;
+      locals = ag;
+    }

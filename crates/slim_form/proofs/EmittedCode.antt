@@ -3,7 +3,8 @@ use Rattle.std.proofs.Common.{◌≡◌, ◌≢◌, ℕ, zero, suc, ◌+◌, ◌
 use Rattle.std.specs.Prelude.{if◌then◌else◌, nat_eq, ◌&&◌, ◌||◌}
 use Rattle.std.proofs.lemmas.Bool.{eqb-true}
 use Rattle.std.proofs.lemmas.Bool.Decides.{eqb_tells}
-use Rattle.wa_types.specs.Syntax.{Plain, Basic, basic, local_get, local_set, local_tee, br, br_if, br_table, return, unreachable, call, call_indirect, Code, done, plain, nest, branch, a_block, a_loop}
+use Rattle.wa_types.specs.Syntax.{Plain, Basic, basic, local_get, local_set, local_tee, br, br_if, br_table, return, unreachable, call, call_indirect, Code, done, plain, nest, branch}
+use Rattle.wa_types.specs.Syntax.{a_block, a_loop}
 use Rattle.wa_types.specs.Pausing.{calls_of}
 use Rattle.wa_model.specs.declared.flat.Operand.{Operand}
 use Rattle.wa_model.specs.declared.flat.Operand.TheVariants.{Local, Const}
@@ -11,8 +12,11 @@ use Rattle.wa_model.specs.Store.{takes, gives}
 use Rattle.wa_model.specs.Flat.{Stmts, no_more, computes, copies, calls, leaps, leaps_if, leaps_by, nests, decides, halts, followed_by, got, all_got, set_to, slots_got, last_of, code_of}
 use Rattle.slim_form.specs.Slim as S
 use Rattle.wa_types.specs.Syntax as Y
-use Rattle.slim_form.specs.Slim.{Held, Free, Covers, CoversBut, Shape, more, Takes, takes_none, takes_same, takes_one, Rises, rises, rises_below, Lacks, lacks_all, lacks_held, lacks_slot, Plainly, plainly, plainly_held, Reaches, Terms, Slims, ends, does, gets, sets, tees, keeps, uses, saves, narrows, forgets}
-use Rattle.slim_form.specs.Emit.{elem, all_in, without, without_if, free_by, strip, rev_onto, name_onto, names, flushed, Part, then_code, only_if, got_all, by_strip, taken, by_strip_alone, taken_alone, can_keep, Next, result_kept, count, op_code, op_on, computed_by, put, put_on, reads_again, copied_by, reaches, reaches_all, with_operand, part_then, is_call, both_codes, three_codes, behind_of, call_on, goes_behind, right_behind, if_behind, free_behind, emit, Told, EmitsSlim, SlimBesideItself}
+use Rattle.slim_form.specs.Slim.{Held, Free, Covers, CoversBut, Shape, more, Takes, takes_none, takes_same, takes_one, Rises, rises, rises_below, Lacks, lacks_all, lacks_held, lacks_slot}
+use Rattle.slim_form.specs.Slim.{Plainly, plainly, plainly_held, Reaches, Terms, Slims, ends, does, gets, sets, tees, keeps, uses, saves, narrows, forgets}
+use Rattle.slim_form.specs.Emit.{elem, all_in, without, without_if, free_by, strip, rev_onto, name_onto, names, flushed, Part, then_code, only_if, got_all, by_strip, taken, by_strip_alone}
+use Rattle.slim_form.specs.Emit.{taken_alone, can_keep, Next, result_kept, count, op_code, op_on, computed_by, put, put_on, reads_again, copied_by, reaches, reaches_all, with_operand}
+use Rattle.slim_form.specs.Emit.{part_then, is_call, both_codes, three_codes, behind_of, call_on, goes_behind, right_behind, if_behind, free_behind, emit, Told, EmitsSlim, SlimBesideItself}
 
 -- ---- tests
 
@@ -148,18 +152,22 @@ module _ (t : Terms) where
     -- slots set
     flush_ok : (pend base : List ℕ) (c c' : Code) → Slots pend → L (fr (pend ++ base)) [] c c' → L (fr base) (shape pend) c (flushed pend c')
     flush_ok [] base c c' so sl = sl
-    flush_ok (x ∷ pend) base c c' so sl = saves x (fr (x ∷ base)) (small x so.0) (but_one x base) (flush_ok pend (x ∷ base) c c' so.1 (narrows (fr ((x ∷ pend) ++ base)) (covers_by (pend ++ (x ∷ base)) ((x ∷ pend) ++ base) (λ y e. elem_moved x y pend base e)) sl))
+    flush_ok (x ∷ pend) base c c' so sl = saves x (fr (x ∷ base)) (small x so.0) (but_one x base)
+        (flush_ok pend (x ∷ base) c c' so.1 (narrows (fr ((x ∷ pend) ++ base)) (covers_by (pend ++ (x ∷ base)) ((x ∷ pend) ++ base) (λ y e. elem_moved x y pend base e)) sl))
 
     -- a result kept
-    pub kept_by : (x : ℕ) (pend base : List ℕ) (sh sh2 : Shape) (c c' : Code) → t.slot x ≡ true → Takes 1 sh sh2 → Lacks x sh2 → L (fr (without (x ∷ []) base)) (Some x ∷ sh2) c c' → L (fr base) sh (plain (local_set x) c) c'
+    pub kept_by : (x : ℕ) (pend base : List ℕ) (sh sh2 : Shape) (c c' : Code) → t.slot x ≡ true → Takes 1 sh sh2 → Lacks x sh2 → L (fr (without (x ∷ []) base)) (Some x ∷ sh2) c c'
+        → L (fr base) sh (plain (local_set x) c) c'
     kept_by x pend base sh sh2 c c' is ta la sl =
-        keeps x (fr (without (x ∷ []) base)) is (small x is) (covers_by base (without (x ∷ []) base) (λ y m. elem_without y (x ∷ []) base m)) (by (t.slot x) (elem x (without (x ∷ []) base)) is (elem_gone x base)) ta la sl
+        keeps x (fr (without (x ∷ []) base)) is (small x is) (covers_by base (without (x ∷ []) base) (λ y m. elem_without y (x ∷ []) base m))
+        (by (t.slot x) (elem x (without (x ∷ []) base)) is (elem_gone x base)) ta la sl
       where
         by : (s a : Bool) → s ≡ true → a ≡ false → (s && not a) ≡ true
         by true a es ea = ap not ea
         by false a es ea = cc
 
-    kept_ok : (x : ℕ) (pend base : List ℕ) (c c' : Code) → can_keep t x pend ≡ true → L (fr (without (x ∷ []) base)) (shape (x ∷ pend)) c c' → L (fr base) (more 1 (shape pend)) (plain (local_set x) c) c'
+    kept_ok : (x : ℕ) (pend base : List ℕ) (c c' : Code) → can_keep t x pend ≡ true → L (fr (without (x ∷ []) base)) (shape (x ∷ pend)) c c'
+        → L (fr base) (more 1 (shape pend)) (plain (local_set x) c) c'
     kept_ok x pend base c c' e sl =
         let g = both_true (t.slot x) (not (elem x pend)) e in
         kept_by x pend base (more 1 (shape pend)) (shape pend) c c' g.0 (takes_one takes_none) (lacks_by x pend (not_true (elem x pend) g.1)) sl
@@ -168,7 +176,8 @@ module _ (t : Terms) where
     abbrev Fine : Code → Next → Type 0
     Fine c next = (pend base : List ℕ) (c' : Code) → Slots pend → next pend base ≡ Some c' → L (fr base) (shape pend) c c'
 
-    result_ok : (to : Option ℕ) (pend base : List ℕ) (next : Next) (c c' : Code) → Fine c next → Slots pend → result_kept t to pend base next ≡ Some c' → L (fr base) (more (count to) (shape pend)) (set_to to c) c'
+    result_ok : (to : Option ℕ) (pend base : List ℕ) (next : Next) (c c' : Code) → Fine c next → Slots pend → result_kept t to pend base next ≡ Some c'
+        → L (fr base) (more (count to) (shape pend)) (set_to to c) c'
     result_ok None pend base next c c' fine so e = fine pend base c' so e
     result_ok (Some x) pend base next c c' fine so e =
         let h = if_so (can_keep t x pend) (next (x ∷ pend) (without (x ∷ []) base)) c' e in
@@ -180,7 +189,8 @@ module _ (t : Terms) where
     local_ok x pend base c c' e sl = sets x (fr base) (λ y f ne. f) (takes_one takes_none) (lacks_by x pend e) sl
 
     -- operands got
-    pub gets_ok : (xs : List ℕ) (h : ℕ) (base : List ℕ) (sh : Shape) (c c' : Code) → all_in xs base ≡ true → L (fr base) (more (h + length xs) sh) c c' → L (fr base) (more h sh) (slots_got xs c) (slots_got xs c')
+    pub gets_ok : (xs : List ℕ) (h : ℕ) (base : List ℕ) (sh : Shape) (c c' : Code) → all_in xs base ≡ true → L (fr base) (more (h + length xs) sh) c c'
+        → L (fr base) (more h sh) (slots_got xs c) (slots_got xs c')
     gets_ok [] h base sh c c' e sl = let z : h + 0 ≡ h = omega arith in subst (λ k. L (fr base) (more k sh) c c') z sl
     gets_ok (x ∷ xs) h base sh c c' e sl =
         let b = both_true (elem x base) (all_in xs base) e in
@@ -235,7 +245,12 @@ module _ (t : Terms) where
         z : 0 + length xs ≡ length xs
         z = omega arith
 
-        by : (b : Bool) → all_in xs (pend ++ base) ≡ b → (if b then Some (record { pend = []; base = without xs (pend ++ base); front = λ c. flushed pend (slots_got xs c) }) else None) ≡ Some p → Took xs pend base p × (p.pend ≡ [])
+        by : (b : Bool) → all_in xs (pend ++ base) ≡ b → (if b then Some (record {
+          pend = [];
+          base = without xs (pend ++ base);
+          front =
+              λ c. flushed pend (slots_got xs c);
+        }) else None) ≡ Some p → Took xs pend base p × (p.pend ≡ [])
         by false q e = cc
         by true q e =
             let a : made xs pend base ≡ p = cc in
@@ -243,7 +258,8 @@ module _ (t : Terms) where
               (record {
                 slots = tt;
                 goes = λ c c' sl. flush_ok pend base (slots_got xs c) (slots_got xs c') so
-                    (gets_ok xs 0 (pend ++ base) [] c c' q (subst (λ k. L (fr (pend ++ base)) (more k []) c c') (sym z) (narrows (fr (without xs (pend ++ base))) (covers_by (pend ++ base) (without xs (pend ++ base)) (λ y m. elem_without y xs (pend ++ base) m)) sl)));
+                    (gets_ok xs 0 (pend ++ base) [] c c' q (subst (λ k. L (fr (pend ++ base)) (more k []) c c') (sym z)
+                    (narrows (fr (without xs (pend ++ base))) (covers_by (pend ++ base) (without xs (pend ++ base)) (λ y m. elem_without y xs (pend ++ base) m)) sl)));
               }),
               refl,
             )
@@ -255,7 +271,11 @@ module _ (t : Terms) where
         let z : 0 + length xs ≡ length xs = omega arith in
         let sh : shape pend ≡ onto xs (shape left) = ap shape e ∙ onto_is xs [] left in
         subst (λ o. Took xs pend base o) a
-        (record { slots = sp.1; goes = λ c c' sl. subst (λ s. L (fr base) s (slots_got xs c) c') (sym sh) (uses_ok xs 0 base (shape left) c c' sp.0 (subst (λ k. L (fr base) (more k (shape left)) c c') (sym z) sl)) })
+        (record {
+          slots = sp.1;
+          goes = λ c c' sl. subst (λ s. L (fr base) s (slots_got xs c) c') (sym sh)
+              (uses_ok xs 0 base (shape left) c c' sp.0 (subst (λ k. L (fr base) (more k (shape left)) c c') (sym z) sl));
+        })
 
     taken_ok : (xs pend base : List ℕ) (p : Part) → Slots pend → taken xs pend base ≡ Some p → Took xs pend base p
     taken_ok xs pend base p so e = by (strip (rev_onto xs []) pend) refl e
@@ -283,21 +303,24 @@ module _ (t : Terms) where
     names_ok (Const v ∷ args) xs c e = cc
     names_ok (Local x ∷ args) xs c e = by (names args) refl (names_ok args) e
       where
-        by : (o : Option (List ℕ)) → names args ≡ o → ((us : List ℕ) (c : Code) → names args ≡ Some us → all_got args c ≡ slots_got us c) → name_onto (Local x) o ≡ Some xs → plain (local_get x) (all_got args c) ≡ slots_got xs c
+        by : (o : Option (List ℕ)) → names args ≡ o → ((us : List ℕ) (c : Code) → names args ≡ Some us → all_got args c ≡ slots_got us c) → name_onto (Local x) o ≡ Some xs
+            → plain (local_get x) (all_got args c) ≡ slots_got xs c
         by None q ih e = cc
         by (Some us) q ih e = let a : x ∷ us ≡ xs = cc in subst (λ ys. plain (local_get x) (all_got args c) ≡ slots_got ys c) a (ap (plain (local_get x)) (ih us c q))
 
     put_ok : (to : ℕ) (pend base : List ℕ) (next : Next) (c c' : Code) → Fine c next → Slots pend → put t to pend base next ≡ Some c' → L (fr base) (more 1 (shape pend)) (plain (local_set to) c) c'
     put_ok to pend base next c c' fine so e = by (t.slot to) e
       where
-        by : (b : Bool) → (if b then only_if (can_keep t to pend) (next (to ∷ pend) (without (to ∷ []) base)) else only_if (not (elem to pend)) (then_code (plain (local_set to)) (next pend base))) ≡ Some c' → L (fr base) (more 1 (shape pend)) (plain (local_set to) c) c'
+        by : (b : Bool) → (if b then only_if (can_keep t to pend) (next (to ∷ pend) (without (to ∷ []) base)) else only_if (not (elem to pend))
+            (then_code (plain (local_set to)) (next pend base))) ≡ Some c' → L (fr base) (more 1 (shape pend)) (plain (local_set to) c) c'
         by true e = result_ok (Some to) pend base next c c' fine so e
         by false e =
             let h = if_so (not (elem to pend)) (then_code (plain (local_set to)) (next pend base)) c' e in
             let b = behind (plain (local_set to)) (next pend base) c' h.1 in
             subst (λ k. L (fr base) (more 1 (shape pend)) (plain (local_set to) c) k) b.whole (local_ok to pend base c b.code (not_true (elem to pend) h.0) (fine pend base b.code so b.is))
 
-    op_ok : (op : Code) (to : Option ℕ) (k : ℕ) (pend base : List ℕ) (next : Next) (c c' : Code) → Fine c next → Slots pend → op_code t op to k pend base next ≡ Some c' → L (fr base) (more k (shape pend)) (followed_by op (set_to to c)) c'
+    op_ok : (op : Code) (to : Option ℕ) (k : ℕ) (pend base : List ℕ) (next : Next) (c c' : Code) → Fine c next → Slots pend → op_code t op to k pend base next ≡ Some c'
+        → L (fr base) (more k (shape pend)) (followed_by op (set_to to c)) c'
     unfolding followed_by
     op_ok done to k pend base next c c' fine so e = cc
     op_ok (nest s r body rest) to k pend base next c c' fine so e = cc
@@ -408,7 +431,8 @@ module _ (t : Terms) where
             let took = a.0 in
             subst (λ z. L (fr base) (shape pend) (plain (local_get x) c) z) u.whole (took.goes c u.code (subst (λ l. L (fr p.base) (None ∷ shape l) c u.code) (sym a.1) (h p.base u.code u.is)))
 
-    copied_ok : (to : ℕ) (o : Operand) (again : Bool) (pend base : List ℕ) (next : Next) (c c' : Code) → Fine c next → Slots pend → copied_by t to o again pend base next ≡ Some c' → L (fr base) (shape pend) (got o (plain (local_set to) c)) c'
+    copied_ok : (to : ℕ) (o : Operand) (again : Bool) (pend base : List ℕ) (next : Next) (c c' : Code) → Fine c next → Slots pend → copied_by t to o again pend base next ≡ Some c'
+        → L (fr base) (shape pend) (got o (plain (local_set to) c)) c'
     copied_ok to (Const v) again pend base next c c' fine so e = cc
     copied_ok to (Local x) again pend base next c c' fine so e = by_slot (t.slot x) refl again e
       where
@@ -417,31 +441,37 @@ module _ (t : Terms) where
         by_part (Some p) q e =
             let took = taken_ok (x ∷ []) pend base p so q in
             let u = behind p.front (put t to p.pend p.base next) c' e in
-            subst (λ z. L (fr base) (shape pend) (plain (local_get x) (plain (local_set to) c)) z) u.whole (took.goes (plain (local_set to) c) u.code (put_ok to p.pend p.base next c u.code fine took.slots u.is))
+            subst (λ z. L (fr base) (shape pend) (plain (local_get x) (plain (local_set to) c)) z) u.whole
+            (took.goes (plain (local_set to) c) u.code (put_ok to p.pend p.base next c u.code fine took.slots u.is))
 
         by_slot : (b : Bool) → t.slot x ≡ b → (again : Bool)
-            → (if b then (if again then only_if (elem x (pend ++ base)) (then_code (λ c. flushed pend (plain (local_get x) c)) (put t to [] (pend ++ base) next)) else put_on t to next (taken (x ∷ []) pend base)) else then_code (plain (local_get x)) (put t to pend base next)) ≡ Some c'
+            → (if b then (if again then only_if (elem x (pend ++ base)) (then_code (λ c. flushed pend (plain (local_get x) c))
+            (put t to [] (pend ++ base) next)) else put_on t to next (taken (x ∷ []) pend base)) else then_code (plain (local_get x)) (put t to pend base next)) ≡ Some c'
             → L (fr base) (shape pend) (plain (local_get x) (plain (local_set to) c)) c'
         by_slot true q true e =
             let h = if_so (elem x (pend ++ base)) (then_code (λ c. flushed pend (plain (local_get x) c)) (put t to [] (pend ++ base) next)) c' e in
             let u = behind (λ c. flushed pend (plain (local_get x) c)) (put t to [] (pend ++ base) next) c' h.1 in
             subst (λ z. L (fr base) (shape pend) (plain (local_get x) (plain (local_set to) c)) z) u.whole
-            (flush_ok pend base (plain (local_get x) (plain (local_set to) c)) (plain (local_get x) u.code) so (gets x (held_by x (pend ++ base) h.0) (put_ok to [] (pend ++ base) next c u.code fine tt u.is)))
+            (flush_ok pend base (plain (local_get x) (plain (local_set to) c)) (plain (local_get x) u.code) so
+            (gets x (held_by x (pend ++ base) h.0) (put_ok to [] (pend ++ base) next c u.code fine tt u.is)))
         by_slot true q false e = by_part (taken (x ∷ []) pend base) refl e
         by_slot false q again e =
             let u = behind (plain (local_get x)) (put t to pend base next) c' e in
             subst (λ z. L (fr base) (shape pend) (plain (local_get x) (plain (local_set to) c)) z) u.whole (gets x (no_slot x base (ap not q)) (put_ok to pend base next c u.code fine so u.is))
 
-    computed_ok : (op : Code) (args : List Operand) (to : Option ℕ) (pend base : List ℕ) (next : Next) (c c' : Code) → Fine c next → Slots pend → computed_by t op to (names args) pend base next ≡ Some c' → L (fr base) (shape pend) (all_got args (followed_by op (set_to to c))) c'
+    computed_ok : (op : Code) (args : List Operand) (to : Option ℕ) (pend base : List ℕ) (next : Next) (c c' : Code) → Fine c next → Slots pend
+        → computed_by t op to (names args) pend base next ≡ Some c' → L (fr base) (shape pend) (all_got args (followed_by op (set_to to c))) c'
     computed_ok op args to pend base next c c' fine so e = by (names args) refl e
       where
-        by_part : (xs : List ℕ) → names args ≡ Some xs → (o : Option Part) → taken xs pend base ≡ o → op_on t op to (length xs) next o ≡ Some c' → L (fr base) (shape pend) (all_got args (followed_by op (set_to to c))) c'
+        by_part : (xs : List ℕ) → names args ≡ Some xs → (o : Option Part) → taken xs pend base ≡ o → op_on t op to (length xs) next o ≡ Some c'
+            → L (fr base) (shape pend) (all_got args (followed_by op (set_to to c))) c'
         by_part xs qn None q e = cc
         by_part xs qn (Some p) q e =
             let took = taken_ok xs pend base p so q in
             let u = behind p.front (op_code t op to (length xs) p.pend p.base next) c' e in
             subst (λ z. L (fr base) (shape pend) z c') (sym (names_ok args xs (followed_by op (set_to to c)) qn))
-            (subst (λ z. L (fr base) (shape pend) (slots_got xs (followed_by op (set_to to c))) z) u.whole (took.goes (followed_by op (set_to to c)) u.code (op_ok op to (length xs) p.pend p.base next c u.code fine took.slots u.is)))
+            (subst (λ z. L (fr base) (shape pend) (slots_got xs (followed_by op (set_to to c))) z) u.whole
+            (took.goes (followed_by op (set_to to c)) u.code (op_ok op to (length xs) p.pend p.base next c u.code fine took.slots u.is)))
 
         by : (o : Option (List ℕ)) → names args ≡ o → computed_by t op to o pend base next ≡ Some c' → L (fr base) (shape pend) (all_got args (followed_by op (set_to to c))) c'
         by None q e = cc
@@ -517,8 +547,10 @@ module _ (t : Terms) where
   same_code n ts out (plain (call x) rest) = S.calls x plainly (held_nothing (t.fixed (length (calls_of rest) + n))) (same_code n ts out rest)
   same_code n ts out (plain (call_indirect x) rest) = S.calls_by x plainly (held_nothing (t.fixed (length (calls_of rest) + n))) (same_code n ts out rest)
   same_code n ts out (nest a_block r body rest) = S.blocks r nothing plainly (same_code (length (calls_of rest) + n) (nothing ∷ ts) nothing body) (same_code n ts out rest)
-  same_code n ts out (nest a_loop r body rest) = S.loops r nothing nothing plainly (covers_nothing nothing) (same_code (length (calls_of rest) + n) (nothing ∷ ts) nothing body) (same_code n ts out rest)
-  same_code n ts out (branch r a b rest) = S.decides r nothing plainly (same_code (length (calls_of b) + (length (calls_of rest) + n)) (nothing ∷ ts) nothing a) (same_code (length (calls_of rest) + n) (nothing ∷ ts) nothing b) (same_code n ts out rest)
+  same_code n ts out (nest a_loop r body rest) = S.loops r nothing nothing plainly (covers_nothing nothing) (same_code (length (calls_of rest) + n) (nothing ∷ ts) nothing body)
+      (same_code n ts out rest)
+  same_code n ts out (branch r a b rest) = S.decides r nothing plainly (same_code (length (calls_of b) + (length (calls_of rest) + n)) (nothing ∷ ts) nothing a)
+      (same_code (length (calls_of rest) + n) (nothing ∷ ts) nothing b) (same_code n ts out rest)
 
   abbrev fb : Option (List ℕ) → Free
   fb out = free_behind t.slot out
@@ -528,7 +560,8 @@ module _ (t : Terms) where
   right_ok (Some out) base e = covers_by base out (all_held out base e)
 
   module _ (small : (x : ℕ) → t.slot x ≡ true → x < t.size) where
-    pub emit_ok : (n : ℕ) (targets : List (List ℕ)) (out : Option (List ℕ)) (s : Stmts) (pend base : List ℕ) (c' : Code) → Told t n s → Slots pend → emit t targets out s pend base ≡ Some c' → Slims t n (map fr targets) (fb out) (fr base) (shape pend) (code_of s) c'
+    pub emit_ok : (n : ℕ) (targets : List (List ℕ)) (out : Option (List ℕ)) (s : Stmts) (pend base : List ℕ) (c' : Code) → Told t n s → Slots pend
+        → emit t targets out s pend base ≡ Some c' → Slims t n (map fr targets) (fb out) (fr base) (shape pend) (code_of s) c'
     unfolding code_of
     emit_ok n targets out no_more pend base c' told so e =
         let h = if_so (right_behind out (pend ++ base)) (Some (flushed pend done)) c' e in
@@ -540,14 +573,17 @@ module _ (t : Terms) where
     emit_ok n targets out (copies to from rest) pend base c' told so e =
         copied_ok small n (map fr targets) (fb out) to from (reads_again rest) pend base (emit t targets out rest) (code_of rest) c' (λ p b k so e. emit_ok n targets out rest p b k told so e) so e
     emit_ok n targets out (calls op stack args to rest) pend base c' told so e =
-        call_ok small n (map fr targets) (fb out) op (last_of args stack) to pend base (emit t targets out rest) (code_of rest) c' (λ p b k so e. emit_ok n targets out rest p b k told.1 so e) so told.0 e
+        call_ok small n (map fr targets) (fb out) op (last_of args stack) to pend base (emit t targets out rest) (code_of rest) c'
+        (λ p b k so e. emit_ok n targets out rest p b k told.1 so e) so told.0 e
     emit_ok n targets out (leaps l rest) pend base c' told so e =
         let h = if_so (reaches targets l (pend ++ base)) (Some (flushed pend (plain (br l) (code_of rest)))) c' e in
         let a : flushed pend (plain (br l) (code_of rest)) ≡ c' = let z : Some (flushed pend (plain (br l) (code_of rest))) ≡ Some c' = h.1 in cc in
         subst (λ z. Slims t n (map fr targets) (fb out) (fr base) (shape pend) (plain (br l) (code_of rest)) z) a
-        (flush_ok small n (map fr targets) (fb out) pend base (plain (br l) (code_of rest)) (plain (br l) (code_of rest)) so (S.leaps l plainly (reaches_ok small n (map fr targets) (fb out) targets l (pend ++ base) h.0)))
+        (flush_ok small n (map fr targets) (fb out) pend base (plain (br l) (code_of rest)) (plain (br l) (code_of rest)) so
+        (S.leaps l plainly (reaches_ok small n (map fr targets) (fb out) targets l (pend ++ base) h.0)))
     emit_ok n targets out (leaps_if c l rest) pend base c' told so e =
-        operand_ok small n (map fr targets) (fb out) c pend base (λ b. only_if (reaches targets l b) (then_code (plain (br_if l)) (emit t targets out rest [] b))) (plain (br_if l) (code_of rest)) c' so e
+        operand_ok small n (map fr targets) (fb out) c pend base (λ b. only_if (reaches targets l b) (then_code (plain (br_if l)) (emit t targets out rest [] b)))
+        (plain (br_if l) (code_of rest)) c' so e
         (λ b k e.
         let h = if_so (reaches targets l b) (then_code (plain (br_if l)) (emit t targets out rest [] b)) k e in
         let u = behind (plain (br_if l)) (emit t targets out rest [] b) k h.1 in
@@ -562,16 +598,20 @@ module _ (t : Terms) where
         (S.leaps_by ls l (plainly_held plainly) (reaches_each small n (map fr targets) (fb out) targets b h.0)))
     emit_ok n targets out (nests s body rest) pend base c' told so e =
         let b = pend ++ base in
-        let u = behind (flushed pend) (if_behind (goes_behind s body) (both_codes (nest s None) (emit t (b ∷ targets) (Some (behind_of t s body b)) body [] b) (emit t targets out rest [] (behind_of t s body b)))
+        let u = behind (flushed pend) (if_behind (goes_behind s body)
+        (both_codes (nest s None) (emit t (b ∷ targets) (Some (behind_of t s body b)) body [] b) (emit t targets out rest [] (behind_of t s body b)))
         (then_code (λ k. nest s None k (code_of rest)) (emit t (b ∷ targets) None body [] b))) c' e in
         subst (λ z. Slims t n (map fr targets) (fb out) (fr base) (shape pend) (nest s None (code_of body) (code_of rest)) z) u.whole
         (flush_ok small n (map fr targets) (fb out) pend base (nest s None (code_of body) (code_of rest)) u.code so
-        (nest_ok n targets out s b body (code_of body) (code_of rest) u.code (emit t (b ∷ targets) (Some (behind_of t s body b)) body [] b) (emit t targets out rest [] (behind_of t s body b)) (emit t (b ∷ targets) None body [] b) u.is
-        (λ k e. emit_ok (length (calls_of (code_of rest)) + n) (b ∷ targets) (Some (behind_of t s body b)) body [] b k told.0 tt e) (λ k e. emit_ok n targets out rest [] (behind_of t s body b) k told.1 tt e)
+        (nest_ok n targets out s b body (code_of body) (code_of rest) u.code (emit t (b ∷ targets) (Some (behind_of t s body b)) body [] b)
+        (emit t targets out rest [] (behind_of t s body b)) (emit t (b ∷ targets) None body [] b) u.is
+        (λ k e. emit_ok (length (calls_of (code_of rest)) + n) (b ∷ targets) (Some (behind_of t s body b)) body [] b k told.0 tt e)
+        (λ k e. emit_ok n targets out rest [] (behind_of t s body b) k told.1 tt e)
         (λ k e. emit_ok (length (calls_of (code_of rest)) + n) (b ∷ targets) None body [] b k told.0 tt e)))
       where
         both_ok : (n : ℕ) (targets : List (List ℕ)) (out : Option (List ℕ)) (s : Y.Shape) (b : List ℕ) (ss : Stmts) (body rest c : Code) (o o2 : Option Code) → both_codes (nest s None) o o2 ≡ Some c
-            → ((k : Code) → o ≡ Some k → Slims t (length (calls_of rest) + n) (fr b ∷ map fr targets) (fr (behind_of t s ss b)) (fr b) [] body k) → ((k : Code) → o2 ≡ Some k → Slims t n (map fr targets) (fb out) (fr (behind_of t s ss b)) [] rest k)
+            → ((k : Code) → o ≡ Some k → Slims t (length (calls_of rest) + n) (fr b ∷ map fr targets) (fr (behind_of t s ss b)) (fr b) [] body k)
+            → ((k : Code) → o2 ≡ Some k → Slims t n (map fr targets) (fb out) (fr (behind_of t s ss b)) [] rest k)
             → Slims t n (map fr targets) (fb out) (fr b) [] (nest s None body rest) c
         both_ok n targets out s b ss body rest c None o2 e f g = cc
         both_ok n targets out s b ss body rest c (Some k) None e f g = cc
@@ -582,29 +622,38 @@ module _ (t : Terms) where
             let a : nest a_loop None k k2 ≡ c = let z : Some (nest a_loop None k k2) ≡ Some c = e in cc in
             subst (λ z. Slims t n (map fr targets) (fb out) (fr b) [] (nest a_loop None body rest) z) a (S.loops None (fr b) (fr (behind_of t a_loop ss b)) plainly (λ y h. h) (f k refl) (g k2 refl))
 
-        never_ok : (n : ℕ) (targets : List (List ℕ)) (out : Option (List ℕ)) (s : Y.Shape) (b : List ℕ) (ss : Stmts) (body rest c : Code) (o3 : Option Code) → goes_behind s ss ≡ false → then_code (λ k. nest s None k rest) o3 ≡ Some c
-            → ((k : Code) → o3 ≡ Some k → Slims t (length (calls_of rest) + n) (fr b ∷ map fr targets) nothing (fr b) [] body k) → Slims t n (map fr targets) (fb out) (fr b) [] (nest s None body rest) c
+        never_ok : (n : ℕ) (targets : List (List ℕ)) (out : Option (List ℕ)) (s : Y.Shape) (b : List ℕ) (ss : Stmts) (body rest c : Code) (o3 : Option Code)
+            → goes_behind s ss ≡ false → then_code (λ k. nest s None k rest) o3 ≡ Some c
+            → ((k : Code) → o3 ≡ Some k → Slims t (length (calls_of rest) + n) (fr b ∷ map fr targets) nothing (fr b) [] body k)
+            → Slims t n (map fr targets) (fb out) (fr b) [] (nest s None body rest) c
         never_ok n targets out a_block b ss body rest c o3 q e f = cc
         never_ok n targets out a_loop b ss body rest c o3 q e f =
             let v = behind (λ k. nest a_loop None k rest) o3 c e in
-            subst (λ z. Slims t n (map fr targets) (fb out) (fr b) [] (nest a_loop None body rest) z) v.whole (S.loops None (fr b) nothing plainly (λ y h. h) (f v.code v.is) (same_code n (map fr targets) (fb out) rest))
+            subst (λ z. Slims t n (map fr targets) (fb out) (fr b) [] (nest a_loop None body rest) z) v.whole
+            (S.loops None (fr b) nothing plainly (λ y h. h) (f v.code v.is) (same_code n (map fr targets) (fb out) rest))
 
-        nest_ok : (n : ℕ) (targets : List (List ℕ)) (out : Option (List ℕ)) (s : Y.Shape) (b : List ℕ) (ss : Stmts) (body rest c : Code) (o o2 o3 : Option Code) → if_behind (goes_behind s ss) (both_codes (nest s None) o o2) (then_code (λ k. nest s None k rest) o3) ≡ Some c
-            → ((k : Code) → o ≡ Some k → Slims t (length (calls_of rest) + n) (fr b ∷ map fr targets) (fr (behind_of t s ss b)) (fr b) [] body k) → ((k : Code) → o2 ≡ Some k → Slims t n (map fr targets) (fb out) (fr (behind_of t s ss b)) [] rest k)
+        nest_ok : (n : ℕ) (targets : List (List ℕ)) (out : Option (List ℕ)) (s : Y.Shape) (b : List ℕ) (ss : Stmts) (body rest c : Code) (o o2 o3 : Option Code)
+            → if_behind (goes_behind s ss) (both_codes (nest s None) o o2) (then_code (λ k. nest s None k rest) o3) ≡ Some c
+            → ((k : Code) → o ≡ Some k → Slims t (length (calls_of rest) + n) (fr b ∷ map fr targets) (fr (behind_of t s ss b)) (fr b) [] body k)
+            → ((k : Code) → o2 ≡ Some k → Slims t n (map fr targets) (fb out) (fr (behind_of t s ss b)) [] rest k)
             → ((k : Code) → o3 ≡ Some k → Slims t (length (calls_of rest) + n) (fr b ∷ map fr targets) nothing (fr b) [] body k)
             → Slims t n (map fr targets) (fb out) (fr b) [] (nest s None body rest) c
         nest_ok n targets out s b ss body rest c o o2 o3 e f g h = by (goes_behind s ss) refl e
           where
-            by : (q : Bool) → goes_behind s ss ≡ q → if_behind q (both_codes (nest s None) o o2) (then_code (λ k. nest s None k rest) o3) ≡ Some c → Slims t n (map fr targets) (fb out) (fr b) [] (nest s None body rest) c
+            by : (q : Bool) → goes_behind s ss ≡ q → if_behind q (both_codes (nest s None) o o2) (then_code (λ k. nest s None k rest) o3) ≡ Some c
+                → Slims t n (map fr targets) (fb out) (fr b) [] (nest s None body rest) c
             by true q e = both_ok n targets out s b ss body rest c o o2 e f g
             by false q e = never_ok n targets out s b ss body rest c o3 q e h
     emit_ok n targets out (decides c a b rest) pend base c' told so e =
-        operand_ok small n (map fr targets) (fb out) c pend base (λ k. three_codes (branch None) (emit t (k ∷ targets) (Some k) a [] k) (emit t (k ∷ targets) (Some k) b [] k) (emit t targets out rest [] k)) (branch None (code_of a) (code_of b) (code_of rest)) c' so e
+        operand_ok small n (map fr targets) (fb out) c pend base (λ k. three_codes (branch None) (emit t (k ∷ targets) (Some k) a [] k) (emit t (k ∷ targets) (Some k) b [] k)
+        (emit t targets out rest [] k)) (branch None (code_of a) (code_of b) (code_of rest)) c' so e
         (λ k d e. arms_ok n targets out k (code_of a) (code_of b) (code_of rest) d (emit t (k ∷ targets) (Some k) a [] k) (emit t (k ∷ targets) (Some k) b [] k) (emit t targets out rest [] k) e
-        (λ j e. emit_ok (length (calls_of (code_of b)) + (length (calls_of (code_of rest)) + n)) (k ∷ targets) (Some k) a [] k j told.0 tt e) (λ j e. emit_ok (length (calls_of (code_of rest)) + n) (k ∷ targets) (Some k) b [] k j told.1 tt e) (λ j e. emit_ok n targets out rest [] k j told.2 tt e))
+        (λ j e. emit_ok (length (calls_of (code_of b)) + (length (calls_of (code_of rest)) + n)) (k ∷ targets) (Some k) a [] k j told.0 tt e)
+        (λ j e. emit_ok (length (calls_of (code_of rest)) + n) (k ∷ targets) (Some k) b [] k j told.1 tt e) (λ j e. emit_ok n targets out rest [] k j told.2 tt e))
       where
         arms_ok : (n : ℕ) (targets : List (List ℕ)) (out : Option (List ℕ)) (k : List ℕ) (a b rest c : Code) (o o2 o3 : Option Code) → three_codes (branch None) o o2 o3 ≡ Some c
-            → ((j : Code) → o ≡ Some j → Slims t (length (calls_of b) + (length (calls_of rest) + n)) (fr k ∷ map fr targets) (fr k) (fr k) [] a j) → ((j : Code) → o2 ≡ Some j → Slims t (length (calls_of rest) + n) (fr k ∷ map fr targets) (fr k) (fr k) [] b j)
+            → ((j : Code) → o ≡ Some j → Slims t (length (calls_of b) + (length (calls_of rest) + n)) (fr k ∷ map fr targets) (fr k) (fr k) [] a j)
+            → ((j : Code) → o2 ≡ Some j → Slims t (length (calls_of rest) + n) (fr k ∷ map fr targets) (fr k) (fr k) [] b j)
             → ((j : Code) → o3 ≡ Some j → Slims t n (map fr targets) (fb out) (fr k) [] rest j) → Slims t n (map fr targets) (fb out) (fr k) (None ∷ []) (branch None a b rest) c
         arms_ok n targets out k a b rest c None o2 o3 e f g h = cc
         arms_ok n targets out k a b rest c (Some j) None o3 e f g h = cc

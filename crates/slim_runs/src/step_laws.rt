@@ -1,4 +1,4 @@
-ghost use Rattle.slim_form.specs.Beside.{AnswersGoOn, CallsBegin, EachStep, EachStretch, WaitingAgrees, WaitsWithAny};
+ghost use Rattle.slim_runs.specs.Beside.{AnswersGoOn, CallsBegin, EachStep, EachStretch, WaitingAgrees, WaitsWithAny};
 
 /// The slim module makes each reduction of the flat one, and reductions in a row, at no greater cost and no less than the
 /// lean cost.

@@ -1,5 +1,6 @@
 -- Each reduction of the flat side is matched by the slim one.
-use Rattle.std.proofs.Common.{◌≡◌, ℕ, zero, suc, ◌+◌, ◌≤◌, List, [], ◌∷◌, ◌++◌, length, map, take, drop, reverse, Option, Some, None, Bool, true, false, refl, sym, ap, ◌∙◌, subst, arith, length-append, length-set}
+use Rattle.std.proofs.Common.{◌≡◌, ℕ, zero, suc, ◌+◌, ◌≤◌, List, [], ◌∷◌, ◌++◌, length, map, take, drop, reverse, Option, Some, None, Bool, true, false, refl, sym, ap, ◌∙◌, subst, arith}
+use Rattle.std.proofs.Common.{length-append, length-set}
 use Rattle.std.specs.Prelude.{if◌then◌else◌, slice_get, slice_set, unwrap_or, nat_lt, ◌&&◌}
 use Rattle.std.proofs.lemmas.List.{length-map, length-reverse, length-take-le}
 use Rattle.wa_types.specs.declared.values.ValType.{ValType}
@@ -8,17 +9,23 @@ use Rattle.wa_types.specs.declared.values.Value.TheVariants as V
 use Rattle.wa_types.specs.declared.values.Trap.{Trap}
 use Rattle.wa_types.specs.declared.values.Trap.TheVariants.{StackExhausted, TypeMismatch, UndefinedElement, UninitializedElement}
 use Rattle.wa_types.specs.Encoding.{same_type}
-use Rattle.wa_types.specs.Syntax.{Basic, nop, drop as drop_it, select, const, num, global_get, global_set, load, store, memory_size, memory_grow, Plain, basic, local_get, local_set, local_tee, br, br_if, br_table, return, unreachable, call, call_indirect, a_block, a_loop, Code, done, plain, nest, branch, FuncType, Module}
+use Rattle.wa_types.specs.Syntax.{Basic, nop, drop as drop_it, select, const, num, global_get, global_set, load, store, memory_size, memory_grow, Plain, basic, local_get, local_set}
+use Rattle.wa_types.specs.Syntax.{local_tee, br, br_if, br_table, return, unreachable, call, call_indirect, a_block, a_loop, Code, done, plain, nest, branch, FuncType, Module}
 use Rattle.wa_types.specs.Modules.{func_imports, func_type_at, type_at, declared_locals, defined_at}
 use Rattle.wa_types.specs.Pausing.{calls_of}
 use Rattle.wa_model.specs.Store.{Store, value_at, Did, works, fails, lacks, takes, gives, act, accessed}
 use Rattle.wa_model.specs.Configuration.{Label, block_label, Activation, Configuration, running, waiting}
-use Rattle.wa_model.specs.Step.{Next, steps, asks, returns, traps, stuck, result_count, leave, jump, finish, did, with_number, choose, arity_of, zero_of, entered, invoke, param_count, same_types, same_func_type, through, memory_max, step_at, step}
+use Rattle.wa_model.specs.Step.{Next, steps, asks, returns, traps, stuck, result_count, leave, jump, finish, did, with_number, choose, arity_of, zero_of, entered, invoke, param_count}
+use Rattle.wa_model.specs.Step.{same_types, same_func_type, through, memory_max, step_at, step}
 use Rattle.wa_model.specs.Untouched.{access_in}
-use Rattle.slim_form.specs.Slim.{Held, Free, Covers, Shape, more, Takes, takes_none, takes_same, takes_one, kept, Reaches, Terms, Slims, ends, does, gets, sets, tees, keeps, uses, saves, narrows, forgets, leaps, leaps_if, leaps_by, returns_here, halts, calls, calls_by, blocks, loops, decides}
-use Rattle.slim_form.specs.Beside.{Sides, Twin, both_import, both_defined, Together, Agree, Woven, woven, woven_both, woven_kept, Around, in_body, in_block, in_loop, Waits, waits, Unders, bottom, above, Beside, beside, Asked, ProperCode, lean_plain, lean_code, head_of, sets_local, SameNext, way_ends, way_same, way_sets, ComesToo, it_steps, it_asks, it_returns, it_traps, it_is_stuck}
-use Rattle.slim_form.proofs.Acts.{GivesSo, gives_so}
-use Rattle.slim_form.proofs.Locals.{at_same, agree_set, agree_wider, agree_kept, agree_saved, woven_set, plainly_same, plainly_none, taken_same, taken_kept, more_woven, more_kept, risen, risen_kept}
+use Rattle.slim_form.specs.Slim.{Held, Free, Covers, Shape, more, Takes, takes_none, takes_same, takes_one, kept, Reaches, Terms, Slims, ends, does, gets, sets, tees, keeps, uses, saves}
+use Rattle.slim_form.specs.Slim.{narrows, forgets, leaps, leaps_if, leaps_by, returns_here, halts, calls, calls_by, blocks, loops, decides}
+use Rattle.slim_runs.specs.Beside.{Sides, Twin, both_import, both_defined, Together, Agree, Woven, woven, woven_both, woven_kept, Around, in_body, in_block, in_loop, Waits, waits, Unders}
+use Rattle.slim_runs.specs.Beside.{bottom, above, Beside, beside, Asked, ProperCode, lean_plain, lean_code, head_of, sets_local, SameNext, way_ends, way_same, way_sets, ComesToo, it_steps}
+use Rattle.slim_runs.specs.Beside.{it_asks, it_returns, it_traps, it_is_stuck}
+use Rattle.slim_runs.proofs.ResultCounts.{GivesSo, gives_so}
+use Rattle.slim_form.proofs.Shapes.{plainly_none, taken_kept, more_kept, risen_kept}
+use Rattle.slim_runs.proofs.Locals.{at_same, agree_set, agree_wider, agree_kept, agree_saved, woven_set, plainly_same, taken_same, more_woven, risen}
 
 -- what both sides share while a function runs
 pub record Ctx (w : Sides) : Type 0 where
@@ -150,7 +157,8 @@ module _ (w : Sides) where
   together c c' spare least _ _ sn be e flat_stuck = it_is_stuck
 
   -- one local set before
-  later : (c c' c2 : Configuration) (spare : ℕ) (least : ℕ → ℕ) (o : Next) → sets_local c'.here.code ≡ true → step p c' ≡ steps 0 c2 → ComesToo w c c2 spare least o → ComesToo w c c' (suc spare) least o
+  later : (c c' c2 : Configuration) (spare : ℕ) (least : ℕ → ℕ) (o : Next) → sets_local c'.here.code ≡ true → step p c' ≡ steps 0 c2 → ComesToo w c c2 spare least o
+      → ComesToo w c c' (suc spare) least o
   later c c' c2 spare least _ is e (it_steps {k = k} cost left to go le mo bs) = it_steps (1 + cost) left to (way_sets is e go refl) (omega arith) (omega arith) bs
   later c c' c2 spare least _ is e (it_asks cost at to go mo sn st a) = it_asks (1 + cost) at to (way_sets is e go refl) (omega arith) sn st a
   later c c' c2 spare least _ is e (it_returns cost at go mo sn st) = it_returns (1 + cost) at (way_sets is e go refl) (omega arith) sn st
@@ -179,12 +187,14 @@ module _ (w : Sides) where
 
   module _ (ok : Together w) where
     -- a place where both sides stand
-    at : (x : Ctx w) (g : Free) → Covers x.free g → (n : ℕ) (ts : List Free) (out : Free) (sh : Shape) (ops ops' : List Value) (code code' : Code) (labels labels' : List Label) → Woven x.ls sh ops ops' → Slims (t x) n ts out g sh code code' → Around (t x) n ts out labels labels'
+    at : (x : Ctx w) (g : Free) → Covers x.free g → (n : ℕ) (ts : List Free) (out : Free) (sh : Shape) (ops ops' : List Value) (code code' : Code) (labels labels' : List Label)
+        → Woven x.ls sh ops ops' → Slims (t x) n ts out g sh code code' → Around (t x) n ts out labels labels'
         → Beside w (kept sh) (cq x ops code labels) (cp x ops' code' labels')
     at x g co n ts out sh ops ops' code code' labels labels' wo sl ar = beside x.s x.fn g refl x.size (agree_wider x.free g x.ls x.ls' co x.agree) wo sl ar x.us
 
     leaves : (x : Ctx w) (k spare : ℕ) (ops : List Value) → Same w spare (leave k x.s ops (result_count q x.fn) x.under) (leave k x.s ops (result_count p x.fn) x.under')
-    leaves x k spare ops = subst (λ (u : FuncType). Same w spare (leave k x.s ops (result_count q x.fn) x.under) (leave k x.s ops (length u.results) x.under')) (sym (ok.func_type x.fn)) (by_us x.under x.under' x.us)
+    leaves x k spare ops = subst (λ (u : FuncType). Same w spare (leave k x.s ops (result_count q x.fn) x.under) (leave k x.s ops (length u.results) x.under'))
+        (sym (ok.func_type x.fn)) (by_us x.under x.under' x.us)
       where
         by_us : (under under' : List Activation) → Unders w under under' → Same w spare (leave k x.s ops (result_count q x.fn) under) (leave k x.s ops (result_count q x.fn) under')
         by_us _ _ bottom = same_return
@@ -195,7 +205,8 @@ module _ (w : Sides) where
     jumps x k spare _ _ _ ops _ _ l re in_body = leaves x k spare ops
     jumps x k spare _ _ _ ops _ _ zero re (in_block {n = n} {ts = ts} {out = out} {g = g} h arity sk sk' em sl ar) = same_step (omega arith) (at x g re n ts out [] _ _ _ _ _ _ woven sl ar)
     jumps x k spare _ _ _ ops _ _ (suc l) re (in_block {n = n} {ts = ts} {out = out} {labels = lb} {labels' = lb'} h arity sk sk' em sl ar) = jumps x k spare n ts out ops lb lb' l re ar
-    jumps x k spare _ _ _ ops _ _ zero re (in_loop {n = n} {m = m} {ts = ts} {out = out} {head = head} {g = g} h em sl sl2 ar) = same_step (omega arith) (at x head re m (head ∷ ts) g [] _ _ _ _ _ _ woven sl (in_loop h em sl sl2 ar))
+    jumps x k spare _ _ _ ops _ _ zero re (in_loop {n = n} {m = m} {ts = ts} {out = out} {head = head} {g = g} h em sl sl2 ar) =
+        same_step (omega arith) (at x head re m (head ∷ ts) g [] _ _ _ _ _ _ woven sl (in_loop h em sl sl2 ar))
     jumps x k spare _ _ _ ops _ _ (suc l) re (in_loop {n = n} {ts = ts} {out = out} {labels = lb} {labels' = lb'} h em sl sl2 ar) = jumps x k spare n ts out ops lb lb' l re ar
 
     finishes : (x : Ctx w) (spare : ℕ) (n : ℕ) (ts : List Free) (out : Free) (ops : List Value) (labels labels' : List Label) → Covers x.free out → Around (t x) n ts out labels labels'
@@ -220,20 +231,26 @@ module _ (w : Sides) where
         args : List Value
         args = reverse (take params ops)
 
-        by_twin : Twin w y → Same w spare (invoke q x.s x.fn x.under x.ls own ops rest labels params y (defined_at q y)) (invoke p x.s x.fn x.under' x.ls' own ops rest' labels' params y (defined_at p y))
+        by_twin : Twin w y → Same w spare (invoke q x.s x.fn x.under x.ls own ops rest labels params y (defined_at q y))
+            (invoke p x.s x.fn x.under' x.ls' own ops rest' labels' params y (defined_at p y))
         by_twin (both_import e e') =
             subst (λ o. Same w spare (invoke q x.s x.fn x.under x.ls own ops rest labels params y o) (invoke p x.s x.fn x.under' x.ls' own ops rest' labels' params y (defined_at p y))) (sym e)
-            (subst (λ o. Same w spare (if nat_lt y (func_imports q) then asks params y args (record { store = x.s; here = a; under = x.under }) else stuck) (invoke p x.s x.fn x.under' x.ls' own ops rest' labels' params y o)) (sym e')
-            (subst (λ n. Same w spare (if nat_lt y (func_imports q) then asks params y args (record { store = x.s; here = a; under = x.under }) else stuck) (if nat_lt y n then asks params y args (record { store = x.s; here = a'; under = x.under' }) else stuck)) (sym ok.imports)
+            (subst (λ o. Same w spare (if nat_lt y (func_imports q) then asks params y args (record { store = x.s; here = a; under = x.under }) else stuck)
+            (invoke p x.s x.fn x.under' x.ls' own ops rest' labels' params y o)) (sym e')
+            (subst (λ n. Same w spare (if nat_lt y (func_imports q) then asks params y args (record { store = x.s; here = a; under = x.under }) else stuck)
+            (if nat_lt y n then asks params y args (record { store = x.s; here = a'; under = x.under' }) else stuck)) (sym ok.imports)
             (by_import (nat_lt y (func_imports q)))))
           where
-            by_import : (b : Bool) → Same w spare (if b then asks params y args (record { store = x.s; here = a; under = x.under }) else stuck) (if b then asks params y args (record { store = x.s; here = a'; under = x.under' }) else stuck)
+            by_import : (b : Bool) → Same w spare (if b then asks params y args (record { store = x.s; here = a; under = x.under }) else stuck)
+                (if b then asks params y args (record { store = x.s; here = a'; under = x.under' }) else stuck)
             by_import true = same_ask (record { store = refl; stack = above wt x.us })
             by_import false = flat_stuck
         by_twin (both_defined g g' e e' zeros size out f sl) =
             subst (λ o. Same w spare (invoke q x.s x.fn x.under x.ls own ops rest labels params y o) (invoke p x.s x.fn x.under' x.ls' own ops rest' labels' params y (defined_at p y))) (sym e)
-            (subst (λ o. Same w spare (if nat_lt (length x.under + 1) 4096 then steps params (entered x.s (a ∷ x.under) args y g) else traps params StackExhausted x.s) (invoke p x.s x.fn x.under' x.ls' own ops rest' labels' params y o)) (sym e')
-            (subst (λ n. Same w spare (if nat_lt (length x.under + 1) 4096 then steps params (entered x.s (a ∷ x.under) args y g) else traps params StackExhausted x.s) (if nat_lt (n + 1) 4096 then steps params (entered x.s (a' ∷ x.under') args y g') else traps params StackExhausted x.s)) (sym (unders_long w x.under x.under' x.us))
+            (subst (λ o. Same w spare (if nat_lt (length x.under + 1) 4096 then steps params (entered x.s (a ∷ x.under) args y g) else traps params StackExhausted x.s)
+            (invoke p x.s x.fn x.under' x.ls' own ops rest' labels' params y o)) (sym e')
+            (subst (λ n. Same w spare (if nat_lt (length x.under + 1) 4096 then steps params (entered x.s (a ∷ x.under) args y g) else traps params StackExhausted x.s)
+            (if nat_lt (n + 1) 4096 then steps params (entered x.s (a' ∷ x.under') args y g') else traps params StackExhausted x.s)) (sym (unders_long w x.under x.under' x.us))
             (by_room (nat_lt (length x.under + 1) 4096))))
           where
             zs : List Value
@@ -253,7 +270,8 @@ module _ (w : Sides) where
                 let l4 = length-take-le params ops enough in
                 omega arith
 
-            by_room : (b : Bool) → Same w spare (if b then steps params (entered x.s (a ∷ x.under) args y g) else traps params StackExhausted x.s) (if b then steps params (entered x.s (a' ∷ x.under') args y g') else traps params StackExhausted x.s)
+            by_room : (b : Bool) → Same w spare (if b then steps params (entered x.s (a ∷ x.under) args y g) else traps params StackExhausted x.s)
+                (if b then steps params (entered x.s (a' ∷ x.under') args y g') else traps params StackExhausted x.s)
             by_room false = same_trap
             by_room true =
                 same_step (omega arith)
@@ -281,26 +299,32 @@ module _ (w : Sides) where
         n = param_count (type_at w.flat sort)
 
         by_type : (b : Bool) → same_func_type (func_type_at w.flat y) (type_at w.flat sort) ≡ b
-            → Same w spare (if b then invoke w.flat x.s x.fn x.under x.ls own ops rest labels n y (defined_at w.flat y) else traps n TypeMismatch x.s) (if b then invoke w.slim x.s x.fn x.under' x.ls' own ops rest' labels' n y (defined_at w.slim y) else traps n TypeMismatch x.s)
+            → Same w spare (if b then invoke w.flat x.s x.fn x.under x.ls own ops rest labels n y (defined_at w.flat y) else traps n TypeMismatch x.s)
+            (if b then invoke w.slim x.s x.fn x.under' x.ls' own ops rest' labels' n y (defined_at w.slim y) else traps n TypeMismatch x.s)
         by_type false e = same_trap
         by_type true e = invokes x spare own ops rest rest' labels labels' n y enough (sym (same_params (func_type_at w.flat y) (type_at w.flat sort) e)) (wt n)
 
     -- ---- an instruction that touches no local
 
-    dids : (x : Ctx w) (b : Basic) (spare : ℕ) (n : ℕ) (ts : List Free) (out : Free) (sh : Shape) (ops ops' : List Value) (rest rest' : Code) (labels labels' : List Label) → kept sh ≤ spare → Woven x.ls sh ops ops'
-        → Slims (t x) n ts out x.free (more (gives b) sh) rest rest' → Around (t x) n ts out labels labels' → (a : Did) → GivesSo (gives b) a → Same w spare (did x.fn x.under x.ls labels rest x.s ops a) (did x.fn x.under' x.ls' labels' rest' x.s ops' a)
+    dids : (x : Ctx w) (b : Basic) (spare : ℕ) (n : ℕ) (ts : List Free) (out : Free) (sh : Shape) (ops ops' : List Value) (rest rest' : Code) (labels labels' : List Label)
+        → kept sh ≤ spare → Woven x.ls sh ops ops'
+        → Slims (t x) n ts out x.free (more (gives b) sh) rest rest' → Around (t x) n ts out labels labels' → (a : Did) → GivesSo (gives b) a
+        → Same w spare (did x.fn x.under x.ls labels rest x.s ops a) (did x.fn x.under' x.ls' labels' rest' x.s ops' a)
     dids x b spare n ts out sh ops ops' rest rest' labels labels' le wo sl ar (works s2 vs) g =
         let e = more_kept (gives b) sh in
-        same_step (omega arith) (at (with_store x s2) x.free (λ y fr. fr) n ts out (more (gives b) sh) (vs ++ ops) (vs ++ ops') rest rest' labels labels' (subst (λ n. Woven x.ls (more n sh) (vs ++ ops) (vs ++ ops')) g (more_woven x.ls sh vs ops ops' wo)) sl ar)
+        same_step (omega arith) (at (with_store x s2) x.free (λ y fr. fr) n ts out (more (gives b) sh) (vs ++ ops) (vs ++ ops') rest rest' labels labels'
+        (subst (λ n. Woven x.ls (more n sh) (vs ++ ops) (vs ++ ops')) g (more_woven x.ls sh vs ops ops' wo)) sl ar)
     dids x b spare n ts out sh ops ops' rest rest' labels labels' le wo sl ar (fails u) g = same_trap
     dids x b spare n ts out sh ops ops' rest rest' labels labels' le wo sl ar lacks g = flat_stuck
 
     -- ---- the whole table
 
-    abbrev ctx : (s : Store) (fn : ℕ) (under under' : List Activation) → Unders w under under' → (ls : List Value) → length ls ≡ (w.terms fn).size → (f : Free) (ls' : List Value) → Agree f ls ls' → Ctx w
+    abbrev ctx : (s : Store) (fn : ℕ) (under under' : List Activation) → Unders w under under' → (ls : List Value) → length ls ≡ (w.terms fn).size → (f : Free) (ls' : List Value)
+        → Agree f ls ls' → Ctx w
     ctx s fn under under' us ls size f ls' ag = record { s = s; fn = fn; under = under; under' = under'; us = us; free = f; ls = ls; ls' = ls'; size = size; agree = ag }
 
-    number_too : (spare : ℕ) (ops : List Value) (go go' : ℕ → List Value → Next) → ((v : ℕ) (below : List Value) → ops ≡ V.I32 v ∷ below → Same w spare (go v below) (go' v below)) → Same w spare (with_number ops go) (with_number ops go')
+    number_too : (spare : ℕ) (ops : List Value) (go go' : ℕ → List Value → Next) → ((v : ℕ) (below : List Value) → ops ≡ V.I32 v ∷ below → Same w spare (go v below) (go' v below))
+        → Same w spare (with_number ops go) (with_number ops go')
     number_too spare [] go go' h = flat_stuck
     number_too spare (V.I32 v ∷ ops) go go' h = h v ops refl
     number_too spare (V.I64 v ∷ ops) go go' h = flat_stuck
@@ -318,82 +342,118 @@ module _ (w : Sides) where
         Lockstep : (spare : ℕ) (ops : List Value) (code code' : Code) (labels labels' : List Label) → Type 0
         Lockstep spare ops code code' labels labels' = Same w spare (step_at q s fn under ls ops labels code) (step_at p s fn under' ls' ops labels' code')
 
-        leap_if : (spare l : ℕ) (n : ℕ) (ts : List Free) (out : Free) (ops : List Value) (rest rest' : Code) (labels labels' : List Label) → Reaches f ts l → Slims (w.terms fn) n ts out f [] rest rest' → Around (w.terms fn) n ts out labels labels'
+        leap_if : (spare l : ℕ) (n : ℕ) (ts : List Free) (out : Free) (ops : List Value) (rest rest' : Code) (labels labels' : List Label) → Reaches f ts l
+            → Slims (w.terms fn) n ts out f [] rest rest' → Around (w.terms fn) n ts out labels labels'
             → Same w spare (step_at q s fn under ls ops labels (plain (br_if l) rest)) (step_at p s fn under' ls' ops labels' (plain (br_if l) rest'))
         leap_if spare l n ts out ops rest rest' labels labels' re sl ar =
-            number_too spare ops _ _ (λ v below e. chooses_too spare v _ _ _ _ (jumps x 0 spare n ts out below labels labels' l re ar) (same_step (omega arith) (at x f (λ y fr. fr) n ts out [] below below rest rest' labels labels' woven sl ar)))
+            number_too spare ops _ _ (λ v below e. chooses_too spare v _ _ _ _ (jumps x 0 spare n ts out below labels labels' l re ar)
+            (same_step (omega arith) (at x f (λ y fr. fr) n ts out [] below below rest rest' labels labels' woven sl ar)))
 
-        leap_by : (spare : ℕ) (es : List ℕ) (l : ℕ) (n : ℕ) (ts : List Free) (out : Free) (ops : List Value) (rest rest' : Code) (labels labels' : List Label) → ((n : ℕ) → Reaches f ts n) → Around (w.terms fn) n ts out labels labels'
+        leap_by : (spare : ℕ) (es : List ℕ) (l : ℕ) (n : ℕ) (ts : List Free) (out : Free) (ops : List Value) (rest rest' : Code) (labels labels' : List Label)
+            → ((n : ℕ) → Reaches f ts n) → Around (w.terms fn) n ts out labels labels'
             → Same w spare (step_at q s fn under ls ops labels (plain (br_table es l) rest)) (step_at p s fn under' ls' ops labels' (plain (br_table es l) rest'))
         leap_by spare es l n ts out ops rest rest' labels labels' re ar =
             number_too spare ops _ _ (λ v below e. jumps x (length es + 1) spare n ts out below labels labels' (unwrap_or (slice_get es v) l) (re (unwrap_or (slice_get es v) l)) ar)
 
-        calls_too : (spare y : ℕ) (n : ℕ) (ts : List Free) (out : Free) (ops : List Value) (rest rest' : Code) (labels labels' : List Label) → param_count (func_type_at q y) ≤ length ops → Held f ((w.terms fn).fixed (length (calls_of rest) + n)) → Slims (w.terms fn) n ts out f [] rest rest' → Around (w.terms fn) n ts out labels labels'
+        calls_too : (spare y : ℕ) (n : ℕ) (ts : List Free) (out : Free) (ops : List Value) (rest rest' : Code) (labels labels' : List Label)
+            → param_count (func_type_at q y) ≤ length ops → Held f ((w.terms fn).fixed (length (calls_of rest) + n)) → Slims (w.terms fn) n ts out f [] rest rest'
+            → Around (w.terms fn) n ts out labels labels'
             → Same w spare (step_at q s fn under ls ops labels (plain (call y) rest)) (step_at p s fn under' ls' ops labels' (plain (call y) rest'))
         calls_too spare y n ts out ops rest rest' labels labels' enough ac sl ar =
-            subst (λ (u : FuncType). Same w spare (step_at q s fn under ls ops labels (plain (call y) rest)) (invoke p s fn under' ls' [] ops rest' labels' (param_count u) y (defined_at p y))) (sym (ok.func_type y))
+            subst (λ (u : FuncType). Same w spare (step_at q s fn under ls ops labels (plain (call y) rest))
+            (invoke p s fn under' ls' [] ops rest' labels' (param_count u) y (defined_at p y))) (sym (ok.func_type y))
             (invokes x spare [] ops rest rest' labels labels' (param_count (func_type_at q y)) y enough refl (waits fn f ac ls ls' _ _ size ag sl ar))
 
-        calls_by_too : (spare sort : ℕ) (n : ℕ) (ts : List Free) (out : Free) (ops : List Value) (rest rest' : Code) (labels labels' : List Label) → suc (param_count (type_at q sort)) ≤ length ops → Held f ((w.terms fn).fixed (length (calls_of rest) + n)) → Slims (w.terms fn) n ts out f [] rest rest' → Around (w.terms fn) n ts out labels labels'
+        calls_by_too : (spare sort : ℕ) (n : ℕ) (ts : List Free) (out : Free) (ops : List Value) (rest rest' : Code) (labels labels' : List Label)
+            → suc (param_count (type_at q sort)) ≤ length ops → Held f ((w.terms fn).fixed (length (calls_of rest) + n)) → Slims (w.terms fn) n ts out f [] rest rest'
+            → Around (w.terms fn) n ts out labels labels'
             → Same w spare (step_at q s fn under ls ops labels (plain (call_indirect sort) rest)) (step_at p s fn under' ls' ops labels' (plain (call_indirect sort) rest'))
         calls_by_too spare sort n ts out ops rest rest' labels labels' enough ac sl ar =
-            number_too spare ops _ _ (λ v below e. throughs x spare (V.I32 v ∷ []) below rest rest' labels labels' sort (let l : length ops ≡ suc (length below) = ap length e in omega arith) (λ params. waits fn f ac ls ls' _ _ size ag sl ar) (slice_get s.table v))
+            number_too spare ops _ _ (λ v below e. throughs x spare (V.I32 v ∷ []) below rest rest' labels labels' sort (let l : length ops ≡ suc (length below) = ap length e in
+            omega arith) (λ params. waits fn f ac ls ls' _ _ size ag sl ar) (slice_get s.table v))
 
-        arms_too : (spare : ℕ) (r : Option ValType) (g : Free) (n : ℕ) (ts : List Free) (out : Free) (ops : List Value) (a a' b b' rest rest' : Code) (labels labels' : List Label) → Slims (w.terms fn) (length (calls_of b) + (length (calls_of rest) + n)) (g ∷ ts) g f [] a a' → Slims (w.terms fn) (length (calls_of rest) + n) (g ∷ ts) g f [] b b' → Slims (w.terms fn) n ts out g [] rest rest' → Around (w.terms fn) n ts out labels labels'
+        arms_too : (spare : ℕ) (r : Option ValType) (g : Free) (n : ℕ) (ts : List Free) (out : Free) (ops : List Value) (a a' b b' rest rest' : Code) (labels labels' : List Label)
+            → Slims (w.terms fn) (length (calls_of b) + (length (calls_of rest) + n)) (g ∷ ts) g f [] a a' → Slims (w.terms fn) (length (calls_of rest) + n) (g ∷ ts) g f [] b b'
+            → Slims (w.terms fn) n ts out g [] rest rest' → Around (w.terms fn) n ts out labels labels'
             → Same w spare (step_at q s fn under ls ops labels (branch r a b rest)) (step_at p s fn under' ls' ops labels' (branch r a' b' rest'))
         arms_too spare r g n ts out ops a a' b b' rest rest' labels labels' sa sb sl ar = number_too spare ops _ _ (λ v below e. by v below)
           where
-            arm : (m : ℕ) (below : List Value) (c c' sk sk' : Code) → m ≡ length (calls_of sk) + (length (calls_of rest) + n) → Slims (w.terms fn) m (g ∷ ts) g f [] c c' → Same w spare (steps 0 (running s fn under ls below c (block_label (length below) (arity_of r) rest sk ∷ labels))) (steps 0 (running s fn under' ls' below c' (block_label (length below) (arity_of r) rest' sk' ∷ labels')))
+            arm : (m : ℕ) (below : List Value) (c c' sk sk' : Code) → m ≡ length (calls_of sk) + (length (calls_of rest) + n) → Slims (w.terms fn) m (g ∷ ts) g f [] c c'
+                → Same w spare (steps 0 (running s fn under ls below c (block_label (length below) (arity_of r) rest sk ∷ labels)))
+                (steps 0 (running s fn under' ls' below c' (block_label (length below) (arity_of r) rest' sk' ∷ labels')))
             arm m below c c' sk sk' em sc = same_step (omega arith) (at x f (λ y fr. fr) m (g ∷ ts) g [] below below c c' _ _ woven sc (in_block (length below) (arity_of r) sk sk' em sl ar))
 
-            by : (v : ℕ) (below : List Value) → Same w spare (steps 0 (choose v (running s fn under ls below a (block_label (length below) (arity_of r) rest b ∷ labels)) (running s fn under ls below b (block_label (length below) (arity_of r) rest done ∷ labels))))
-                (steps 0 (choose v (running s fn under' ls' below a' (block_label (length below) (arity_of r) rest' b' ∷ labels')) (running s fn under' ls' below b' (block_label (length below) (arity_of r) rest' done ∷ labels'))))
+            by : (v : ℕ) (below : List Value)
+                → Same w spare (steps 0 (choose v (running s fn under ls below a (block_label (length below) (arity_of r) rest b ∷ labels))
+                (running s fn under ls below b (block_label (length below) (arity_of r) rest done ∷ labels))))
+                (steps 0 (choose v (running s fn under' ls' below a' (block_label (length below) (arity_of r) rest' b' ∷ labels'))
+                (running s fn under' ls' below b' (block_label (length below) (arity_of r) rest' done ∷ labels'))))
             by zero below = arm _ below b b' done done (no_calls (length (calls_of rest) + n)) sb
             by (suc v) below = arm _ below a a' b b' refl sa
 
       -- in lockstep, with the same operands
-      plain_case : (ls ls' : List Value) (sh : Shape) (ops ops' : List Value) (code code' : Code) (labels labels' : List Label) → head_of code' ≡ head_of code → access_in ops code' ≡ access_in ops code → Same w (kept sh) (step_at q s fn under ls ops labels code) (step_at p s fn under' ls' ops labels' code') → ops' ≡ ops
+      plain_case : (ls ls' : List Value) (sh : Shape) (ops ops' : List Value) (code code' : Code) (labels labels' : List Label) → head_of code' ≡ head_of code
+          → access_in ops code' ≡ access_in ops code → Same w (kept sh) (step_at q s fn under ls ops labels code) (step_at p s fn under' ls' ops labels' code') → ops' ≡ ops
           → ComesToo w (running s fn under ls ops code labels) (running s fn under' ls' ops' code' labels') (kept sh) (lean_code (w.terms fn) code) (step_at q s fn under ls ops labels code)
       plain_case ls ls' sh ops ops' code code' labels labels' hd ac sm e =
-          subst (λ us. ComesToo w (running s fn under ls ops code labels) (running s fn under' ls' us code' labels') (kept sh) (lean_code (w.terms fn) code) (step_at q s fn under ls ops labels code)) (sym e)
+          subst (λ us. ComesToo w (running s fn under ls ops code labels) (running s fn under' ls' us code' labels') (kept sh) (lean_code (w.terms fn) code)
+          (step_at q s fn under ls ops labels code)) (sym e)
           (together _ _ (kept sh) (lean_code (w.terms fn) code) _ _ (record { store = refl; head = hd; access = ac }) (lean_below w fn code) refl sm)
 
       -- The whole table. Slots that are set on the slim side alone come first.
-      pub table : (ls : List Value) (size : length ls ≡ (w.terms fn).size) (f : Free) (ls' : List Value) (ag : Agree f ls ls') (n : ℕ) (ts : List Free) (out : Free) (sh : Shape) (ops ops' : List Value) (code code' : Code) (labels labels' : List Label)
+      pub table : (ls : List Value) (size : length ls ≡ (w.terms fn).size) (f : Free) (ls' : List Value) (ag : Agree f ls ls') (n : ℕ) (ts : List Free) (out : Free) (sh : Shape)
+          (ops ops' : List Value) (code code' : Code) (labels labels' : List Label)
           → Woven ls sh ops ops' → Slims (w.terms fn) n ts out f sh code code' → Around (w.terms fn) n ts out labels labels' → ProperCode q ops code
           → ComesToo w (running s fn under ls ops code labels) (running s fn under' ls' ops' code' labels') (kept sh) (lean_code (w.terms fn) code) (step_at q s fn under ls ops labels code)
       table ls size f ls' ag n ts out sh ops ops' _ _ labels labels' wo (ends co pl) ar pr =
-          plain_case ls ls' sh ops ops' done done labels labels' refl refl (finishes (ctx s fn under under' us ls size f ls' ag) (kept sh) n ts out ops labels labels' co ar) (plainly_same ls sh ops ops' pl wo)
+          plain_case ls ls' sh ops ops' done done labels labels' refl refl (finishes (ctx s fn under under' us ls size f ls' ag) (kept sh) n ts out ops labels labels' co ar)
+          (plainly_same ls sh ops ops' pl wo)
       table ls size f ls' ag n ts out sh ops ops' _ _ labels labels' wo (does {sh2 = sh2} {rest = rest} {rest' = rest'} b ta sl) ar pr =
           let h = taken_same ls (takes b) sh sh2 ops ops' ta wo in
           let e = taken_kept (takes b) sh sh2 ta in
-          together (running s fn under ls ops (plain (basic b) rest) labels) (running s fn under' ls' ops' (plain (basic b) rest') labels') (kept sh) (λ k. k) _ _ (record { store = refl; head = refl; access = accessed_same b ops ops' h.0 }) (λ k. omega arith) refl
-          (subst (λ m. Same w (kept sh) (step_at q s fn under ls ops labels (plain (basic b) rest)) (did fn under' ls' labels' rest' s (drop (takes b) ops') (act m b s (take (takes b) ops')))) (sym ok.most)
+          together (running s fn under ls ops (plain (basic b) rest) labels) (running s fn under' ls' ops' (plain (basic b) rest') labels') (kept sh) (λ k. k) _ _ (record {
+            store =
+                refl;
+            head = refl;
+            access = accessed_same b ops ops' h.0;
+          }) (λ k. omega arith) refl
+          (subst (λ m. Same w (kept sh) (step_at q s fn under ls ops labels (plain (basic b) rest))
+          (did fn under' ls' labels' rest' s (drop (takes b) ops') (act m b s (take (takes b) ops')))) (sym ok.most)
           (subst (λ vs. Same w (kept sh) (step_at q s fn under ls ops labels (plain (basic b) rest)) (did fn under' ls' labels' rest' s (drop (takes b) ops') (act (memory_max q) b s vs))) (sym h.0)
-          (dids (ctx s fn under under' us ls size f ls' ag) b (kept sh) n ts out sh2 (drop (takes b) ops) (drop (takes b) ops') rest rest' labels labels' (omega arith) h.1 sl ar (act (memory_max q) b s (take (takes b) ops)) (gives_so (memory_max q) b s (take (takes b) ops)))))
+          (dids (ctx s fn under under' us ls size f ls' ag) b (kept sh) n ts out sh2 (drop (takes b) ops) (drop (takes b) ops') rest rest' labels labels' (omega arith) h.1 sl ar
+          (act (memory_max q) b s (take (takes b) ops)) (gives_so (memory_max q) b s (take (takes b) ops)))))
       table ls size f ls' ag n ts out sh ops ops' _ _ labels labels' wo (gets {rest = rest} {rest' = rest'} y fr sl) ar pr =
-          together (running s fn under ls ops (plain (local_get y) rest) labels) (running s fn under' ls' ops' (plain (local_get y) rest') labels') (kept sh) (lean_code (w.terms fn) (plain (local_get y) rest)) _ _ (record { store = refl; head = refl; access = refl }) (lean_below w fn (plain (local_get y) rest)) refl
+          together (running s fn under ls ops (plain (local_get y) rest) labels) (running s fn under' ls' ops' (plain (local_get y) rest') labels') (kept sh)
+          (lean_code (w.terms fn) (plain (local_get y) rest)) _ _ (record { store = refl; head = refl; access = refl }) (lean_below w fn (plain (local_get y) rest)) refl
           (subst (λ v. Same w (kept sh) (steps 0 (running s fn under ls (value_at ls y ∷ ops) rest labels)) (steps 0 (running s fn under' ls' (v ∷ ops') rest' labels'))) (sym (ag.same y fr))
-          (same_step (omega arith) (at (ctx s fn under under' us ls size f ls' ag) f (λ z fz. fz) n ts out (None ∷ sh) (value_at ls y ∷ ops) (value_at ls y ∷ ops') rest rest' labels labels' (woven_both (value_at ls y) wo) sl ar)))
+          (same_step (omega arith) (at (ctx s fn under under' us ls size f ls' ag) f (λ z fz. fz) n ts out (None ∷ sh) (value_at ls y ∷ ops)
+          (value_at ls y ∷ ops') rest rest' labels labels' (woven_both (value_at ls y) wo) sl ar)))
       table ls size f ls' ag n ts out sh ops ops' _ _ labels labels' wo (sets {sh2 = sh2} {rest = rest} {rest' = rest'} y g co ta la sl) ar pr = by_top ops ops' (topped ls sh sh2 ops ops' ta wo)
         where
-          by_top : (ops ops' : List Value) → Topped ls sh2 ops ops' → ComesToo w (running s fn under ls ops (plain (local_set y) rest) labels) (running s fn under' ls' ops' (plain (local_set y) rest') labels') (kept sh) (lean_code (w.terms fn) (plain (local_set y) rest)) (step_at q s fn under ls ops labels (plain (local_set y) rest))
+          by_top : (ops ops' : List Value) → Topped ls sh2 ops ops' → ComesToo w (running s fn under ls ops (plain (local_set y) rest) labels)
+              (running s fn under' ls' ops' (plain (local_set y) rest') labels') (kept sh) (lean_code (w.terms fn) (plain (local_set y) rest))
+              (step_at q s fn under ls ops labels (plain (local_set y) rest))
           by_top _ _ no_top = it_is_stuck
           by_top _ _ (a_top v {below = below} {below' = below'} wb) =
               let e = taken_kept 1 sh sh2 ta in
-              together (running s fn under ls (v ∷ below) (plain (local_set y) rest) labels) (running s fn under' ls' (v ∷ below') (plain (local_set y) rest') labels') (kept sh) (lean_code (w.terms fn) (plain (local_set y) rest)) _ _ (record { store = refl; head = refl; access = refl }) (lean_below w fn (plain (local_set y) rest)) refl
+              together (running s fn under ls (v ∷ below) (plain (local_set y) rest) labels) (running s fn under' ls' (v ∷ below') (plain (local_set y) rest') labels') (kept sh)
+              (lean_code (w.terms fn) (plain (local_set y) rest)) _ _ (record { store = refl; head = refl; access = refl }) (lean_below w fn (plain (local_set y) rest)) refl
               (same_step (omega arith) (beside s fn g refl (length-set ls y v ∙ size) (agree_set f g ls ls' y v co ag) (woven_set ls y v sh2 below below' la wb) sl ar us))
       table ls size f ls' ag n ts out sh ops ops' _ _ labels labels' wo (tees {sh2 = sh2} {rest = rest} {rest' = rest'} y g co ta la sl) ar pr = by_top ops ops' (topped ls sh sh2 ops ops' ta wo)
         where
-          by_top : (ops ops' : List Value) → Topped ls sh2 ops ops' → ComesToo w (running s fn under ls ops (plain (local_tee y) rest) labels) (running s fn under' ls' ops' (plain (local_tee y) rest') labels') (kept sh) (lean_code (w.terms fn) (plain (local_tee y) rest)) (step_at q s fn under ls ops labels (plain (local_tee y) rest))
+          by_top : (ops ops' : List Value) → Topped ls sh2 ops ops' → ComesToo w (running s fn under ls ops (plain (local_tee y) rest) labels)
+              (running s fn under' ls' ops' (plain (local_tee y) rest') labels') (kept sh) (lean_code (w.terms fn) (plain (local_tee y) rest))
+              (step_at q s fn under ls ops labels (plain (local_tee y) rest))
           by_top _ _ no_top = it_is_stuck
           by_top _ _ (a_top v {below = below} {below' = below'} wb) =
               let e = taken_kept 1 sh sh2 ta in
-              together (running s fn under ls (v ∷ below) (plain (local_tee y) rest) labels) (running s fn under' ls' (v ∷ below') (plain (local_tee y) rest') labels') (kept sh) (λ k. k) _ _ (record { store = refl; head = refl; access = refl }) (λ k. omega arith) refl
+              together (running s fn under ls (v ∷ below) (plain (local_tee y) rest) labels) (running s fn under' ls' (v ∷ below') (plain (local_tee y) rest') labels') (kept sh)
+              (λ k. k) _ _ (record { store = refl; head = refl; access = refl }) (λ k. omega arith) refl
               (same_step (omega arith) (beside s fn g refl (length-set ls y v ∙ size) (agree_set f g ls ls' y v co ag) (woven_both v (woven_set ls y v sh2 below below' la wb)) sl ar us))
       table ls size f ls' ag n ts out sh ops ops' _ code' labels labels' wo (keeps {sh2 = sh2} {rest = rest} y g is lt co gy ta la sl) ar pr = by_top ops ops' (topped ls sh sh2 ops ops' ta wo)
         where
-          by_top : (ops ops' : List Value) → Topped ls sh2 ops ops' → ComesToo w (running s fn under ls ops (plain (local_set y) rest) labels) (running s fn under' ls' ops' code' labels') (kept sh) (lean_code (w.terms fn) (plain (local_set y) rest)) (step_at q s fn under ls ops labels (plain (local_set y) rest))
+          by_top : (ops ops' : List Value) → Topped ls sh2 ops ops' → ComesToo w (running s fn under ls ops (plain (local_set y) rest) labels)
+              (running s fn under' ls' ops' code' labels') (kept sh) (lean_code (w.terms fn) (plain (local_set y) rest)) (step_at q s fn under ls ops labels (plain (local_set y) rest))
           by_top _ _ no_top = it_is_stuck
           by_top _ _ (a_top v {below = below} {below' = below'} wb) =
               let e = taken_kept 1 sh sh2 ta in
@@ -409,28 +469,43 @@ module _ (w : Sides) where
       table ls size f ls' ag n ts out _ _ _ code _ labels labels' (woven_kept {ops = ops} {ops' = ops'} y v ev wo) (saves {sh = sh} {code' = code'} z g lt co sl) ar pr =
           later _ _ (running s fn under' (slice_set ls' z v) ops' code' labels') (kept sh) (lean_code (w.terms fn) code) _ refl refl
           (table ls size g (slice_set ls' z v) (agree_saved f g ls ls' z v co (omega arith) ev ag) n ts out sh ops ops' code code' labels labels' wo sl ar pr)
-      table ls size f ls' ag n ts out sh ops ops' code code' labels labels' wo (narrows g co sl) ar pr = table ls size g ls' (agree_wider f g ls ls' co ag) n ts out sh ops ops' code code' labels labels' wo sl ar pr
+      table ls size f ls' ag n ts out sh ops ops' code code' labels labels' wo (narrows g co sl) ar pr =
+          table ls size g ls' (agree_wider f g ls ls' co ag) n ts out sh ops ops' code code' labels labels' wo sl ar pr
       table ls size f ls' ag n ts out sh ops ops' code code' labels labels' wo (forgets pl sl) ar pr =
-          subst (λ us. ComesToo w (running s fn under ls ops code labels) (running s fn under' ls' us code' labels') (kept sh) (lean_code (w.terms fn) code) (step_at q s fn under ls ops labels code)) (sym (plainly_same ls sh ops ops' pl wo))
-          (subst (λ n. ComesToo w (running s fn under ls ops code labels) (running s fn under' ls' ops code' labels') n (lean_code (w.terms fn) code) (step_at q s fn under ls ops labels code)) (sym (plainly_none sh pl))
+          subst (λ us. ComesToo w (running s fn under ls ops code labels) (running s fn under' ls' us code' labels') (kept sh) (lean_code (w.terms fn) code)
+          (step_at q s fn under ls ops labels code)) (sym (plainly_same ls sh ops ops' pl wo))
+          (subst (λ n. ComesToo w (running s fn under ls ops code labels) (running s fn under' ls' ops code' labels') n (lean_code (w.terms fn) code)
+          (step_at q s fn under ls ops labels code)) (sym (plainly_none sh pl))
           (table ls size f ls' ag n ts out [] ops ops code code' labels labels' woven sl ar pr))
       table ls size f ls' ag n ts out sh ops ops' _ _ labels labels' wo (leaps {rest = rest} l pl re) ar pr =
-          plain_case ls ls' sh ops ops' (plain (br l) rest) (plain (br l) rest) labels labels' refl refl (jumps (ctx s fn under under' us ls size f ls' ag) 0 (kept sh) n ts out ops labels labels' l re ar) (plainly_same ls sh ops ops' pl wo)
+          plain_case ls ls' sh ops ops' (plain (br l) rest) (plain (br l) rest) labels labels' refl refl
+          (jumps (ctx s fn under under' us ls size f ls' ag) 0 (kept sh) n ts out ops labels labels' l re ar) (plainly_same ls sh ops ops' pl wo)
       table ls size f ls' ag n ts out sh ops ops' _ _ labels labels' wo (leaps_if {rest = rest} {rest' = rest'} l pl re sl) ar pr =
-          plain_case ls ls' sh ops ops' (plain (br_if l) rest) (plain (br_if l) rest') labels labels' refl refl (leap_if ls size f ls' ag (kept sh) l n ts out ops rest rest' labels labels' re sl ar) (plainly_same ls sh ops ops' pl wo)
+          plain_case ls ls' sh ops ops' (plain (br_if l) rest) (plain (br_if l) rest') labels labels' refl refl
+          (leap_if ls size f ls' ag (kept sh) l n ts out ops rest rest' labels labels' re sl ar) (plainly_same ls sh ops ops' pl wo)
       table ls size f ls' ag n ts out sh ops ops' _ _ labels labels' wo (leaps_by {rest = rest} es l pl re) ar pr =
-          plain_case ls ls' sh ops ops' (plain (br_table es l) rest) (plain (br_table es l) rest) labels labels' refl refl (leap_by ls size f ls' ag (kept sh) es l n ts out ops rest rest labels labels' re ar) (plainly_same ls sh ops ops' pl wo)
+          plain_case ls ls' sh ops ops' (plain (br_table es l) rest) (plain (br_table es l) rest) labels labels' refl refl
+          (leap_by ls size f ls' ag (kept sh) es l n ts out ops rest rest labels labels' re ar) (plainly_same ls sh ops ops' pl wo)
       table ls size f ls' ag n ts out sh ops ops' _ _ labels labels' wo (returns_here {rest = rest} pl) ar pr =
-          plain_case ls ls' sh ops ops' (plain return rest) (plain return rest) labels labels' refl refl (leaves (ctx s fn under under' us ls size f ls' ag) 0 (kept sh) ops) (plainly_same ls sh ops ops' pl wo)
+          plain_case ls ls' sh ops ops' (plain return rest) (plain return rest) labels labels' refl refl (leaves (ctx s fn under under' us ls size f ls' ag) 0 (kept sh) ops)
+          (plainly_same ls sh ops ops' pl wo)
       table ls size f ls' ag n ts out sh ops ops' _ _ labels labels' wo (halts {rest = rest}) ar pr =
-          together (running s fn under ls ops (plain unreachable rest) labels) (running s fn under' ls' ops' (plain unreachable rest) labels') (kept sh) (λ k. k) _ _ (record { store = refl; head = refl; access = refl }) (λ k. omega arith) refl same_trap
+          together (running s fn under ls ops (plain unreachable rest) labels) (running s fn under' ls' ops' (plain unreachable rest) labels') (kept sh) (λ k. k) _ _
+          (record { store = refl; head = refl; access = refl }) (λ k. omega arith) refl same_trap
       table ls size f ls' ag n ts out sh ops ops' _ _ labels labels' wo (calls {rest = rest} {rest' = rest'} y pl ac sl) ar pr =
-          plain_case ls ls' sh ops ops' (plain (call y) rest) (plain (call y) rest') labels labels' refl refl (calls_too ls size f ls' ag (kept sh) y n ts out ops rest rest' labels labels' pr ac sl ar) (plainly_same ls sh ops ops' pl wo)
+          plain_case ls ls' sh ops ops' (plain (call y) rest) (plain (call y) rest') labels labels' refl refl
+          (calls_too ls size f ls' ag (kept sh) y n ts out ops rest rest' labels labels' pr ac sl ar) (plainly_same ls sh ops ops' pl wo)
       table ls size f ls' ag n ts out sh ops ops' _ _ labels labels' wo (calls_by {rest = rest} {rest' = rest'} sort pl ac sl) ar pr =
-          plain_case ls ls' sh ops ops' (plain (call_indirect sort) rest) (plain (call_indirect sort) rest') labels labels' refl refl (calls_by_too ls size f ls' ag (kept sh) sort n ts out ops rest rest' labels labels' pr ac sl ar) (plainly_same ls sh ops ops' pl wo)
+          plain_case ls ls' sh ops ops' (plain (call_indirect sort) rest) (plain (call_indirect sort) rest') labels labels' refl refl
+          (calls_by_too ls size f ls' ag (kept sh) sort n ts out ops rest rest' labels labels' pr ac sl ar) (plainly_same ls sh ops ops' pl wo)
       table ls size f ls' ag n ts out sh ops ops' _ _ labels labels' wo (blocks {body = body} {body' = body'} {rest = rest} {rest' = rest'} r g pl sb sl) ar pr =
-          plain_case ls ls' sh ops ops' (nest a_block r body rest) (nest a_block r body' rest') labels labels' refl refl (same_step (omega arith) (at (ctx s fn under under' us ls size f ls' ag) f (λ z fz. fz) _ (g ∷ ts) g [] ops ops body body' _ _ woven sb (in_block (length ops) (arity_of r) done done (no_calls (length (calls_of rest) + n)) sl ar))) (plainly_same ls sh ops ops' pl wo)
+          plain_case ls ls' sh ops ops' (nest a_block r body rest) (nest a_block r body' rest') labels labels' refl refl
+          (same_step (omega arith) (at (ctx s fn under under' us ls size f ls' ag) f (λ z fz. fz) _ (g ∷ ts) g [] ops ops body body' _ _ woven sb
+          (in_block (length ops) (arity_of r) done done (no_calls (length (calls_of rest) + n)) sl ar))) (plainly_same ls sh ops ops' pl wo)
       table ls size f ls' ag n ts out sh ops ops' _ _ labels labels' wo (loops {body = body} {body' = body'} {rest = rest} {rest' = rest'} r head g pl co sb sl) ar pr =
-          plain_case ls ls' sh ops ops' (nest a_loop r body rest) (nest a_loop r body' rest') labels labels' refl refl (same_step (omega arith) (at (ctx s fn under under' us ls size f ls' ag) head co _ (head ∷ ts) g [] ops ops body body' _ _ woven sb (in_loop (length ops) refl sb sl ar))) (plainly_same ls sh ops ops' pl wo)
+          plain_case ls ls' sh ops ops' (nest a_loop r body rest) (nest a_loop r body' rest') labels labels' refl refl
+          (same_step (omega arith) (at (ctx s fn under under' us ls size f ls' ag) head co _ (head ∷ ts) g [] ops ops body body' _ _ woven sb
+          (in_loop (length ops) refl sb sl ar))) (plainly_same ls sh ops ops' pl wo)
       table ls size f ls' ag n ts out sh ops ops' _ _ labels labels' wo (decides {a = a} {a' = a'} {b = b} {b' = b'} {rest = rest} {rest' = rest'} r g pl sa sb sl) ar pr =
-          plain_case ls ls' sh ops ops' (branch r a b rest) (branch r a' b' rest') labels labels' refl refl (arms_too ls size f ls' ag (kept sh) r g n ts out ops a a' b b' rest rest' labels labels' sa sb sl ar) (plainly_same ls sh ops ops' pl wo)
+          plain_case ls ls' sh ops ops' (branch r a b rest) (branch r a' b' rest') labels labels' refl refl
+          (arms_too ls size f ls' ag (kept sh) r g n ts out ops a a' b b' rest rest' labels labels' sa sb sl ar) (plainly_same ls sh ops ops' pl wo)

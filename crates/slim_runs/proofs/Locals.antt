@@ -1,12 +1,14 @@
 -- Locals and operands of both sides, and what instructions do with them.
-use Rattle.std.proofs.Common.{◌≡◌, ◌≢◌, ℕ, zero, suc, ◌≤◌, ◌<◌, ◌⊎◌, inl, inr, List, [], ◌∷◌, ◌++◌, length, take, drop, None, true, false, refl, sym, ap, ◌∙◌, subst, arith, eqb, leb, length-set, get_or-set_same, get_or-set_other}
+use Rattle.std.proofs.Common.{◌≡◌, ◌≢◌, ℕ, zero, suc, ◌≤◌, ◌<◌, ◌⊎◌, inl, inr, List, [], ◌∷◌, ◌++◌, length, take, drop, None, true, false, refl, sym, ap, ◌∙◌, subst, arith, eqb, leb}
+use Rattle.std.proofs.Common.{length-set, get_or-set_same, get_or-set_other}
 use Rattle.std.specs.Prelude.{slice_set}
 use Rattle.std.proofs.lemmas.Bool.Decides.{eqb_tells, leb_tells}
 use Rattle.wa_types.specs.declared.values.Value.{Value}
 use Rattle.wa_types.specs.declared.values.Value.TheVariants as V
 use Rattle.wa_model.specs.Store.{value_at}
-use Rattle.slim_form.specs.Slim.{Free, Covers, CoversBut, Shape, more, Takes, takes_none, takes_same, takes_one, Rises, rises, rises_below, Lacks, lacks_held, lacks_slot, Plainly, plainly, plainly_held, kept}
-use Rattle.slim_form.specs.Beside.{Agree, Woven, woven, woven_both, woven_kept}
+use Rattle.slim_form.specs.Slim.{Free, Covers, CoversBut, Shape, more, Takes, takes_none, takes_same, takes_one, Rises, rises, rises_below, Lacks, lacks_held, lacks_slot, Plainly, plainly}
+use Rattle.slim_form.specs.Slim.{plainly_held, kept}
+use Rattle.slim_runs.specs.Beside.{Agree, Woven, woven, woven_both, woven_kept}
 
 -- ---- one local set
 
@@ -94,33 +96,16 @@ plainly_same ls _ _ _ p woven = refl
 plainly_same ls _ _ _ (plainly_held p) (woven_both {sh = sh} {ops = ops} {ops' = ops'} u wo) = ap (λ us. u ∷ us) (plainly_same ls sh ops ops' p wo)
 plainly_same ls _ _ _ p (woven_kept x v e wo) = elim p [ ]
 
-pub plainly_none : (sh : Shape) → Plainly sh → kept sh ≡ 0
-plainly_none _ plainly = refl
-plainly_none _ (plainly_held {sh = sh} p) = plainly_none sh p
-
 pub taken_same : (ls : List Value) (n : ℕ) (sh sh2 : Shape) (ops ops' : List Value) → Takes n sh sh2 → Woven ls sh ops ops' → (take n ops' ≡ take n ops) × Woven ls sh2 (drop n ops) (drop n ops')
 taken_same ls _ _ _ ops ops' takes_none wo = (refl, wo)
 taken_same ls n _ _ _ _ takes_same woven = (refl, woven)
 taken_same ls _ _ _ _ _ (takes_one {n = n} {sh = sh} {sh2 = sh2} ta) (woven_both {ops = ops} {ops' = ops'} v wo) =
     let h = taken_same ls n sh sh2 ops ops' ta wo in (ap (λ us. v ∷ us) h.0, h.1)
 
-pub taken_kept : (n : ℕ) (sh sh2 : Shape) → Takes n sh sh2 → kept sh2 ≡ kept sh
-taken_kept _ _ _ takes_none = refl
-taken_kept _ _ _ takes_same = refl
-taken_kept _ _ _ (takes_one {n = n} {sh = sh} {sh2 = sh2} ta) = taken_kept n sh sh2 ta
-
 pub more_woven : (ls : List Value) (sh : Shape) (vs ops ops' : List Value) → Woven ls sh ops ops' → Woven ls (more (length vs) sh) (vs ++ ops) (vs ++ ops')
 more_woven ls sh [] ops ops' wo = wo
 more_woven ls sh (v ∷ vs) ops ops' wo = let e : more (length (v ∷ vs)) sh ≡ None ∷ more (length vs) sh = refl in woven_both v (more_woven ls sh vs ops ops' wo)
 
-pub more_kept : (n : ℕ) (sh : Shape) → kept (more n sh) ≡ kept sh
-more_kept zero sh = refl
-more_kept (suc n) sh = more_kept n sh
-
 pub risen : (ls : List Value) (x : ℕ) (sh sh2 : Shape) (ops ops' : List Value) → Rises x sh sh2 → Woven ls sh ops ops' → Woven ls sh2 (value_at ls x ∷ ops) ops'
 risen ls x _ _ _ _ rises (woven_kept {sh = sh} {ops = ops} {ops' = ops'} y v e wo) = subst (λ u. Woven ls (None ∷ sh) (value_at ls x ∷ ops) (u ∷ ops')) (sym e) (woven_both (value_at ls x) wo)
 risen ls x _ _ _ _ (rises_below {sh = sh} {sh2 = sh2} ri) (woven_kept {ops = ops} {ops' = ops'} y v e wo) = woven_kept y v e (risen ls x sh sh2 ops ops' ri wo)
-
-pub risen_kept : (x : ℕ) (sh sh2 : Shape) → Rises x sh sh2 → kept sh ≡ suc (kept sh2)
-risen_kept x _ _ rises = refl
-risen_kept x _ _ (rises_below {sh = sh} {sh2 = sh2} ri) = ap suc (risen_kept x sh sh2 ri)

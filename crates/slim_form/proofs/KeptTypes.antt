@@ -4,11 +4,14 @@ use Rattle.std.specs.Prelude.{slice_get, nat_le, if◌then◌else◌}
 use Rattle.wa_types.specs.declared.values.ValType.{ValType}
 use Rattle.wa_types.specs.declared.values.ValType.TheVariants.{I32}
 use Rattle.wa_types.specs.Accesses.{AccessRow, load_row, store_row}
-use Rattle.wa_types.specs.Syntax.{Basic, nop, drop, select, const, num, global_get, global_set, load, store, memory_size, memory_grow, br, br_if, br_table, return, call, call_indirect, a_block, a_loop, Code, plain, nest, branch}
-use Rattle.wa_types.specs.Typing.{GlobalType, Around, Sig, moves, leaves, drops, selects, lacks, late, gets_global, sets_global, loads, stores, with_memory, basic_sig, gets, sets, tees, jump, jumps, all_there, all_alike, listed, Takes, Types}
+use Rattle.wa_types.specs.Syntax.{Basic, nop, drop, select, const, num, global_get, global_set, load, store, memory_size, memory_grow, br, br_if, br_table, return, call, call_indirect}
+use Rattle.wa_types.specs.Syntax.{a_block, a_loop, Code, plain, nest, branch}
+use Rattle.wa_types.specs.Typing.{GlobalType, Around, Sig, moves, leaves, drops, selects, lacks, late, gets_global, sets_global, loads, stores, with_memory, basic_sig, gets, sets, tees}
+use Rattle.wa_types.specs.Typing.{jump, jumps, all_there, all_alike, listed, Takes, Types}
 use Rattle.wa_model.specs.Store.{takes, gives}
 use Rattle.slim_form.specs.Slim as S
-use Rattle.slim_form.specs.Slim.{Free, more, takes_none, takes_same, takes_one, Rises, rises, rises_below, Plainly, plainly, plainly_held, Terms, Slims, ends, does, keeps, uses, saves, narrows, forgets}
+use Rattle.slim_form.specs.Slim.{Free, more, takes_none, takes_same, takes_one, Rises, rises, rises_below, Plainly, plainly, plainly_held, Terms, Slims, ends, does, keeps, uses, saves}
+use Rattle.slim_form.specs.Slim.{narrows, forgets}
 use Rattle.slim_form.specs.Typed.{WovenTypes, types_same, types_both, types_kept, TypesAreKept, BodiesAreTyped}
 
 -- ---- how many operands a rule takes and leaves
@@ -120,7 +123,12 @@ module _ (locals : List ValType) where
   moved selects n g sh sh2 ins mids ins' z ta wo h =
       let e : length (I32 ∷ h.0 ∷ h.0 ∷ []) ≡ n = sym z.0 in
       let r = on (I32 ∷ h.0 ∷ h.0 ∷ []) n sh sh2 h.1 ins' e ta (subst (λ us. W sh us ins') h.2 wo) in
-      record { mids' = h.0 ∷ r.low; takes' = (h.0, r.low, r.is, refl); rest = subst (λ k. W (more k sh2) mids (h.0 ∷ r.low)) (sym z.1) (subst (λ us. W (None ∷ sh2) us (h.0 ∷ r.low)) (sym h.3) (types_both h.0 r.rest)) }
+      record {
+        mids' = h.0 ∷ r.low;
+        takes' = (h.0, r.low, r.is, refl);
+        rest =
+            subst (λ k. W (more k sh2) mids (h.0 ∷ r.low)) (sym z.1) (subst (λ us. W (None ∷ sh2) us (h.0 ∷ r.low)) (sym h.3) (types_both h.0 r.rest));
+      }
   moved (lacks r) n g sh sh2 ins mids ins' z ta wo h = absurd h
   moved (late r ps rs) n g sh sh2 ins mids ins' z ta wo h = absurd h
 
@@ -173,17 +181,21 @@ module _ (c : Around) (t : Terms) where
   typed ls n ts out f sh _ _ outs ins ins' (S.tees {sh2 = sh2} {rest = rest} {rest' = rest'} x g co ta la sl) wo h =
       let r = moved c.locals (tees (slice_get c.locals x)) 1 1 sh sh2 ins h.0 ins' (sized_tees (slice_get c.locals x)) ta wo h.1 in
       (r.mids', r.takes', typed ls n ts out g (None ∷ sh2) rest rest' outs h.0 r.mids' sl r.rest h.2)
-  typed ls n ts out f sh _ code' outs ins ins' (keeps {sh2 = sh2} {rest = rest} x g is lt co gx ta la sl) wo h = by (λ mids us k w. typed ls n ts out g (Some x ∷ sh2) rest code' outs mids us sl w k) (slice_get c.locals x) refl h.1
+  typed ls n ts out f sh _ code' outs ins ins' (keeps {sh2 = sh2} {rest = rest} x g is lt co gx ta la sl) wo h =
+      by (λ mids us k w. typed ls n ts out g (Some x ∷ sh2) rest code' outs mids us sl w k) (slice_get c.locals x) refl h.1
     where
-      by : ((mids us : List ValType) → Types c ls rest outs mids → WovenTypes c.locals (Some x ∷ sh2) mids us → Types c ls code' outs us) → (o : Option ValType) → slice_get c.locals x ≡ o → Takes (sets o) ins h.0 → Types c ls code' outs ins'
+      by : ((mids us : List ValType) → Types c ls rest outs mids → WovenTypes c.locals (Some x ∷ sh2) mids us → Types c ls code' outs us) → (o : Option ValType)
+          → slice_get c.locals x ≡ o → Takes (sets o) ins h.0 → Types c ls code' outs ins'
       by ih None q k = absurd k
       by ih (Some ty) q k =
           let r = on c.locals (ty ∷ []) 1 sh sh2 k.0 ins' refl ta (subst (λ us. WovenTypes c.locals sh us ins') k.1 wo) in
           subst (λ us. Types c ls code' outs us) (sym r.is)
           (ih k.0 (ty ∷ r.low) (subst (λ us. Types c ls rest outs us) k.2 h.2) (types_kept x ty q r.rest))
-  typed ls n ts out f sh _ code' outs ins ins' (uses {sh2 = sh2} {rest = rest} x is ri sl) wo h = by (λ mids us k w. typed ls n ts out f sh2 rest code' outs mids us sl w k) (slice_get c.locals x) refl h.1
+  typed ls n ts out f sh _ code' outs ins ins' (uses {sh2 = sh2} {rest = rest} x is ri sl) wo h =
+      by (λ mids us k w. typed ls n ts out f sh2 rest code' outs mids us sl w k) (slice_get c.locals x) refl h.1
     where
-      by : ((mids us : List ValType) → Types c ls rest outs mids → WovenTypes c.locals sh2 mids us → Types c ls code' outs us) → (o : Option ValType) → slice_get c.locals x ≡ o → Takes (gets o) ins h.0 → Types c ls code' outs ins'
+      by : ((mids us : List ValType) → Types c ls rest outs mids → WovenTypes c.locals sh2 mids us → Types c ls code' outs us) → (o : Option ValType) → slice_get c.locals x ≡ o
+          → Takes (gets o) ins h.0 → Types c ls code' outs ins'
       by ih None q k = absurd k
       by ih (Some ty) q k =
           let e : h.0 ≡ ty ∷ ins = k.2 ∙ ap (λ us. ty ∷ us) (sym k.1) in
@@ -210,8 +222,13 @@ module _ (c : Around) (t : Terms) where
       subst (λ us. Types c ls (nest a_loop r body' rest') outs us) (sym (plain_types c.locals sh ins ins' pl wo))
       (typed (None ∷ ls) _ (head ∷ ts) g head [] body body' (listed r) [] [] sb types_same h.0, typed ls n ts out g [] rest rest' outs (listed r ++ ins) (listed r ++ ins) sl types_same h.1)
   typed ls n ts out f sh _ _ outs ins ins' (S.decides {a = a} {a' = a'} {b = b} {b' = b'} {rest = rest} {rest' = rest'} r g pl sa sb sl) wo h =
-      subst (λ us. Types c ls (branch r a' b' rest') outs us) (sym (plain_types c.locals sh ins ins' pl wo))
-      (h.0, h.1, typed (r ∷ ls) _ (g ∷ ts) g f [] a a' (listed r) [] [] sa types_same h.2, typed (r ∷ ls) _ (g ∷ ts) g f [] b b' (listed r) [] [] sb types_same h.3, typed ls n ts out g [] rest rest' outs (listed r ++ h.0) (listed r ++ h.0) sl types_same h.4)
+      subst (λ us. Types c ls (branch r a' b' rest') outs us) (sym (plain_types c.locals sh ins ins' pl wo)) (
+        h.0,
+        h.1,
+        typed (r ∷ ls) _ (g ∷ ts) g f [] a a' (listed r) [] [] sa types_same h.2,
+        typed (r ∷ ls) _ (g ∷ ts) g f [] b b' (listed r) [] [] sb types_same h.3,
+        typed ls n ts out g [] rest rest' outs (listed r ++ h.0) (listed r ++ h.0) sl types_same h.4,
+      )
 
 pub types_are_kept : TypesAreKept
 types_are_kept c ls t n ts out f sh code code' outs ins ins' sl wo h = typed c t ls n ts out f sh code code' outs ins ins' sl wo h

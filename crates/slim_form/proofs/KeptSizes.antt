@@ -6,7 +6,7 @@ use Rattle.wa_model.specs.Store.{takes, gives}
 use Rattle.slim_form.specs.Slim as S
 use Rattle.slim_form.specs.Slim.{Free, more, kept, Terms, Slims, ends, does, keeps, uses, saves, narrows, forgets}
 use Rattle.slim_form.specs.Sizes.{SameCalls, NoOthers, NoLarger, NoDeeper}
-use Rattle.slim_form.proofs.Locals.{plainly_none, taken_kept, more_kept, risen_kept}
+use Rattle.slim_form.proofs.Shapes.{plainly_none, taken_kept, more_kept, risen_kept}
 
 pub larger : NoLarger
 unfolding count_of
@@ -143,9 +143,12 @@ others P t n ts out f sh _ _ w (S.returns_here pl) h = h
 others P t n ts out f sh _ _ w S.halts h = h
 others P t n ts out f sh _ _ w (S.calls {rest = rest} {rest' = rest'} x pl ac sl) h = (h.0, others P t n ts out f [] rest rest' w sl h.1)
 others P t n ts out f sh _ _ w (S.calls_by {rest = rest} {rest' = rest'} x pl ac sl) h = (h.0, others P t n ts out f [] rest rest' w sl h.1)
-others P t n ts out f sh _ _ w (S.blocks {body = body} {body' = body'} {rest = rest} {rest' = rest'} r g pl sb sl) h = (others P t _ (g ∷ ts) g f [] body body' w sb h.0, others P t n ts out g [] rest rest' w sl h.1)
-others P t n ts out f sh _ _ w (S.loops {body = body} {body' = body'} {rest = rest} {rest' = rest'} r head g pl co sb sl) h = (others P t _ (head ∷ ts) g head [] body body' w sb h.0, others P t n ts out g [] rest rest' w sl h.1)
-others P t n ts out f sh _ _ w (S.decides {a = a} {a' = a'} {b = b} {b' = b'} {rest = rest} {rest' = rest'} r g pl sa sb sl) h = (others P t _ (g ∷ ts) g f [] a a' w sa h.0, others P t _ (g ∷ ts) g f [] b b' w sb h.1, others P t n ts out g [] rest rest' w sl h.2)
+others P t n ts out f sh _ _ w (S.blocks {body = body} {body' = body'} {rest = rest} {rest' = rest'} r g pl sb sl) h =
+    (others P t _ (g ∷ ts) g f [] body body' w sb h.0, others P t n ts out g [] rest rest' w sl h.1)
+others P t n ts out f sh _ _ w (S.loops {body = body} {body' = body'} {rest = rest} {rest' = rest'} r head g pl co sb sl) h =
+    (others P t _ (head ∷ ts) g head [] body body' w sb h.0, others P t n ts out g [] rest rest' w sl h.1)
+others P t n ts out f sh _ _ w (S.decides {a = a} {a' = a'} {b = b} {b' = b'} {rest = rest} {rest' = rest'} r g pl sa sb sl) h =
+    (others P t _ (g ∷ ts) g f [] a a' w sa h.0, others P t _ (g ∷ ts) g f [] b b' w sb h.1, others P t n ts out g [] rest rest' w sl h.2)
 
 pub same_calls : SameCalls
 unfolding calls_of
@@ -166,6 +169,13 @@ same_calls t n ts out f sh _ _ (S.returns_here pl) = refl
 same_calls t n ts out f sh _ _ S.halts = refl
 same_calls t n ts out f sh _ _ (S.calls {rest = rest} {rest' = rest'} x pl ac sl) = ap (λ cs. direct x ∷ cs) (same_calls t n ts out f [] rest rest' sl)
 same_calls t n ts out f sh _ _ (S.calls_by {rest = rest} {rest' = rest'} x pl ac sl) = ap (λ cs. indirect x ∷ cs) (same_calls t n ts out f [] rest rest' sl)
-same_calls t n ts out f sh _ _ (S.blocks {body = body} {body' = body'} {rest = rest} {rest' = rest'} r g pl sb sl) = let e = same_calls t _ (g ∷ ts) g f [] body body' sb in let e2 = same_calls t n ts out g [] rest rest' sl in cc
-same_calls t n ts out f sh _ _ (S.loops {body = body} {body' = body'} {rest = rest} {rest' = rest'} r head g pl co sb sl) = let e = same_calls t _ (head ∷ ts) g head [] body body' sb in let e2 = same_calls t n ts out g [] rest rest' sl in cc
-same_calls t n ts out f sh _ _ (S.decides {a = a} {a' = a'} {b = b} {b' = b'} {rest = rest} {rest' = rest'} r g pl sa sb sl) = let e = same_calls t _ (g ∷ ts) g f [] a a' sa in let e1 = same_calls t _ (g ∷ ts) g f [] b b' sb in let e2 = same_calls t n ts out g [] rest rest' sl in cc
+same_calls t n ts out f sh _ _ (S.blocks {body = body} {body' = body'} {rest = rest} {rest' = rest'} r g pl sb sl) =
+    let e = same_calls t _ (g ∷ ts) g f [] body body' sb in
+    let e2 = same_calls t n ts out g [] rest rest' sl in cc
+same_calls t n ts out f sh _ _ (S.loops {body = body} {body' = body'} {rest = rest} {rest' = rest'} r head g pl co sb sl) =
+    let e = same_calls t _ (head ∷ ts) g head [] body body' sb in
+    let e2 = same_calls t n ts out g [] rest rest' sl in cc
+same_calls t n ts out f sh _ _ (S.decides {a = a} {a' = a'} {b = b} {b' = b'} {rest = rest} {rest' = rest'} r g pl sa sb sl) =
+    let e = same_calls t _ (g ∷ ts) g f [] a a' sa in
+    let e1 = same_calls t _ (g ∷ ts) g f [] b b' sb in
+    let e2 = same_calls t n ts out g [] rest rest' sl in cc

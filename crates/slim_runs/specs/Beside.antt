@@ -47,10 +47,12 @@ pub data Woven (ls : List Value) : Shape → (ops ops' : List Value) → Type 0 
 -- construct.
 pub data Around (t : Terms) : (n : ℕ) → (ts : List Free) → (out : Free) → List Label → List Label → Type 0 where
   in_body : {out : Free} → Around t 0 [] out [] []
-  in_block : {n m : ℕ} {ts : List Free} {out g : Free} {rest rest' : Code} {labels labels' : List Label} → (h arity : ℕ) → (skipped skipped' : Code) → m ≡ length (calls_of skipped) + (length (calls_of rest) + n)
+  in_block : {n m : ℕ} {ts : List Free} {out g : Free} {rest rest' : Code} {labels labels' : List Label} → (h arity : ℕ) → (skipped skipped' : Code)
+      → m ≡ length (calls_of skipped) + (length (calls_of rest) + n)
       → Slims t n ts out g [] rest rest' → Around t n ts out labels labels' → Around t m (g ∷ ts) g (block_label h arity rest skipped ∷ labels) (block_label h arity rest' skipped' ∷ labels')
   in_loop : {n m : ℕ} {ts : List Free} {out head g : Free} {body body' rest rest' : Code} {labels labels' : List Label} → (h : ℕ) → m ≡ length (calls_of rest) + n
-      → Slims t m (head ∷ ts) g head [] body body' → Slims t n ts out g [] rest rest' → Around t n ts out labels labels' → Around t m (head ∷ ts) g (loop_label h body rest ∷ labels) (loop_label h body' rest' ∷ labels')
+      → Slims t m (head ∷ ts) g head [] body body' → Slims t n ts out g [] rest rest' → Around t n ts out labels labels'
+      → Around t m (head ∷ ts) g (loop_label h body rest ∷ labels) (loop_label h body' rest' ∷ labels')
 
 -- how many calls stand behind, past the ends of the constructs around
 abbrev pub calls_behind : List Label → ℕ
@@ -60,7 +62,8 @@ calls_behind (loop_label h body rest ∷ labels) = length (calls_of rest) + call
 
 -- An activation that waits, on both sides: with the same operands, and with locals that differ where they may at its call.
 pub data Waits (w : Sides) : Activation → Activation → Type 0 where
-  waits : {n : ℕ} {ts : List Free} {out : Free} {rest rest' : Code} {labels labels' : List Label} → (fn : ℕ) → (f : Free) → Held f ((w.terms fn).fixed (length (calls_of rest) + n)) → (ls ls' ops taken : List Value) → length ls ≡ (w.terms fn).size → Agree f ls ls'
+  waits : {n : ℕ} {ts : List Free} {out : Free} {rest rest' : Code} {labels labels' : List Label} → (fn : ℕ) → (f : Free) → Held f ((w.terms fn).fixed (length (calls_of rest) + n))
+      → (ls ls' ops taken : List Value) → length ls ≡ (w.terms fn).size → Agree f ls ls'
       → Slims (w.terms fn) n ts out f [] rest rest' → Around (w.terms fn) n ts out labels labels' → Waits w (waiting fn ls ops taken rest labels) (waiting fn ls' ops taken rest' labels')
 
 pub data Unders (w : Sides) : List Activation → List Activation → Type 0 where
@@ -69,8 +72,10 @@ pub data Unders (w : Sides) : List Activation → List Activation → Type 0 whe
 
 -- Both sides, in the same store; the slim one has so many slots' values on its operand stack.
 pub data Beside (w : Sides) : ℕ → Configuration → Configuration → Type 0 where
-  beside : {n : ℕ} {ts : List Free} {out : Free} {sh : Shape} {code code' : Code} {labels labels' : List Label} {ls ls' ops ops' : List Value} {under under' : List Activation} {spare : ℕ} → (s : Store) → (fn : ℕ) → (f : Free)
-      → kept sh ≡ spare → length ls ≡ (w.terms fn).size → Agree f ls ls' → Woven ls sh ops ops' → Slims (w.terms fn) n ts out f sh code code' → Around (w.terms fn) n ts out labels labels' → Unders w under under'
+  beside : {n : ℕ} {ts : List Free} {out : Free} {sh : Shape} {code code' : Code} {labels labels' : List Label} {ls ls' ops ops' : List Value} {under under' : List Activation}
+      {spare : ℕ} → (s : Store) → (fn : ℕ) → (f : Free)
+      → kept sh ≡ spare → length ls ≡ (w.terms fn).size → Agree f ls ls' → Woven ls sh ops ops' → Slims (w.terms fn) n ts out f sh code code'
+      → Around (w.terms fn) n ts out labels labels' → Unders w under under'
       → Beside w spare (running s fn under ls ops code labels) (running s fn under' ls' ops' code' labels')
 
 -- both sides wait for the answer of an import
@@ -132,10 +137,14 @@ pub data Way (w : Sides) (c : Configuration) : Configuration → ℕ → Configu
 -- What the slim side does where the flat side, with so much to spare, does this next at such a lean cost: the same, at least
 -- at the lean cost, and at most at the whole one and what is to spare; what is left of it is to spare behind.
 pub data ComesToo (w : Sides) (c c' : Configuration) (spare : ℕ) (least : ℕ → ℕ) : Next → Type 0 where
-  it_steps : {k : ℕ} {d : Configuration} → (cost left : ℕ) → (to : Configuration) → Way w c c' cost to → least (suc k) ≤ cost → cost + left ≤ suc k + spare → Beside w left d to → ComesToo w c c' spare least (steps k d)
-  it_asks : {k x : ℕ} {args : List Value} {d : Configuration} → (cost : ℕ) → (at to : Configuration) → Way w c c' cost at → cost ≤ spare → SameNext c at → step w.slim at ≡ asks k x args to → Asked w d to → ComesToo w c c' spare least (asks k x args d)
-  it_returns : {k : ℕ} {vs : List Value} {s : Store} → (cost : ℕ) → (at : Configuration) → Way w c c' cost at → cost ≤ spare → SameNext c at → step w.slim at ≡ returns k vs s → ComesToo w c c' spare least (returns k vs s)
-  it_traps : {k : ℕ} {u : Trap} {s : Store} → (cost : ℕ) → (at : Configuration) → Way w c c' cost at → cost ≤ spare → SameNext c at → step w.slim at ≡ traps k u s → ComesToo w c c' spare least (traps k u s)
+  it_steps : {k : ℕ} {d : Configuration} → (cost left : ℕ) → (to : Configuration) → Way w c c' cost to → least (suc k) ≤ cost → cost + left ≤ suc k + spare → Beside w left d to
+      → ComesToo w c c' spare least (steps k d)
+  it_asks : {k x : ℕ} {args : List Value} {d : Configuration} → (cost : ℕ) → (at to : Configuration) → Way w c c' cost at → cost ≤ spare → SameNext c at
+      → step w.slim at ≡ asks k x args to → Asked w d to → ComesToo w c c' spare least (asks k x args d)
+  it_returns : {k : ℕ} {vs : List Value} {s : Store} → (cost : ℕ) → (at : Configuration) → Way w c c' cost at → cost ≤ spare → SameNext c at → step w.slim at ≡ returns k vs s
+      → ComesToo w c c' spare least (returns k vs s)
+  it_traps : {k : ℕ} {u : Trap} {s : Store} → (cost : ℕ) → (at : Configuration) → Way w c c' cost at → cost ≤ spare → SameNext c at → step w.slim at ≡ traps k u s
+      → ComesToo w c c' spare least (traps k u s)
   it_is_stuck : ComesToo w c c' spare least stuck
 
 -- Each proper reduction of the flat side is matched.
