@@ -1,5 +1,5 @@
 -- How many slots' values a shape holds, before and behind an instruction.
-use Rattle.std.proofs.Common.{◌≡◌, ℕ, zero, suc, refl, ap, List, [], ◌∷◌, Option, None, Some}
+use Rattle.std.proofs.Common.{◌≡◌, ℕ, zero, suc, refl, ap}
 use Rattle.slim_form.specs.Slim.{Shape, more, Takes, takes_none, takes_same, takes_one, Rises, rises, rises_below, Plainly, plainly, plainly_held, kept}
 
 pub plainly_none : (sh : Shape) → Plainly sh → kept sh ≡ 0

@@ -1,3 +1,5 @@
+//! Laws of what is written. Each is the contract of a function that does nothing.
+
 ghost use Rattle.slim_form.specs.Emit.{EmitsSlim, SlimBesideItself};
 
 /// What is emitted is slim.

@@ -1,3 +1,5 @@
+//! Laws of functions in pieces and units.
+
 ghost use Rattle.slim_form.specs.Parts.{BodiesAreSlim, PiecesAreSlim};
 
 /// Slim pieces with the same units make slim code, and a slim body.

@@ -1,3 +1,5 @@
+//! Laws of sizes.
+
 ghost use Rattle.slim_form.specs.Sizes.{NoDeeper, NoLarger, NoOthers, SameCalls};
 
 /// Slim code is no larger, nests no deeper, and has no other instructions but for sets of its locals.

@@ -1,3 +1,5 @@
+//! Laws of types.
+
 ghost use Rattle.slim_form.specs.Typed.{BodiesAreTyped, TypesAreKept};
 
 /// Slim code has the type of the code beside it.
