@@ -109,17 +109,17 @@ module _ (programs : List Program) (detaches : List Detach) (wholes : List Whole
           each = λ j t h a et eh ea. by j t h a et eh ea (cases_eq j play.i);
         }
       where
-      by : (j : ℕ) (t : Teller) (h : Whole) (a : Actor) → slice_get mid j ≡ Some t → slice_get wholes j ≡ Some h → slice_get acts j ≡ Some a → (j ≡ play.i) ⊎ (j ≡ play.i → ⊥) → Ties t h a
-      by j t h a et eh ea (inl e) =
-          here t h a
-          (same_Some t play.t (sym et ∙ ap (slice_get mid) e ∙ play.there))
-          (same_Some h the_whole.0 (sym eh ∙ ap (slice_get wholes) e ∙ the_whole.1))
-          (same_Some a before (sym ea ∙ ap (slice_get acts) e ∙ before_there))
-      by j t h a et eh ea (inr other) =
-          fore.each j t h a
-          (ap (λ (l : List Teller). slice_get l j) play.after ∙ set_there mid play.i j told_now other ∙ et)
-          eh
-          (sym (set_there actors play.i j before other) ∙ ea)
+        by : (j : ℕ) (t : Teller) (h : Whole) (a : Actor) → slice_get mid j ≡ Some t → slice_get wholes j ≡ Some h → slice_get acts j ≡ Some a → (j ≡ play.i) ⊎ (j ≡ play.i → ⊥) → Ties t h a
+        by j t h a et eh ea (inl e) =
+            here t h a
+            (same_Some t play.t (sym et ∙ ap (slice_get mid) e ∙ play.there))
+            (same_Some h the_whole.0 (sym eh ∙ ap (slice_get wholes) e ∙ the_whole.1))
+            (same_Some a before (sym ea ∙ ap (slice_get acts) e ∙ before_there))
+        by j t h a et eh ea (inr other) =
+            fore.each j t h a
+            (ap (λ (l : List Teller). slice_get l j) play.after ∙ set_there mid play.i j told_now other ∙ et)
+            eh
+            (sym (set_there actors play.i j before other) ∙ ea)
 
     is_next : IsNext acts play.i before
     is_next =
@@ -129,11 +129,11 @@ module _ (programs : List Program) (detaches : List Detach) (wholes : List Whole
           least = λ j b eb some. by j b eb some (item mid j (omega (arith, slice_get_within acts j b eb, fore_before.long))) (item wholes j (omega (arith, slice_get_within acts j b eb, fore_before.long, fore_before.wide)));
         }
       where
-      by : (j : ℕ) (b : Actor) → slice_get acts j ≡ Some b → HasNotes b → (t : Teller) × (slice_get mid j ≡ Some t) → (h : Whole) × (slice_get wholes j ≡ Some h) → (play.t.due < b.due) ⊎ ((play.t.due ≡ b.due) × (play.i ≤ j))
-      by j b eb some t h =
-          let tie = fore_before.each j t.0 h.0 b t.1 h.1 eb in
-          let least = play.next.least j t.0.due (due_at mid j t.0 t.1 (unended t.0.has_ended b.notes tie.is_rest some)) in
-          subst (λ (n : ℕ). (play.t.due < n) ⊎ ((play.t.due ≡ n) × (play.i ≤ j))) (sym tie.due) least
+        by : (j : ℕ) (b : Actor) → slice_get acts j ≡ Some b → HasNotes b → (t : Teller) × (slice_get mid j ≡ Some t) → (h : Whole) × (slice_get wholes j ≡ Some h) → (play.t.due < b.due) ⊎ ((play.t.due ≡ b.due) × (play.i ≤ j))
+        by j b eb some t h =
+            let tie = fore_before.each j t.0 h.0 b t.1 h.1 eb in
+            let least = play.next.least j t.0.due (due_at mid j t.0 t.1 (unended t.0.has_ended b.notes tie.is_rest some)) in
+            subst (λ (n : ℕ). (play.t.due < n) ⊎ ((play.t.due ≡ n) × (play.i ≤ j))) (sym tie.due) least
 
     abbrev after : Actor
     after = record { due = before.due + put_off (turn_of before.notes); notes = behind_turn before.notes; outcomes = later.0.outcomes; answers = play.answers }
@@ -144,8 +144,8 @@ module _ (programs : List Program) (detaches : List Detach) (wholes : List Whole
     after_is : after ≡ later.0
     after_is = λ k. record { due = due k; notes = behind_whole play.turn later.0.notes play.whole k; outcomes = later.0.outcomes; answers = sym tied.answers k }
       where
-      due : play.t.due + put_off (turn_of before.notes) ≡ later.0.due
-      due = ap (λ (l : List Note). play.t.due + put_off l) turn_is ∙ sym tied.due
+        due : play.t.due + put_off (turn_of before.notes) ≡ later.0.due
+        due = ap (λ (l : List Note). play.t.due + put_off l) turn_is ∙ sym tied.due
 
     plays : Plays programs detaches number acts es lines actors ds'
     plays =
@@ -219,19 +219,19 @@ prepared (w ∷ programs) (t ∷ tellers) all =
       stories = stories s on;
     }
   where
-  each : (s : HasStory w t) (on : Prepared programs tellers) (i : ℕ) (t' : Teller) (h' : Whole) (a' : Actor) → slice_get (t ∷ tellers) i ≡ Some t' → slice_get (record { notes = t.told ++ s.rest; outcomes = t.met ++ s.more } ∷ on.wholes) i ≡ Some h'
-      → slice_get (record { due = t.due; notes = s.rest; outcomes = s.more; answers = t.answers } ∷ on.actors) i ≡ Some a' → Ties t' h' a'
-  each s on zero t' h' a' et eh ea =
-      let tie : Ties t (record { notes = t.told ++ s.rest; outcomes = t.met ++ s.more }) (record { due = t.due; notes = s.rest; outcomes = s.more; answers = t.answers }) = record { due = refl; answers = refl; notes = refl; outcomes = refl; is_rest = s.is_rest } in
-      subst (λ (x : Teller). Ties x h' a') (same_Some _ _ et)
-      (subst (λ (x : Whole). Ties t x a') (same_Some _ _ eh) (subst (λ (x : Actor). Ties t (record { notes = t.told ++ s.rest; outcomes = t.met ++ s.more }) x) (same_Some _ _ ea) tie))
-  each s on (suc i) t' h' a' et eh ea = on.fore.each i t' h' a' et eh ea
+    each : (s : HasStory w t) (on : Prepared programs tellers) (i : ℕ) (t' : Teller) (h' : Whole) (a' : Actor) → slice_get (t ∷ tellers) i ≡ Some t' → slice_get (record { notes = t.told ++ s.rest; outcomes = t.met ++ s.more } ∷ on.wholes) i ≡ Some h'
+        → slice_get (record { due = t.due; notes = s.rest; outcomes = s.more; answers = t.answers } ∷ on.actors) i ≡ Some a' → Ties t' h' a'
+    each s on zero t' h' a' et eh ea =
+        let tie : Ties t (record { notes = t.told ++ s.rest; outcomes = t.met ++ s.more }) (record { due = t.due; notes = s.rest; outcomes = s.more; answers = t.answers }) = record { due = refl; answers = refl; notes = refl; outcomes = refl; is_rest = s.is_rest } in
+        subst (λ (x : Teller). Ties x h' a') (same_Some _ _ et)
+        (subst (λ (x : Whole). Ties t x a') (same_Some _ _ eh) (subst (λ (x : Actor). Ties t (record { notes = t.told ++ s.rest; outcomes = t.met ++ s.more }) x) (same_Some _ _ ea) tie))
+    each s on (suc i) t' h' a' et eh ea = on.fore.each i t' h' a' et eh ea
 
-  stories : (s : HasStory w t) (on : Prepared programs tellers) (i : ℕ) (w' : Program) (h' : Whole) → slice_get (w ∷ programs) i ≡ Some w' → slice_get (record { notes = t.told ++ s.rest; outcomes = t.met ++ s.more } ∷ on.wholes) i ≡ Some h'
-      → h'.notes ≡ protocol_story w' h'.outcomes
-  stories s on zero w' h' ew eh =
-      subst (λ (x : Whole). x.notes ≡ protocol_story w' x.outcomes) (same_Some _ _ eh) (subst (λ (x : Program). t.told ++ s.rest ≡ protocol_story x (t.met ++ s.more)) (same_Some _ _ ew) (sym s.story))
-  stories s on (suc i) w' h' ew eh = on.stories i w' h' ew eh
+    stories : (s : HasStory w t) (on : Prepared programs tellers) (i : ℕ) (w' : Program) (h' : Whole) → slice_get (w ∷ programs) i ≡ Some w' → slice_get (record { notes = t.told ++ s.rest; outcomes = t.met ++ s.more } ∷ on.wholes) i ≡ Some h'
+        → h'.notes ≡ protocol_story w' h'.outcomes
+    stories s on zero w' h' ew eh =
+        subst (λ (x : Whole). x.notes ≡ protocol_story w' x.outcomes) (same_Some _ _ eh) (subst (λ (x : Program). t.told ++ s.rest ≡ protocol_story x (t.met ++ s.more)) (same_Some _ _ ew) (sym s.story))
+    stories s on (suc i) w' h' ew eh = on.stories i w' h' ew eh
 
 pub told_is_world : ToldIsWorld
 told_is_world programs detaches ds ds' number lines tellers tells all =
@@ -244,15 +244,15 @@ all_told_is_world programs detaches ds ds' number lines tellers tells all ended 
     let on = reaches programs detaches p.wholes p.stories number ds ds' lines tellers p.actors tells p.fore in
     played_is_whole programs detaches ds ds' number lines on.0 (subst (λ (l : List Actor). IsOver l) (sym on.1) (over p))
   where
-  has_ended : (b : Bool) (due : ℕ) → (unless b due ≡ Some due → ⊥) → b ≡ true
-  has_ended true due never = refl
-  has_ended false due never = absurd (never refl)
+    has_ended : (b : Bool) (due : ℕ) → (unless b due ≡ Some due → ⊥) → b ≡ true
+    has_ended true due never = refl
+    has_ended false due never = absurd (never refl)
 
-  over : (p : Prepared programs tellers) → IsOver p.actors
-  over p k d within =
-      let a = get_or p.actors k d in
-      let t = item tellers k (omega (arith, within, p.fore.long)) in
-      let h = item p.wholes k (omega (arith, within, p.fore.long, p.fore.wide)) in
-      let tie = p.fore.each k t.0 h.0 a t.1 h.1 (slice_get-get_or p.actors k d within) in
-      let is : t.0.has_ended ≡ true = has_ended t.0.has_ended t.0.due (λ e. ended k t.0.due (slice_get-map due_of tellers k ∙ ap (option_map due_of) t.1 ∙ ap (λ (o : Option ℕ). Some o) e)) in
-      subst (λ (b : Bool). IsRest b a.notes) is tie.is_rest
+    over : (p : Prepared programs tellers) → IsOver p.actors
+    over p k d within =
+        let a = get_or p.actors k d in
+        let t = item tellers k (omega (arith, within, p.fore.long)) in
+        let h = item p.wholes k (omega (arith, within, p.fore.long, p.fore.wide)) in
+        let tie = p.fore.each k t.0 h.0 a t.1 h.1 (slice_get-get_or p.actors k d within) in
+        let is : t.0.has_ended ≡ true = has_ended t.0.has_ended t.0.due (λ e. ended k t.0.due (slice_get-map due_of tellers k ∙ ap (option_map due_of) t.1 ∙ ap (λ (o : Option ℕ). Some o) e)) in
+        subst (λ (b : Bool). IsRest b a.notes) is tie.is_rest
