@@ -1,3 +1,4 @@
+pub mod StmtViews
 pub mod SetLemmas
 pub mod CodeLemmas
 pub mod StepLemmas

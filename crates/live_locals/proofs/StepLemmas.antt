@@ -16,7 +16,7 @@ use Rattle.wa_model.specs.Flat.{Stmts, no_more, computes, copies, calls, leaps, 
 use Rattle.wa_model.specs.FlatView.{stmt_in_front}
 use Rattle.wa_model.specs.FlatFits.{IsCallCode}
 use Rattle.flat_pieces.proofs.StmtLemmas.{call_is}
-use Rattle.flow_rewrite.proofs.WalkSteps.{as_plain, as_move, as_br, as_br_if, as_table, as_halt}
+use Rattle.live_locals.proofs.StmtViews.{as_plain, as_move, as_br, as_br_if, as_table, as_halt}
 use Rattle.live_locals.specs.Ops.{IsComputation, OpsFit, HoldsNone}
 use Rattle.live_locals.specs.Sets.{has, told_of, TellsBefore, TellsAnywhere, Joined}
 use Rattle.live_locals.proofs.SetLemmas.{tells_then, tells_as, tells_none}
