@@ -28,8 +28,8 @@ use Rattle.flat_rules.specs.OwnUses.{uses}
 use Rattle.flat_rules.proofs.OwnLemmas.{own_uses}
 use Rattle.flat_rules.proofs.PrunedFlat.{whole_flat, whole_result}
 use Rattle.flat_rules.proofs.StackReads.{stack_reads}
-use Rattle.frame_sizes.specs.Lives.{lives}
-use Rattle.frame_sizes.proofs.LiveLemmas.{told_calls}
+use Rattle.live_behind.specs.Lives.{lives}
+use Rattle.live_behind.proofs.LiveLemmas.{told_calls}
 use Rattle.slot_laws.proofs.SavedOperands.{operands_saved, slots_once}
 use Rattle.live_locals.specs.LiveAt.{KeepsAt, OnStack, ReadBehind}
 use Rattle.save_laws.specs.LiveSaved.{LiveIsSaved}
