@@ -1,0 +1,4 @@
+pub mod Gathered
+pub mod GlobalTables
+pub mod Told
+pub mod GlobalTypes

@@ -1,0 +1,3 @@
+pub mod SetUpRules
+pub mod Tables
+pub mod Views

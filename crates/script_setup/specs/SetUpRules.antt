@@ -1,0 +1,127 @@
+-- The set-up rules of scripts: what is asked of a program's lines once its module is there, and what the program is then given.
+use Rattle.std.specs.Prelude.{ℕ, ◌+◌, nat_lt, not, ◌&&◌, if◌then◌else◌, List, [], ◌∷◌, map, Option, Some, None, Bool, true, false, Result, Ok, Err, position, slice_get}
+use Rattle.std.specs.List.{filter_map, list_any}
+use Rattle.std.specs.Option.{option_map, unwrap_or}
+use Rattle.std.specs.Str.{bytes_eq}
+use Rattle.wa_types.specs.declared.values.ValType.{ValType}
+use Rattle.wa_types.specs.declared.values.ValType.TheVariants.{I32, I64}
+use Rattle.wa_types.specs.declared.values.Value.{Value}
+use Rattle.wa_types.specs.declared.syntax.Import.{Import}
+use Rattle.wa_types.specs.Syntax.{Module}
+use Rattle.wa_types.specs.Encoding.{same_type}
+use Rattle.wa_types.specs.Modules.{imported_global}
+use Rattle.wa_types.specs.Pausing.{joined_name}
+use Rattle.wa_types.specs.Typing.{GlobalType, type_of}
+use Rattle.wa_model.specs.declared.answers.Area.{Area}
+use Rattle.wa_model.specs.Script.{GlobalText, EntryText, ShowText, ProgramText, ScriptFault, breaks}
+use Rattle.wa_model.specs.ScriptLines.{or_else}
+use Rattle.wa_model.specs.Step.{zero_of}
+use Rattle.wa_model.specs.Transcript.{Names}
+use Rattle.wa_model.specs.World.{import_names}
+use Rattle.host_setup.specs.SetUp.{NamedEntry, Fault, area_bad, no_export, entry_missing, entry_is_import, arg_types, set_up}
+
+-- ---- rules 9 to 13: area, exports, entries
+
+abbrev pub named_entry : EntryText → NamedEntry
+named_entry e = record { name = e.name; args = e.args }
+
+abbrev pub entry_line : ProgramText → ℕ → ℕ
+entry_line t i = unwrap_or (option_map (λ (e : EntryText). e.line) (slice_get t.entries i)) 0
+
+-- the line at which a fault of the module's set-up is told, and the rule: 9 for the area at its line, 10 for an export at the
+-- program's line, 11 to 13 for an entry at its line
+abbrev pub told_fault : ProgramText → Fault → ScriptFault
+told_fault t area_bad = breaks t.area_line 9
+told_fault t (no_export name) = breaks t.line 10
+told_fault t (entry_missing i) = breaks (entry_line t i) 11
+told_fault t (entry_is_import i) = breaks (entry_line t i) 12
+told_fault t (arg_types i) = breaks (entry_line t i) 13
+
+-- ---- rule 14: globals
+
+abbrev pub has_type : ValType → Option GlobalType → Bool
+has_type ty None = false
+has_type ty (Some g) = same_type g.ty ty
+
+-- it imports a global of this joined name and type
+abbrev pub is_global : (name : List ℕ) → ValType → Import → Bool
+is_global name ty i = bytes_eq (joined_name i) name && has_type ty (imported_global i.kind)
+
+abbrev pub imports_global : List Import → (name : List ℕ) → ValType → Bool
+imports_global imports name ty = list_any (is_global name ty) imports
+
+abbrev pub other_type : ValType → ValType
+other_type I32 = I64
+other_type I64 = I32
+
+-- The line's name is that of an imported global, and all imported globals of that name have its value's type.
+abbrev pub is_set : List Import → GlobalText → Bool
+is_set imports g = imports_global imports g.name (type_of g.value) && not (imports_global imports g.name (other_type (type_of g.value)))
+
+-- the first line that sets no global, whether a later one wins or not
+abbrev pub bad_global : List Import → List GlobalText → Option ℕ
+bad_global imports globals = position (λ (g : GlobalText). not (is_set imports g)) globals
+
+abbrev pub global_line : ProgramText → ℕ → ℕ
+global_line t i = unwrap_or (option_map (λ (g : GlobalText). g.line) (slice_get t.globals i)) 0
+
+-- ---- rule 15: memory that is shown, which `run` asks to lie off the area
+
+abbrev pub overlaps : Area → ShowText → Bool
+overlaps area s = nat_lt s.at (area.at + area.len) && nat_lt area.at (s.at + s.len)
+
+abbrev pub bad_show : (runs : Bool) → Area → List ShowText → Option ℕ
+bad_show runs area shows = if runs then position (overlaps area) shows else None
+
+abbrev pub show_line : ProgramText → ℕ → ℕ
+show_line t i = unwrap_or (option_map (λ (s : ShowText). s.line) (slice_get t.shows i)) 0
+
+-- ---- what a program is given
+
+-- the value that the last line of a name gives
+abbrev pub last_value : (name : List ℕ) → List GlobalText → Option Value
+last_value name [] = None
+last_value name (g ∷ gs) = or_else (last_value name gs) (if bytes_eq g.name name then Some g.value else None)
+
+abbrev pub value_or_zero : Option GlobalType → Option Value → Option Value
+value_or_zero None told = None
+value_or_zero (Some g) told = Some (unwrap_or told (zero_of g.ty))
+
+-- one value for each imported global: that of the last line of its name, else 0
+abbrev pub global_values : List Import → List GlobalText → List Value
+global_values imports globals = filter_map (λ (i : Import). value_or_zero (imported_global i.kind) (last_value (joined_name i) globals)) imports
+
+-- The functions of the program's entries, and the values of its imported globals.
+pub record SetUp : Type 0 where
+  pub funcs : List ℕ
+  pub globals : List Value
+
+abbrev pub told_at : (rule : ℕ) → (line : ℕ → ℕ) → Option ℕ → Option ScriptFault
+told_at rule line None = None
+told_at rule line (Some i) = Some (breaks (line i) rule)
+
+-- the fault of a line of globals or of shown memory
+abbrev pub lines_fault : (runs : Bool) → List Import → ProgramText → Option ScriptFault
+lines_fault runs imports t = or_else (told_at 14 (global_line t) (bad_global imports t.globals)) (told_at 15 (show_line t) (bad_show runs t.area t.shows))
+
+abbrev pub unless_told : {A : Type 0} → Option ScriptFault → A → Result A ScriptFault
+unless_told None x = Ok x
+unless_told (Some f) x = Err f
+
+abbrev pub told_funcs : ProgramText → Result (List ℕ) Fault → Result (List ℕ) ScriptFault
+told_funcs t (Err f) = Err (told_fault t f)
+told_funcs t (Ok funcs) = Ok funcs
+
+abbrev pub with_lines : (runs : Bool) → List Import → ProgramText → Result (List ℕ) ScriptFault → Result SetUp ScriptFault
+with_lines runs imports t (Err f) = Err f
+with_lines runs imports t (Ok funcs) = unless_told (lines_fault runs imports t) (record { funcs = funcs; globals = global_values imports t.globals })
+
+-- A program over a module, set up; or the line and rule of the first fault: rule by rule, each over all lines of the program.
+abbrev pub set_up_rules : (runs : Bool) → Module → ProgramText → Result SetUp ScriptFault
+set_up_rules runs p t = with_lines runs p.imports t (told_funcs t (set_up p t.area (map named_entry t.entries)))
+
+-- ---- names
+
+-- what is named in the program's lines
+abbrev pub program_names : Module → ProgramText → Names
+program_names p t = record { imports = import_names p; entries = map (λ (e : EntryText). e.name) t.entries; len = t.area.len }

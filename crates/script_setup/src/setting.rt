@@ -1,0 +1,224 @@
+// A program, set up.
+ghost use Rattle.std.specs.Prelude.{◌≡◌, ◌<◌, ◌^◌, IfOk, Ok, length, map, position};
+ghost use Rattle.std.specs.Option.{option_map};
+ghost use Rattle.wa_types.specs.View.{module_of};
+ghost use Rattle.host_setup.specs.SetUp.{set_up};
+ghost use Rattle.host_setup.specs.Views.{entry_of as named_entry_of};
+ghost use Rattle.wa_model.specs.ScriptLines.{or_else};
+ghost use Rattle.script_reader.specs.Views.{program_of, show_of};
+ghost use Rattle.script_setup.specs.SetUpRules.{bad_show, entry_line, global_line, global_values, named_entry, overlaps, set_up_rules, show_line, told_funcs, told_at, with_lines};
+ghost use Rattle.script_setup.specs.Views.{Reads, broken_of, rule_fault, set_up_of};
+
+use crate::entries::copied_entries;
+use crate::fault::RuleFault;
+use crate::globals::{bad_global, global_values};
+use host_setup::{Entry, SetupFault, set_up};
+use script_reader::{ProgramText, ShowText};
+use std::alloc::Global;
+use wa_model::Area;
+use wa_types::{Import, Value};
+use wasm_validate::Valid;
+
+/// What a program is given: its entries, the functions that they call, and one value for each imported global.
+#[derive(Debug, Drop)]
+pub struct SetUp {
+    pub entries: Vec<Entry>,
+    pub funcs: Vec<u32>,
+    pub globals: Vec<Value>,
+}
+
+/// What a program of a script is given over its module; or the line and the rule of its first fault, rules from 9 to 15 one after
+/// another. `runs` asks the last one, too, which `run` alone has. Takes time near linear in the module's imports and exports and in
+/// the lines.
+pub fn set_up_program(
+    alloc: Global,
+    valid: &Valid,
+    text: &ProgramText,
+    runs: bool,
+) -> Result<SetUp, RuleFault>
+    requires { length text.now.entries.items < 2 ^ 32 }
+    ensures made { Reads set_up_of result (set_up_rules runs (module_of valid.now) (program_of text.now)) }
+    ensures entries { IfOk result (λ made. map named_entry_of made.entries.items ≡ map named_entry (program_of text.now).entries) }
+{
+    let entries = copied_entries(alloc, &text.entries)?;
+    match entry_funcs(alloc, valid, text, &entries) {
+        Ok(funcs) => with_lines(alloc, &valid.module().imports, text, runs, entries, funcs),
+        Err(fault) => Err(fault),
+    }
+}
+
+// The functions of a program's entries, or the line and the rule of the first fault of its module's set-up.
+fn entry_funcs(
+    alloc: Global,
+    valid: &Valid,
+    text: &ProgramText,
+    entries: &[Entry],
+) -> Result<Vec<u32>, RuleFault>
+    requires few { length entries.now < 2 ^ 32 }
+    requires same { map named_entry_of entries.now ≡ map named_entry (program_of text.now).entries }
+    ensures { Reads (λ funcs. funcs.items) result (told_funcs (program_of text.now) (set_up (module_of valid.now) text.now.area (map named_entry (program_of text.now).entries))) }
+{
+    match set_up(alloc, valid, text.area, entries) {
+        Ok(funcs) => Ok(funcs),
+        Err(fault) => Err(rule_fault(text, fault)),
+    }
+}
+
+// The line and the rule of a fault of the module's set-up.
+fn rule_fault(text: &ProgramText, fault: SetupFault) -> RuleFault
+    ensures { result ≡ rule_fault (program_of text.now) fault }
+{
+    match fault {
+        SetupFault::Memory => RuleFault::Memory,
+        SetupFault::AreaBad => RuleFault::Rule {
+            line: text.area_line,
+            rule: 9,
+        },
+        SetupFault::NoExports { .. } => RuleFault::Rule {
+            line: text.line,
+            rule: 10,
+        },
+        SetupFault::EntryMissing { entry } => RuleFault::Rule {
+            line: entry_line(text, entry),
+            rule: 11,
+        },
+        SetupFault::EntryIsImport { entry } => RuleFault::Rule {
+            line: entry_line(text, entry),
+            rule: 12,
+        },
+        SetupFault::ArgTypes { entry } => RuleFault::Rule {
+            line: entry_line(text, entry),
+            rule: 13,
+        },
+    }
+}
+
+fn entry_line(text: &ProgramText, entry: u32) -> u32
+    ensures { result ≡ entry_line (program_of text.now) entry }
+{
+    match text.entries.get(entry as usize) {
+        Some(entry) => entry.line,
+        None => 0,
+    }
+}
+
+// A program whose entries call these functions.
+fn with_lines(
+    alloc: Global,
+    imports: &[Import],
+    text: &ProgramText,
+    runs: bool,
+    entries: Vec<Entry>,
+    funcs: Vec<u32>,
+) -> Result<SetUp, RuleFault>
+    ensures made { Reads set_up_of result (with_lines runs imports.now (program_of text.now) (Ok funcs.items)) }
+    ensures entries { IfOk result (λ made. made.entries ≡ entries) }
+{
+    let place = bad_global(alloc, imports, &text.globals)?;
+    match lines_fault(runs, text, place) {
+        Some(broken) => Err(RuleFault::Rule {
+            line: broken.line,
+            rule: broken.rule,
+        }),
+        None => with_values(alloc, imports, text, entries, funcs),
+    }
+}
+
+fn with_values(
+    alloc: Global,
+    imports: &[Import],
+    text: &ProgramText,
+    entries: Vec<Entry>,
+    funcs: Vec<u32>,
+) -> Result<SetUp, RuleFault>
+    ensures made { Reads set_up_of result (Ok (record { funcs = funcs.items; globals = global_values imports.now (program_of text.now).globals })) }
+    ensures entries { IfOk result (λ made. made.entries ≡ entries) }
+{
+    let globals = global_values(alloc, imports, &text.globals)?;
+    Ok(SetUp {
+        entries,
+        funcs,
+        globals,
+    })
+}
+
+/// A line and the rule that it breaks.
+#[derive(Clone, Copy, Debug, PartialEq, Eq)]
+pub(crate) struct Broken {
+    pub line: u32,
+    pub rule: u8,
+}
+
+// The first line that breaks a rule of globals, the first of which that does stands here, or of shown memory.
+fn lines_fault(runs: bool, text: &ProgramText, place: Option<usize>) -> Option<Broken>
+    ensures { or_else (told_at 14 (global_line (program_of text.now)) place) (told_at 15 (show_line (program_of text.now)) (bad_show runs (program_of text.now).area (program_of text.now).shows)) ≡ option_map broken_of result }
+{
+    match place {
+        Some(place) => Some(Broken {
+            line: global_line(text, place),
+            rule: 14,
+        }),
+        None => show_fault(text, bad_show(runs, text.area, &text.shows)),
+    }
+}
+
+fn show_fault(text: &ProgramText, place: Option<usize>) -> Option<Broken>
+    ensures { told_at 15 (show_line (program_of text.now)) place ≡ option_map broken_of result }
+{
+    match place {
+        Some(place) => Some(Broken {
+            line: show_line(text, place),
+            rule: 15,
+        }),
+        None => None,
+    }
+}
+
+fn global_line(text: &ProgramText, place: usize) -> u32
+    ensures { result ≡ global_line (program_of text.now) place }
+{
+    match text.globals.get(place) {
+        Some(global) => global.line,
+        None => 0,
+    }
+}
+
+fn show_line(text: &ProgramText, place: usize) -> u32
+    ensures { result ≡ show_line (program_of text.now) place }
+{
+    match text.shows.get(place) {
+        Some(show) => show.line,
+        None => 0,
+    }
+}
+
+// The place of the first range of memory that `run` may not show.
+fn bad_show(runs: bool, area: Area, shows: &[ShowText]) -> Option<usize>
+    ensures { bad_show runs area (map show_of shows.now) ≡ result }
+{
+    if runs {
+        first_overlap(area, shows)
+    } else {
+        None
+    }
+}
+
+fn first_overlap(area: Area, shows: &[ShowText]) -> Option<usize>
+    ensures { position (overlaps area) (map show_of shows.now) ≡ result }
+{
+    let place = overlapping(area, shows);
+    place
+}
+
+fn overlapping(area: Area, shows: &[ShowText]) -> Option<usize>
+    ensures { result ≡ position (λ s. overlaps area (show_of s)) shows.now }
+{
+    shows.iter().position(|show| overlaps(area, show))
+}
+
+fn overlaps(area: Area, show: &ShowText) -> bool
+    ensures { result ≡ overlaps area (show_of show.now) }
+{
+    u64::from(show.at) < u64::from(area.at) + u64::from(area.len)
+        && u64::from(area.at) < u64::from(show.at) + u64::from(show.len)
+}
