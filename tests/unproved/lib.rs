@@ -1,5 +1,6 @@
 //! The public calls that no command reaches, or not at this edge, with values from outside: each allocating call with
-//! ample memory, worked numbers and operators, flat and guarded functions, files and outputs that fail in the middle.
+//! ample memory, worked numbers and operators, flat and guarded functions, written modules driven as a host does, files and
+//! outputs that fail in the middle.
 //! `tests/run` runs it; nothing here is proved.
 #![tactic(auto)]
 
@@ -7,6 +8,8 @@
 mod building;
 #[cfg(test)]
 mod commands;
+#[cfg(test)]
+mod driving;
 #[cfg(test)]
 mod flattening;
 #[cfg(test)]

@@ -9,31 +9,31 @@ use wasm_validate::Valid;
 
 /// An instance of a module without imported globals, with the steps that it may pay.
 #[derive(Drop)]
-struct Runner<'m> {
-    instance: Instance<'m>,
-    steps: Steps,
+pub struct Runner<'m> {
+    pub instance: Instance<'m>,
+    pub steps: Steps,
 }
 
 impl<'m> Runner<'m> {
     /// An instance that may pay so many steps.
-    fn new(alloc: Global, valid: &'m Valid, left: u64) -> Result<Runner<'m>, MakeFault> {
+    pub fn new(alloc: Global, valid: &'m Valid, left: u64) -> Result<Runner<'m>, MakeFault> {
         let instance = Instance::make(alloc, valid, &[])?;
         let steps = Steps { left, used: 0 };
         Ok(Runner { instance, steps })
     }
 
     /// Calls a function in place of what waits.
-    fn begin(&mut self, func: u32, args: &[Value]) -> Result<Turn, AllocError> {
+    pub fn begin(&mut self, func: u32, args: &[Value]) -> Result<Turn, AllocError> {
         self.instance.begin(func, args, &mut self.steps)
     }
 
     /// Calls a function and leaves what waits as it is.
-    fn aside(&mut self, func: u32, args: &[Value]) -> Result<Turn, AllocError> {
+    pub fn aside(&mut self, func: u32, args: &[Value]) -> Result<Turn, AllocError> {
         self.instance.aside(func, args, &mut self.steps)
     }
 
     /// Gives what waits its answer.
-    fn resume(&mut self, value: Option<Value>) -> Result<Turn, AllocError> {
+    pub fn resume(&mut self, value: Option<Value>) -> Result<Turn, AllocError> {
         self.instance.resume(value, &mut self.steps)
     }
 }
@@ -116,21 +116,21 @@ fn fault_of(alloc: Global, bytes: &[u8]) -> Result<Option<MakeFault>, LoadFault>
     Ok(Runner::new(alloc, &module, 100).err())
 }
 
-fn is_returned(turn: &Turn, value: Option<Value>) -> bool {
+pub fn is_returned(turn: &Turn, value: Option<Value>) -> bool {
     match turn {
         Turn::Returned(v) => *v == value,
         _ => false,
     }
 }
 
-fn is_trapped(turn: &Turn, trap: Trap) -> bool {
+pub fn is_trapped(turn: &Turn, trap: Trap) -> bool {
     match turn {
         Turn::Trapped(t) => *t == trap,
         _ => false,
     }
 }
 
-fn asks(turn: &Turn, import: u32, args: &[Value]) -> bool {
+pub fn asks(turn: &Turn, import: u32, args: &[Value]) -> bool {
     match turn {
         Turn::Waiting(call) => call.import == import && call.args.as_slice() == args,
         _ => false,

@@ -1,0 +1,13 @@
+pub mod AloneLines
+pub mod CallLists
+pub mod Completing
+pub mod Counting
+pub mod Determined
+pub mod Meeting
+pub mod Merging
+pub mod Played
+pub mod Rows
+pub mod Shows
+pub mod Stories
+pub mod Tails
+pub mod Worlds
