@@ -3,11 +3,15 @@
 # with. With no argument it runs `rt ci --anew`; with names of crates, `rt ci --anew NAME ..`; with a file it reads what an
 # earlier run of this script wrote. The run's log stays in bench/out. `rt` tells no times: they are those of its processes,
 # looked at five times a second, so a crate may lack a fifth of a second for each; the sum is the system's own, and exact.
-# Fails where `rt ci` does, where the sum passes 90 minutes, or where the proof of a crate passes 60 seconds that isn't among
-# those that are known to.
+# Fails where `rt ci` does; where the crates that stood before flattening, and those that were split off them since, pass 90
+# minutes together; where all of it passes 300, of the 360 that a run of three hours has on two processors; or where the proof
+# of a crate passes 60 seconds that isn't among those that are known to. The bars hold for a run of all crates.
 . "$(dirname "$0")/common.sh"
 known="asyncify_app asyncify_cli asyncify_runtime bench_loops call_graph interp vault_port wa_model wa_types
     wasm_encode wasm_reader wasm_validate"
+old="wa_types wa_ops page_memory wa_model wasm_tree wasm_reader wasm_validate wasm_encode call_graph asyncify_runtime
+    vault_port interp asyncify_app asyncify_cli command_words printing source_modules round_trip bench_loops
+    definition_check"
 mkdir -p "$bench/out"
 log=$bench/out/gate.log
 
@@ -70,10 +74,11 @@ if [ -f "${1:-}" ]; then
 else
     (cd "$bench/.." && run_gate "$@") 2>&1 | tee "$log"
 fi
-python3 - "$log" $known <<'PY' || failed=1
+python3 - "$log" "$known" "$old" <<'PY' || failed=1
 import collections, re, sys
 
-lines, known = open(sys.argv[1], errors="replace").read().splitlines(), sys.argv[2:]
+lines, known, old = open(sys.argv[1], errors="replace").read().splitlines(), *map(str.split, sys.argv[2:])
+old_bar, whole_bar = 90, 300
 seconds, whole = collections.defaultdict(dict), None
 for line in lines:
     told = re.fullmatch(r"seconds (\w+) (\S+) ([\d.]+)", line)
@@ -95,12 +100,15 @@ failed = " 0 failed" not in verdict
 if whole is None:
     print("the log tells no seconds: it isn't one of bench/gate.sh")
     sys.exit(1)
-print("%.1f processor minutes, of at most 90" % (whole / 60))
+of_old = sum(sum(by.values()) for crate, by in seconds.items() if crate in old)
+print("%.1f processor minutes in the crates before flattening, of at most %d" % (of_old / 60, old_bar))
+print("%.1f in those since" % ((sum(kinds) - of_old) / 60))
+print("%.1f in all, with what rt itself takes, of at most %d" % (whole / 60, whole_bar))
 long = [crate for crate, by in seconds.items() if by.get("proof", 0) > 60]
 new = [crate for crate in long if crate not in known]
 print("over 60 s from nothing: %s" % (" ".join(sorted(long)) or "none"))
 if new:
     print("and not known to be: %s" % " ".join(sorted(new)))
-sys.exit(failed or whole > 90 * 60 or bool(new))
+sys.exit(failed or of_old > old_bar * 60 or whole > whole_bar * 60 or bool(new))
 PY
 exit $failed

@@ -1,3 +1,4 @@
+pub mod Codes
 pub mod FieldRows
 pub mod RestoredParts
 pub mod SavedParts

@@ -1,6 +1,6 @@
 -- What the code of frames that differ by call does: at call k that of its layout.
-use Rattle.std.specs.Prelude.{◌≡◌, ◌≢◌, ℕ, ◌+◌, ◌^◌, ◌≤◌, ◌<◌, List, [], ◌∷◌, length, Bool, slice_set}
-use Rattle.wa_types.specs.Syntax.{Code, Module}
+use Rattle.std.specs.Prelude.{◌≡◌, ◌≢◌, ℕ, ◌+◌, ◌^◌, ◌≤◌, ◌<◌, List, [], ◌∷◌, length, Option, Bool, slice_set}
+use Rattle.wa_types.specs.Syntax.{Code, done, Module}
 use Rattle.wa_types.specs.declared.values.Value.{Value}
 use Rattle.wa_types.specs.declared.values.Value.TheVariants as V
 use Rattle.wa_ops.specs.Integers.{of_bool}
@@ -8,7 +8,7 @@ use Rattle.wa_model.specs.Configuration.{Label, Activation, running}
 use Rattle.wa_model.specs.Store.{Store, with_memory, value_at}
 use Rattle.wa_model.specs.declared.answers.Area.{Area}
 use Rattle.frame_laws.specs.FrameMemory.{AreaAt, FieldsFit, HoldsFrameOf, Lowered, Pushed, Restored}
-use Rattle.frame_laws.specs.Function.{KeptWithin}
+use Rattle.frame_laws.specs.Function.{FrameCodes, KeptWithin, WrittenFunc}
 use Rattle.frame_laws.specs.Layout.{frame_size}
 use Rattle.frame_laws.specs.Saving.{Savable, TrapsAt}
 use Rattle.call_frames.specs.FrameParts.{FramePart, at_all, at_some, fields_at, CallFrames, layout_at, saving_by_call, save_bound, restoring_by_call, restore_bound}
@@ -79,3 +79,21 @@ RestoresByCall =
     → FramesTell f → k < f.count → AreaAt f.address area s (loc + frame_size (layout_at f k)) → area.at + 8 ≤ loc → HoldsFrameOf (layout_at f k) s.memory loc old k
     → FieldsFit f.scratch old (fields_at k f.parts) → FieldsFit f.index old (fields_at k f.parts) → k < 2 ^ 32
     → length ls ≡ length old → f.scratch < length ls → f.index < length ls → RestoresAt g area p fn under labels f s old ls loc k next
+
+-- ---- both, as stacks ask for them
+
+-- a written function whose frames differ by call, as call k finds it
+abbrev pub by_call : CallFrames → (k : ℕ) → (body : Code) → (result : Option ℕ) → WrittenFunc
+by_call f k body result = record {
+  layout = layout_at f k;
+  body = body;
+  result = result;
+  saving = saving_by_call f done;
+  restoring = restoring_by_call f done;
+  save_most = save_bound f;
+  restore_most = restore_bound f;
+}
+
+-- At each call its codes save and restore the frame of that call.
+abbrev pub CodesByCall : Type 0
+CodesByCall = (f : CallFrames) (k : ℕ) (body : Code) (result : Option ℕ) → FramesTell f → k < f.count → FrameCodes (by_call f k body result) k

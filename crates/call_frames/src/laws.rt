@@ -1,6 +1,6 @@
 //! Laws of the code. Each is the contract of a function that does nothing.
 
-ghost use Rattle.call_frames.specs.ByCall.{OverflowsByCall, RestoresByCall, SavesByCall};
+ghost use Rattle.call_frames.specs.ByCall.{CodesByCall, OverflowsByCall, RestoresByCall, SavesByCall};
 ghost use Rattle.call_frames.specs.CallTests.{CallsTell, EitherTells, ElsewhereTells, SizesTell};
 
 /// At each call exactly its frame is put at the location, and nothing else changes; or, where that doesn't fit, the code traps
@@ -14,6 +14,11 @@ pub fn frames_are_saved_by_call()
 /// changes.
 pub fn frames_are_restored_by_call()
     ensures { RestoresByCall }
+{}
+
+/// So a function with such frames has what the laws on stacks ask of its codes, at each of its calls.
+pub fn codes_save_and_restore()
+    ensures { CodesByCall }
 {}
 
 /// A comparison of the index tells one call; tests joined by `or` tell the calls of both, and one turned by `eqz` all others; and

@@ -7,4 +7,6 @@
 
 mod laws;
 
-pub use laws::{frames_are_restored_by_call, frames_are_saved_by_call, tests_tell};
+pub use laws::{
+    codes_save_and_restore, frames_are_restored_by_call, frames_are_saved_by_call, tests_tell,
+};

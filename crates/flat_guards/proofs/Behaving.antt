@@ -163,8 +163,8 @@ module _ (m : Module) (s : Settings) (which : List Bool) (keep : (func local : �
   area = fits_areas m p plan em.imports em.memories plan_fits
 
   -- ALL FOUR FIELDS, from how stacks stand
-  pub says : StandsLaw k B A → (os : List Outcome) (n : ℕ) → Compared m s plan os n → PausesNumbered m s which (Blocking m plan os n).events → BehavesOn m s p plan os n which (expected_notes m s plan os n)
+  pub says : StandsLaw k B A (λ c d. c ≡ d) → (os : List Outcome) (n : ℕ) → Compared m s plan os n → PausesNumbered m s which (Blocking m plan os n).events → BehavesOn m s p plan os n which (expected_notes m s plan os n)
   says stands os n cmp pauses =
       headline_all (world_of k) whole (Known p written_valid plan written_fits area typed written_codes) (written_law (world_of k) written_valid written_fits area typed written_codes) (GoodStore k) first
-      (Links k B A) (WaitLinks k B A) (flat_law k fit B A (beside_law (Base m) which k.flat (flattened_so m s which keep plan p valid tells em plan_fits base_in))
+      (Links k B A) (WaitLinks k B A) (flat_law k fit (λ c d. c ≡ d) B A (beside_law (Base m) which k.flat (flattened_so m s which keep plan p valid tells em plan_fits base_in))
       (paired m s which keep plan p valid tells em plan_fits base_in) stands) os n cmp pauses

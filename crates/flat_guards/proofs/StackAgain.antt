@@ -27,6 +27,7 @@ use Rattle.range_laws.specs.Ranges.{CodesIn}
 use Rattle.flat_laws.specs.Flatten.{names, top_of}
 use Rattle.flat_runs.specs.Beside.{Asked, Beside, Callers, Locals, above, above_same, host}
 use Rattle.frame_laws.specs.FrameMemory.{IsKept}
+use Rattle.guard_frames.specs.Joined.{CallFrame}
 use Rattle.guard_frames.specs.Returned.{AllSameFlat}
 use Rattle.guard_runs.specs.Alike.{Paired, Setting, sides_of}
 use Rattle.guard_runs.specs.Beside.{Twin, both_defined, both_import}
@@ -60,7 +61,7 @@ written_fit : (v : Setting) (p : Module) (g : ℕ) (cs ws : List Activation) →
 written_fit v p g _ _ (S.host e) fit = tt
 written_fit v p g _ _ (S.above {under = under} {under' = under'} fn here is ls extra ops taken both h pl gt deep below) fit = ((extra, fit.0), written_fit v p fn under under' below fit.1)
 
-named_again : (n : Spaces) (lay : ℕ → Rattle.frame_laws.specs.Layout.Layout) (vs cs : List Activation) → AllSameFlat lay vs cs → Each (ActNamed n) vs → Each (ActNamed n) cs
+named_again : (n : Spaces) (lay : Activation → CallFrame) (vs cs : List Activation) → AllSameFlat lay vs cs → Each (ActNamed n) vs → Each (ActNamed n) cs
 named_again n lay [] [] same h = tt
 named_again n lay [] (c ∷ cs) same h = absurd same
 named_again n lay (a ∷ vs) [] same h = absurd same
@@ -101,7 +102,7 @@ module _ (m : Module) (s : Settings) (which : List Bool) (keep : (func local : �
       let sm = same.0 in
       let same_f : f ≡ num.func = the_func f num.func (sym is ∙ num.is) in
       let defined : defined_at m fn ≡ Some num.func = sym (base_defined m fn) ∙ num.is in
-      let lay_is : layout_of m s which keep fn num.func ≡ k.lay fn = sym (ap (λ o. lay_at m s which keep fn o) defined) in
+      let lay_is : layout_of m s which keep fn num.func ≡ lay_at m s which keep fn (defined_at m fn) = sym (ap (λ o. lay_at m s which keep fn o) defined) in
       let kept : (y : ℕ) → IsKept y (fields_of (keep fn) (Saved (Base m) save_all num.func 0)) → value_at c.locals y ≡ value_at (ls ++ extra) y = λ y h. sm.kept_same y (subst (λ z. IsKept y z.fields) lay_is h) in
       let held0 = subst (λ (z : Func). Locals (Base m) z ls extra (taken ++ ops)) same_f l in
       let sp2 = split m s which keep p valid em a table g num told extra held0 c.locals sm.size kept in
@@ -216,7 +217,7 @@ module _ (m : Module) (s : Settings) (which : List Bool) (keep : (func local : �
       }
 
   -- STACKS STAND AS FRAMES, but for what a pause costs
-  pub stacks_stand : StandsLaw (core_of m s which keep plan p) (Beside (Base m) which) (Asked (Base m) which)
+  pub stacks_stand : StandsLaw (core_of m s which keep plan p) (Beside (Base m) which) (Asked (Base m) which) (λ c d. c ≡ d)
   stacks_stand = record {
     numbers = λ top i d f l nums. numbers m s which keep plan p valid tells em plan_fits codes top i d f l nums;
     stands = stands;

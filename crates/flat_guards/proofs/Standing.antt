@@ -20,15 +20,17 @@ use Rattle.range_laws.specs.Ranges.{CodesIn}
 use Rattle.flat_runs.specs.Beside.{AtZero}
 use Rattle.frame_laws.specs.Function.{rewinding, unwinding}
 use Rattle.frame_laws.specs.Layout.{Layout}
+use Rattle.frame_laws.proofs.OneFunction.{layout_codes}
 use Rattle.frame_laws.specs.Stack.{AllKept, Level, slot_values}
 use Rattle.frame_laws.specs.Suspended.{AllStandFor, Lays, StandsFor}
 use Rattle.guard_form.specs.Bounds.{passing}
-use Rattle.guard_form.specs.Functions.{ArmsHold, GuardedFunc, with_guards}
+use Rattle.guard_form.specs.Functions.{ArmsHold, GuardedFunc, indices_of, with_guards}
+use Rattle.guard_form.specs.Guarded.{front}
 use Rattle.guard_form.specs.Numbers.{calls_behind}
 use Rattle.guard_form.specs.Pieces.{Units, call_unit, flat_units}
 use Rattle.guard_form.specs.Places.{BodyPlace, Enclosing, flat_labels, in_a_block, in_a_loop}
 use Rattle.guard_form.proofs.Grouped.{arms_law}
-use Rattle.guard_frames.specs.Joined.{Uses, site_of, written_of}
+use Rattle.guard_frames.specs.Joined.{Uses, one_frame, site_of, written_of}
 use Rattle.guard_frames.specs.Levels.{FlatFieldsFit, MayStand, levels_of}
 use Rattle.guard_runs.specs.Alike.{Setting}
 use Rattle.guard_runs.specs.Rewinding.{NoneBelow}
@@ -57,7 +59,7 @@ the_guards x y e = cc
 
 -- what unwinding and rewinding a guarded function costs
 abbrev pub pause_cost : (state : ℕ) → GuardedFunc → Layout → ℕ
-pause_cost st f l = unwinding (written_of st f l) 4 + rewinding (written_of st f l) (passing f.first f.body)
+pause_cost st f l = unwinding (written_of st f (one_frame l)) 4 + rewinding (written_of st f (one_frame l)) (passing f.first f.body)
 
 module _ (m : Module) (s : Settings) (which : List Bool) (keep : (func local : ℕ) → Bool) (plan : Plan) (p : Module) (valid : Valid m) (tells : TellsMayPause m s which) (em : Emitted m s which keep p)
     (plan_fits : P.Fits m plan) (codes : CodesIn (Base m)) (policy : s.policy ≡ save_all)
@@ -74,13 +76,16 @@ module _ (m : Module) (s : Settings) (which : List Bool) (keep : (func local : �
   abbrev st : ℕ
   st = global_space m
 
+  abbrev lay_of : ℕ → Layout
+  lay_of x = lay_at m s which keep x (defined_at m x)
+
   module _ (top : ℕ) where
     abbrev v : Setting
     v = setting (world_of k) top
 
     -- What is asked of an activation's level, but for the levels below.
     record LevelStands (a : Activation) (g : Func) (f : GuardedFunc) (l : Layout) (n : ℕ) (slots : List ℕ) (xs : List Enclosing) (ls more taken : List Value) : Type 0 where
-      pub uses : Uses f l
+      pub uses : Uses st f n (one_frame l)
       pub address : l.address ≡ suc st
       pub scratch : l.scratch ≡ suc f.size
       pub below : NoneBelow xs
@@ -124,7 +129,7 @@ module _ (m : Module) (s : Settings) (which : List Bool) (keep : (func local : �
           let count = F.slots_few m s which keep p valid em a a' pr table g num more fit st n slots x to behind rest xs pl left in
           let params = params_few a.func num.func num.is in
           record {
-            uses = record { index = refl; saving = refl; restoring = refl };
+            uses = record { index = refl; codes = layout_codes gl (front (indices_of st gf) 0 0 gf.first gf.body) gf.result n (λ e. let z : gl.index ≡ suc gl.index = e in omega arith) };
             address = refl;
             scratch = refl;
             below = none;
@@ -179,10 +184,10 @@ module _ (m : Module) (s : Settings) (which : List Bool) (keep : (func local : �
           the_guards (guarded_of m s which keep a.func num.func) f
           (sym (ap (λ t. role_at m s which keep t a.func (defined_at m a.func)) pr.told ∙ ap (λ o. role_at m s which keep true a.func o) defined) ∙ subst (λ y. v.role y ≡ with_guards f) func_is is)
 
-      lay_is : layout_of m s which keep a.func num.func ≡ k.lay fn
-      lay_is = sym (ap (λ y. k.lay y) func_is ∙ ap (λ o. lay_at m s which keep a.func o) defined)
+      lay_is : layout_of m s which keep a.func num.func ≡ lay_of fn
+      lay_is = sym (ap lay_of func_is ∙ ap (λ o. lay_at m s which keep a.func o) defined)
 
-      level : LevelStands a num.func f (k.lay fn) n slots xs ls extra taken
+      level : LevelStands a num.func f (lay_of fn) n slots xs ls extra taken
       level =
           let gf = guarded_of m s which keep a.func num.func in
           let gl = layout_of m s which keep a.func num.func in
@@ -191,21 +196,21 @@ module _ (m : Module) (s : Settings) (which : List Bool) (keep : (func local : �
           (subst (λ z. BodyPlace st z n (call_unit slots x to behind rest) xs) (sym f_is) pl)
           (subst (λ z. length (calls_of (set_to to (followed_by behind (flat_units rest)))) + calls_behind (flat_labels z xs) ≡ call_count a.code + calls_outside a.labels) (sym f_is) pr.left)
           (none_below f xs pr.zero) in
-          subst (λ t. LevelStands a num.func f (k.lay fn) n slots xs ls extra t) (sym pr.same_taken)
-          (subst (λ zs. LevelStands a num.func f (k.lay fn) n slots xs zs extra a.taken) (sym pr.locals)
+          subst (λ t. LevelStands a num.func f (lay_of fn) n slots xs ls extra t) (sym pr.same_taken)
+          (subst (λ zs. LevelStands a num.func f (lay_of fn) n slots xs zs extra a.taken) (sym pr.locals)
           (subst (λ l. LevelStands a num.func f l n slots xs (a.locals ++ pr.extra) extra a.taken) lay_is
           (subst (λ z. LevelStands a num.func z gl n slots xs (a.locals ++ pr.extra) extra a.taken) f_is here)))
 
       place_same : place_of (Some num.func) a.code a.labels ≡ (suspended (Base m) a).place
       place_same = ap (λ o. place_of o a.code a.labels) (sym num.is)
 
-      for_level : (w : Level) → w.locals ≡ ls ++ extra → w.fn.layout.fields ≡ (k.lay fn).fields → w.site.number ≡ n → StandsFor m s which w (suspended (Base m) a)
+      for_level : (w : Level) → w.locals ≡ ls ++ extra → w.fn.layout.fields ≡ (lay_of fn).fields → w.site.number ≡ n → StandsFor m s which w (suspended (Base m) a)
       for_level w e1 e2 e3 = record {
         func = num.func;
         defined = defined;
         lays = subst (λ zs. Lays (wanted m num.func (suspended (Base m) a)) zs w.fn.layout.fields (Saved m s.policy num.func (suspended (Base m) a).place)) (sym e1)
             (subst (λ fs. Lays (wanted m num.func (suspended (Base m) a)) (ls ++ extra) fs (Saved m s.policy num.func (suspended (Base m) a).place)) (sym e2)
-            (subst (λ q. Lays (wanted m num.func (suspended (Base m) a)) (ls ++ extra) (k.lay fn).fields (Saved m s.policy num.func q)) place_same level.lays));
+            (subst (λ q. Lays (wanted m num.func (suspended (Base m) a)) (ls ++ extra) (lay_of fn).fields (Saved m s.policy num.func q)) place_same level.lays));
         number = ap (call_number m s which num.func) (sym place_same) ∙ level.number ∙ ap (λ i. Some i) (sym e3);
       }
 
@@ -215,13 +220,13 @@ module _ (m : Module) (s : Settings) (which : List Bool) (keep : (func local : �
       params_are : param_count (func_type_at v.flat fn) ≡ param_count (func_type_at (Base m) a.func)
       params_are = ap (λ y. param_count (func_type_at v.flat y)) func_is ∙ params_same a.func num.func num.is
 
-      weighs_enough : param_count (func_type_at v.flat fn) + (unwinding (written_of st f (k.lay fn)) 4 + 1 + (2 * length slots + 1) + rewinding (written_of st f (k.lay fn)) (passing f.first f.body)) ≤ activation_bound m (suspended (Base m) a)
+      weighs_enough : param_count (func_type_at v.flat fn) + (unwinding (written_of st f (one_frame (lay_of fn))) 4 + 1 + (2 * length slots + 1) + rewinding (written_of st f (one_frame (lay_of fn))) (passing f.first f.body)) ≤ activation_bound m (suspended (Base m) a)
       weighs_enough = let w = level.weighs in let e = bound_is in let q = params_are in omega arith
 
     abbrev level_at : (fn : ℕ) (f : GuardedFunc) (n h : ℕ) (slots : List ℕ) (x : Callee) (to : Option ℕ) (behind : Code) (rest : Units) (xs : List Enclosing) (zs ops taken : List Value) → Level
     level_at fn f n h slots x to behind rest xs zs ops taken = record {
       func = fn;
-      fn = written_of st f (k.lay fn);
+      fn = written_of st f (one_frame (lay_of fn));
       site = site_of st f n h slots x to behind rest xs;
       locals = zs;
       ops = ops;

@@ -22,7 +22,7 @@ module _ (m : Module) (s : Settings) (which : List Bool) (keep : (func local : �
       let bad : true ≡ false = ap is_told (sym told) ∙ stay d.here.func in
       cc
 
-  pub none_stand : StandsLaw (core_of m s which keep plan p) (Beside (Base m) which) (Asked (Base m) which)
+  pub none_stand : StandsLaw (core_of m s which keep plan p) (Beside (Base m) which) (Asked (Base m) which) (λ c d. c ≡ d)
   none_stand = record {
     numbers = λ top i d f l nums. absurd (never d nums);
     stands = λ top i d f us' st l nums fit. absurd (never d nums);

@@ -39,10 +39,7 @@ use Rattle.flat_links.specs.Links.{GoodStore, L, Linked, LinkedWaits, StandsLaw,
 use Rattle.flat_links.proofs.Spaces.{based_valid, funcs_are, func_type_same, grown_defined, grown_func_type, imports_few, names_there, results_same, steps_same, globals_same, sorts_same}
 use Rattle.flat_links.proofs.ProperFlat.{FlatOk, ok_on, proper_here, quiet_keeps, quiet_ok, still_of}
 
-module _ (k : Core) (fit : CoreFits k) (B : Configuration → Configuration → Type 0) (A : ℕ → Configuration → Configuration → Type 0) (law : BesideLaw (based k) k.flat B A) where
-  abbrev Eq : Configuration → Configuration → Type 0
-  Eq c d = c ≡ d
-
+module _ (k : Core) (fit : CoreFits k) (Live B : Configuration → Configuration → Type 0) (A : ℕ → Configuration → Configuration → Type 0) (law : BesideLaw (based k) k.flat B A) where
   abbrev LL : ℕ → Configuration → Configuration → Type 0
   LL = L k B A
 
@@ -74,7 +71,7 @@ module _ (k : Core) (fit : CoreFits k) (B : Configuration → Configuration → 
         (λ same. subst (StaysOff k.plan.area (length mid.store.memory)) (sym same) (subst (λ (s : Store). StaysOff k.plan.area (length s.memory) (next_access c)) st off))
         access
 
-    by_next : (o : Next) → NextBeside (based k) k.flat B A c f o → NextFits (based k) l.outs o → NextIn 0 o → NextAtSpots (based k) o → NextAt (based k) c.store.table l.root o → FlatNext (world_of k) Eq LL WW (GoodStore k) top o f
+    by_next : (o : Next) → NextBeside (based k) k.flat B A c f o → NextFits (based k) l.outs o → NextIn 0 o → NextAtSpots (based k) o → NextAt (based k) c.store.table l.root o → FlatNext (world_of k) Live LL WW (GoodStore k) top o f
     by_next (steps j0 d) sb nf ni ns na =
         let ok1 = quiet_ok k fit top l.flat_outs f sb.mid sb.n1 ok sb.before in
         let keep = quiet_keeps k fit top f sb.mid sb.n1 sb.before in
@@ -144,7 +141,7 @@ module _ (k : Core) (fit : CoreFits k) (B : Configuration → Configuration → 
         }
     by_next stuck nb nf ni ns na = nf
 
-    reduces : FlatNext (world_of k) Eq LL WW (GoodStore k) top (step (based k) c) f
+    reduces : FlatNext (world_of k) Live LL WW (GoodStore k) top (step (based k) c) f
     reduces = by_next (step (based k) c) (law.reduces c f l.beside) (steps_fit (based k) l.outs c (based_valid k fit) l.fits) (step_in 0 (based k) fit.codes c l.ranges)
         (steps_spot (based k) c (based_valid k fit) l.spots) (step_stands (based k) c.store.table l.root c l.stands)
 
@@ -153,7 +150,7 @@ module _ (k : Core) (fit : CoreFits k) (B : Configuration → Configuration → 
   -- quiet reductions to where both are linked
   comes : (top most : ℕ) (c f : Configuration) (outs flat_outs : List ValType) → Fits (based k) outs c → ConfigurationIn 0 c → ConfigurationAtSpots (based k) c → (root : ℕ) → ConfigurationAt (based k) c.store.table root c
       → FlatOk k fit top flat_outs f → ComesBeside (based k) k.flat B A c f most
-      → FlatOn (world_of k) Eq LL WW (GoodStore k) top most c f
+      → FlatOn (world_of k) Live LL WW (GoodStore k) top most c f
   comes top most c f outs flat_outs fits ranges spots root stands ok cb =
       let ok2 = quiet_ok k fit top flat_outs f cb.to cb.n ok cb.goes in
       record {
@@ -174,7 +171,7 @@ module _ (k : Core) (fit : CoreFits k) (B : Configuration → Configuration → 
       }
 
   answered : (top i : ℕ) (d f : Configuration) (start : Bool) (a : Answer) → LinkedWaits k B A i d f → AnswerFits a → fault_of (func_type_at (based k) i).results (length d.store.memory) k.plan start i a ≡ None
-      → FlatOn (world_of k) Eq LL WW (GoodStore k) top 4 (resumed d (poked d.store a.pokes) (option_to_list a.value)) (resumed f (poked d.store a.pokes) (option_to_list a.value))
+      → FlatOn (world_of k) Live LL WW (GoodStore k) top 4 (resumed d (poked d.store a.pokes) (option_to_list a.value)) (resumed f (poked d.store a.pokes) (option_to_list a.value))
   answered top i d f start a l fits none =
       let vs = option_to_list a.value in
       let s2 = poked d.store a.pokes in
@@ -201,7 +198,7 @@ module _ (k : Core) (fit : CoreFits k) (B : Configuration → Configuration → 
 
   module _ (paired : (top : ℕ) → Paired (setting (world_of k) top)) where
     enters : (x : ℕ) (args : List Value) (h : Func) (s : Store) → AreLawful (func_type_at (based k) x).params args → GoodStore k s → defined_at (based k) x ≡ Some h
-        → FlatEnters (world_of k) Eq LL WW (GoodStore k) x args h s
+        → FlatEnters (world_of k) Live LL WW (GoodStore k) x args h s
     enters x args h s lawful g there =
         by_twin ((paired x).twin x known)
       where
@@ -226,7 +223,7 @@ module _ (k : Core) (fit : CoreFits k) (B : Configuration → Configuration → 
         defined : defined_at (world_of k).flat x ≡ Some eb.func
         defined = grown_defined k fit x within ∙ eb.defined
 
-        by_twin : Twin (sides_of (setting (world_of k) x)) x → FlatEnters (world_of k) Eq LL WW (GoodStore k) x args h s
+        by_twin : Twin (sides_of (setting (world_of k) x)) x → FlatEnters (world_of k) Live LL WW (GoodStore k) x args h s
         by_twin (both_import none1 none2) = let z : None ≡ Some eb.func = sym none1 ∙ defined in cc
         by_twin (both_defined g1 g2 is1 is2 b1 b2 ls size) = record {
           func = eb.func;
@@ -252,7 +249,7 @@ module _ (k : Core) (fit : CoreFits k) (B : Configuration → Configuration → 
     memory_small s g = let m = g.ranges.memory.pages.bounded in let z : 1024 * page_size < 2 ^ 32 = omega arith in omega arith
 
     -- ALL THAT FLATTENING OWES
-    pub flat_law : StandsLaw k B A → FlatLaw (world_of k) Eq LL WW (GoodStore k)
+    pub flat_law : StandsLaw k B A Live → FlatLaw (world_of k) Live LL WW (GoodStore k)
     flat_law st = record {
       store = λ top c f l. law.store c f l.beside;
       good = λ top c f l. record { fits = l.fits.store; named = subst (λ s. StoreNamed (spaces_of k.flat) s) (law.store c f l.beside) l.named.store; ranges = l.ranges.store };

@@ -10,11 +10,12 @@ use Rattle.wa_model.specs.Growth.{grown_module}
 use Rattle.wa_model.specs.Instantiation.{Opening, fails_as, opens, opening}
 use Rattle.wa_model.specs.Plan.{Plan, Fits}
 use Rattle.range_laws.specs.Ranges.{CodesIn}
-use Rattle.frame_laws.specs.Layout.{Layout}
+use Rattle.wa_model.specs.Configuration.{Activation}
+use Rattle.guard_frames.specs.Joined.{CallFrame}
 use Rattle.guard_form.specs.Functions.{Role}
 use Rattle.headline_laws.specs.World.{World}
 
--- The modules, the function of each index, which calls have numbers, and what the frames of each function keep.
+-- The modules, the function of each index, which calls have numbers, and the frame of each flat activation that waits at one.
 pub record Core : Type 0 where
   pub original : Module
   pub settings : Settings
@@ -24,7 +25,7 @@ pub record Core : Type 0 where
   pub written : Module
   pub role : ℕ → Role
   pub numbered : Callee → Bool
-  pub lay : ℕ → Layout
+  pub lay : Activation → CallFrame
 
 -- the original with the memory that it is compared with
 abbrev pub based : Core → Module

@@ -57,11 +57,11 @@ module _ (k : Core) (B : Configuration → Configuration → Type 0) (A : ℕ �
   abbrev pub W : (top i : ℕ) → Configuration → Configuration → Type 0
   W top i d f = LinkedWaits i d f
 
-  -- What a suspended stack of numbered calls owes beside.
-  pub record StandsLaw : Type 0 where
+  -- What a suspended stack of numbered calls owes beside, up to the step in between that a policy chooses.
+  pub record StandsLaw (Live : Configuration → Configuration → Type 0) : Type 0 where
     pub numbers : (top i : ℕ) (d f : Configuration) → LinkedWaits i d f → All (StandsNumbered k.original k.settings k.which) (stack_of (based k) d) → AllNumbered (setting (world_of k) top) i (f.here ∷ f.under)
     pub stands : (top i : ℕ) (d f : Configuration) (us' : List Activation) (st : Stopped (setting (world_of k) top) i (f.here ∷ f.under) us') → LinkedWaits i d f
-        → All (StandsNumbered k.original k.settings k.which) (stack_of (based k) d) → AllLocalsFit k.written us' → FlatStands (world_of k) (λ c d. c ≡ d) L W (GoodStore k) top i d f us' st
+        → All (StandsNumbered k.original k.settings k.which) (stack_of (based k) d) → AllLocalsFit k.written us' → FlatStands (world_of k) Live L W (GoodStore k) top i d f us' st
     pub again : (top i : ℕ) (d f : Configuration) (a : Activation) (us : List Activation) → LinkedWaits i d f → All (StandsNumbered k.original k.settings k.which) (stack_of (based k) d)
         → AllSameFlat k.lay (f.here ∷ f.under) (a ∷ us) → (us' : List Activation) → Stopped (setting (world_of k) top) i (a ∷ us) us' → AllLocalsFit k.written us'
-        → FlatAgain (world_of k) (λ c d. c ≡ d) L W (GoodStore k) top i d f a us
+        → FlatAgain (world_of k) Live L W (GoodStore k) top i d f a us

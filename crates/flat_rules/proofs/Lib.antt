@@ -1,5 +1,5 @@
 mod BehindCalls
-mod LiveFlat
-mod OwnLemmas
-mod PrunedFlat
-mod StackReads
+pub mod LiveFlat
+pub mod OwnLemmas
+pub mod PrunedFlat
+pub mod StackReads

@@ -16,18 +16,18 @@ use Rattle.wa_model.specs.Flat.{Stmts, no_more, computes, copies, calls, leaps, 
 use Rattle.wa_model.specs.FlatView.{stmt_in_front, stmts}
 use Rattle.wa_model.specs.FlatFits.{StmtsFit}
 use Rattle.wasm_tree.specs.Kinds.{is_leaf}
-use Rattle.flow_rewrite.proofs.UnitSteps.{callee_of}
+use Rattle.flow_calls.proofs.UnitSteps.{callee_of}
 use Rattle.guard_form.specs.Pieces.{call_to, numbers_in, call_total, holds_call, first_piece, units}
 use Rattle.guard_form.specs.Guarded.{raised, front}
-use Rattle.flow_rewrite.specs.declared.guards.Guards.{Guards}
-use Rattle.flow_rewrite.specs.declared.sequence.Sequence.{Sequence}
-use Rattle.flow_rewrite.specs.declared.sequence.Part.{Part}
+use Rattle.flow_calls.specs.declared.guards.Guards.{Guards}
+use Rattle.flow_calls.specs.declared.sequence.Sequence.{Sequence}
+use Rattle.flow_calls.specs.declared.sequence.Part.{Part}
 use Rattle.flat_pieces.specs.Statements.{with_rest, one_code, one_place, one_holds, IsSimple, Fits}
 use Rattle.flat_pieces.specs.Putting.{Puts}
-use Rattle.flow_rewrite.specs.Emitting.{indices, first_of, written_with, Same, IsPart, Stepped, Ready, ReadyAt, Walked}
+use Rattle.flow_calls.specs.Emitting.{indices, first_of, written_with, Same, IsPart, Stepped, Ready, ReadyAt, Walked}
 use Rattle.flat_pieces.proofs.StmtLemmas.{if_true, if_false, in_front_is, fits_one, one_plain, leaf_of, stmts_step, stmts_end, call_is, total_with}
-use Rattle.flow_rewrite.proofs.SequenceLemmas.{raisable_none}
-use Rattle.flow_rewrite.proofs.ConstructSteps.{first_is, piece_stepped, numbers_few}
+use Rattle.flow_calls.proofs.SequenceLemmas.{raisable_none}
+use Rattle.flow_constructs.proofs.ConstructSteps.{first_is, piece_stepped, numbers_few}
 
 -- an answer's clause, changed
 pub on_ok : {X E : Type 0} (r : Result X E) (P Q : Type 0) → (P → Q) → OnOk r P → OnOk r Q

@@ -103,16 +103,16 @@ give_depth (Some x) = refl
 
 pub function_size : FunctionSize
 unfolding instructions_and_labels
-function_size st f =
-    let a = save_size f.layout in
-    let b = restore_size f.layout in
-    let c = give_size f.result in
+function_size st l body result =
+    let a = save_size l in
+    let b = restore_size l in
+    let c = give_size result in
     omega arith
 
 pub function_depth : FunctionDepth
 unfolding depth_of
-function_depth st f =
-    let a = save_depth f.layout in
-    let b = restore_depth f.layout in
-    let c = give_depth f.result in
+function_depth st l body result =
+    let a = save_depth l in
+    let b = restore_depth l in
+    let c = give_depth result in
     grind arith

@@ -12,7 +12,7 @@ use Rattle.wa_model.specs.Step.{step, leave, result_count}
 use Rattle.wa_model.specs.Flat.{result_got}
 use Rattle.wa_model.proofs.Alone.{Comes, none, on}
 use Rattle.frame_laws.specs.FrameMemory.{AreaAt, FieldsFit, HoldsFrameOf}
-use Rattle.frame_laws.specs.Function.{WrittenFunc, epilogue, function_code, function_labels, CallSite, site_code, KeptWithin, BodyLaw, LocalsFit, unwinding, UnwindsTo, UnwindsOne, StopsOne, rewinding, RewindsTo, RewindsOne}
+use Rattle.frame_laws.specs.Function.{WrittenFunc, epilogue, function_code, function_labels, CallSite, site_code, KeptWithin, BodyLaw, LocalsFit, unwinding, UnwindsTo, UnwindsOne, StopsOne, rewinding, RewindsTo, RewindsOne, FrameCodes, by_layout, LayoutCodes}
 use Rattle.frame_laws.specs.Layout.{FrameField, kept, gap, Layout, frame_size, save_code, restore_code, save_cost, restore_cost}
 use Rattle.frame_laws.specs.Saving.{Savable, TrapsAt}
 use Rattle.guard_form.specs.Guarded.{by_state}
@@ -79,24 +79,23 @@ module _ (g : ℕ) (area : Area) (p : Module) (st n : ℕ) (f : WrittenFunc) (c 
   given s fn under ls (Some x) = (running s fn under ls (value_at ls x ∷ []) done [], within_of g area p _ _ 1 (walks (keeps g area) p 1 _ _ refl), refl, value_at ls x ∷ [], refl)
 
   pub unwinds_one : (out seek : ℕ) (s : Store) (fn : ℕ) (under : List Activation) (ls ops : List Value) (loc : ℕ)
-      → BodyLaw g area p st f c out seek → value_at s.globals st ≡ V.I32 (suc n) → AreaAt f.layout.address area s loc → loc + frame_size f.layout ≤ area.at + area.len
+      → BodyLaw g area p st f c out seek → FrameCodes f c.number → value_at s.globals st ≡ V.I32 (suc n) → AreaAt f.layout.address area s loc → loc + frame_size f.layout ≤ area.at + area.len
       → LocalsFit f.layout ls
       → UnwindsTo g area p st f c out s fn under ls ops loc
-  unwinds_one out seek s fn under ls ops loc law e ar fits living =
+  unwinds_one out seek s fn under ls ops loc law codes e ar fits living =
       let a = law.leaves n s fn under ls ops e in
       let next : Code = result_got f.result in
-      let b = by_state_on s fn under (noted ls) (save_code f.layout done) done next [] e in
+      let b = by_state_on s fn under (noted ls) f.saving done next [] e in
       let lb : List Label = block_label 0 0 next done ∷ [] in
-      let sv = saves_law g area p fn under lb f.layout s (noted ls) loc c.number done ar fits (savable ls living) in
-      let ls2 = slice_set (noted ls) f.layout.scratch (V.I32 loc) in
+      let sv = codes.puts g area p fn under lb s (noted ls) loc ar fits (savable ls living) in
+      let ls2 = sv.locals in
       let s2 = with_memory s sv.after in
       let d : Comes (keeps g area) p (running s2 fn under ls2 [] done lb) 1 (running s2 fn under ls2 [] next []) = walks (keeps g area) p 1 _ _ refl in
       let w = given s2 fn under ls2 f.result in
-      let sc = save_cost f.layout in
+      let sc = f.save_most in
       let t1 = within_on g area p (running s2 fn under ls2 [] done lb) (running s2 fn under ls2 [] next []) w.0 1 1 2 (within_of g area p _ _ 1 d) w.1 (omega arith) in
-      let t2 = within_on g area p (running s fn under (noted ls) [] (save_code f.layout done) lb) (running s2 fn under ls2 [] done lb) w.0 sc 2 (sc + 2)
-      (within_of g area p _ _ sc (record { by = sv.goes })) t1 (omega arith) in
-      let t3 = within_on g area p (running s fn under (noted ls) [] (epilogue st f) []) (running s fn under (noted ls) [] (save_code f.layout done) lb) w.0 2 (sc + 2) (sc + 4)
+      let t2 = within_on g area p (running s fn under (noted ls) [] f.saving lb) (running s2 fn under ls2 [] done lb) w.0 sc 2 (sc + 2) sv.goes t1 (omega arith) in
+      let t3 = within_on g area p (running s fn under (noted ls) [] (epilogue st f) []) (running s fn under (noted ls) [] f.saving lb) w.0 2 (sc + 2) (sc + 4)
       (within_of g area p _ _ 2 b) t2 (omega arith) in
       let pu = sv.pushed in
       record {
@@ -114,16 +113,15 @@ module _ (g : ℕ) (area : Area) (p : Module) (st n : ℕ) (f : WrittenFunc) (c 
       }
 
   pub stops_one : (out seek : ℕ) (s : Store) (fn : ℕ) (under : List Activation) (ls ops : List Value) (loc : ℕ)
-      → BodyLaw g area p st f c out seek → value_at s.globals st ≡ V.I32 (suc n) → AreaAt f.layout.address area s loc → area.at + area.len < loc + frame_size f.layout
+      → BodyLaw g area p st f c out seek → FrameCodes f c.number → value_at s.globals st ≡ V.I32 (suc n) → AreaAt f.layout.address area s loc → area.at + area.len < loc + frame_size f.layout
       → LocalsFit f.layout ls
       → TrapsAt g area p (running s fn under ls ops c.behind c.labels) (unwinding f out) s
-  stops_one out seek s fn under ls ops loc law e ar over living =
+  stops_one out seek s fn under ls ops loc law codes e ar over living =
       let a = law.leaves n s fn under ls ops e in
       let next : Code = result_got f.result in
-      let b = by_state_on s fn under (noted ls) (save_code f.layout done) done next [] e in
+      let b = by_state_on s fn under (noted ls) f.saving done next [] e in
       let lb : List Label = block_label 0 0 next done ∷ [] in
-      let sva = savable ls living in
-      let t = overflows_law g area p fn under lb f.layout s (noted ls) loc done ar over sva.scratch in
+      let t = codes.overflows g area p fn under lb s (noted ls) loc ar over (savable ls living) in
       let aw = a.within in let tw = t.within in
       let bt = on (keeps g area) p 2 t.cost _ _ _ b (record { by = t.goes }) in
       record {
@@ -135,39 +133,54 @@ module _ (g : ℕ) (area : Area) (p : Module) (st n : ℕ) (f : WrittenFunc) (c 
       }
 
   pub rewinds_one : (out seek : ℕ) (s : Store) (fn : ℕ) (under : List Activation) (old ls : List Value) (loc : ℕ)
-      → BodyLaw g area p st f c out seek → value_at s.globals st ≡ V.I32 (suc n) → AreaAt f.layout.address area s (loc + frame_size f.layout) → area.at + 8 ≤ loc
+      → BodyLaw g area p st f c out seek → FrameCodes f c.number → value_at s.globals st ≡ V.I32 (suc n) → AreaAt f.layout.address area s (loc + frame_size f.layout) → area.at + 8 ≤ loc
       → HoldsFrameOf f.layout s.memory loc old c.number → c.number < 2 ^ 32 → LocalsFit f.layout old → length ls ≡ length old
       → RewindsTo g area p st f c seek s fn under old ls loc
-  rewinds_one out seek s fn under old ls loc law e ar low holds small living size =
-      let ix = living.index in let sp = living.scratch in
+  rewinds_one out seek s fn under old ls loc law codes e ar low holds small living size =
       let next : Code = nest a_block None f.body (epilogue st f) in
       let lb : List Label = block_label 0 0 next done ∷ [] in
-      let b = by_state_on s fn under ls (restore_code f.layout done) done next [] e in
-      let r = restores_law g area p fn under lb f.layout s old ls loc c.number done ar low holds living.fields small size living.apart (omega arith) (omega arith) in
+      let b = by_state_on s fn under ls f.restoring done next [] e in
+      let r = codes.takes g area p fn under lb s old ls loc ar low holds living small size in
       let s2 = with_memory s r.after in
       let d : Comes (keeps g area) p (running s2 fn under r.locals [] done lb) 2 (running s2 fn under r.locals [] f.body (function_labels st f)) = walks (keeps g area) p 2 _ _ refl in
       let re = r.restored in
       let k = law.seeks n s2 fn under r.locals e re.index in
-      let rc = restore_cost f.layout in
+      let rc = f.restore_most in
       let t1 = within_on g area p (running s2 fn under r.locals [] done lb) (running s2 fn under r.locals [] f.body (function_labels st f))
       (running s2 fn under r.locals [] (site_code c) c.again) 2 seek (2 + seek) (within_of g area p _ _ 2 d) k (omega arith) in
-      let t2 = within_on g area p (running s fn under ls [] (restore_code f.layout done) lb) (running s2 fn under r.locals [] done lb)
-      (running s2 fn under r.locals [] (site_code c) c.again) rc (2 + seek) (rc + 2 + seek) (within_of g area p _ _ rc (record { by = r.goes })) t1 (omega arith) in
+      let t2 = within_on g area p (running s fn under ls [] f.restoring lb) (running s2 fn under r.locals [] done lb)
+      (running s2 fn under r.locals [] (site_code c) c.again) rc (2 + seek) (rc + 2 + seek) r.goes t1 (omega arith) in
       record {
         locals = r.locals;
         restored = r.restored;
         after = r.after;
         lowered = r.lowered;
-        goes = within_on g area p (running s fn under ls [] (function_code st f) []) (running s fn under ls [] (restore_code f.layout done) lb)
+        goes = within_on g area p (running s fn under ls [] (function_code st f) []) (running s fn under ls [] f.restoring lb)
             (running s2 fn under r.locals [] (site_code c) c.again) 2 (rc + 2 + seek) (rewinding f seek) (within_of g area p _ _ 2 b) t2 (omega arith);
       }
 
+-- one layout for all calls
+pub layout_codes : LayoutCodes
+layout_codes l body result k apart = record {
+  puts = λ g area p fn under labels s ls loc ar fits h.
+      let sv = saves_law g area p fn under labels l s ls loc k done ar fits h in
+      record { after = sv.after; pushed = sv.pushed; locals = slice_set ls l.scratch (V.I32 loc); goes = within_of g area p _ _ (save_cost l) (record { by = sv.goes }) };
+  overflows = λ g area p fn under labels s ls loc ar over h.
+      let t = overflows_law g area p fn under labels l s ls loc done ar over h.scratch in
+      let w = t.within in
+      record { cost = t.cost; within = omega arith; at = t.at; goes = t.goes; traps_there = t.traps_there };
+  takes = λ g area p fn under labels s old ls loc ar low holds living small size.
+      let ix = living.index in let sp = living.scratch in
+      let r = restores_law g area p fn under labels l s old ls loc k done ar low holds living.fields small size living.apart (omega arith) (omega arith) in
+      record { locals = r.locals; restored = r.restored; after = r.after; lowered = r.lowered; goes = within_of g area p _ _ (restore_cost l) (record { by = r.goes }) };
+}
+
 pub unwinds_one_law : UnwindsOne
-unwinds_one_law g area p st n f c out seek s fn under ls ops loc law e ar fits living = unwinds_one g area p st n f c out seek s fn under ls ops loc law e ar fits living
+unwinds_one_law g area p st n f c out seek s fn under ls ops loc law codes e ar fits living = unwinds_one g area p st n f c out seek s fn under ls ops loc law codes e ar fits living
 
 pub stops_one_law : StopsOne
-stops_one_law g area p st n f c out seek s fn under ls ops loc law e ar over living = stops_one g area p st n f c out seek s fn under ls ops loc law e ar over living
+stops_one_law g area p st n f c out seek s fn under ls ops loc law codes e ar over living = stops_one g area p st n f c out seek s fn under ls ops loc law codes e ar over living
 
 pub rewinds_one_law : RewindsOne
-rewinds_one_law g area p st n f c out seek s fn under old ls loc law e ar low holds small living size = rewinds_one g area p st n f c out seek s fn under old ls loc law e ar low holds
+rewinds_one_law g area p st n f c out seek s fn under old ls loc law codes e ar low holds small living size = rewinds_one g area p st n f c out seek s fn under old ls loc law codes e ar low holds
     small living size

@@ -163,7 +163,7 @@ module _ (g : ℕ) (area : Area) (p : Module) where
         let f = fit.0 in
         let z : loc + total_size (v ∷ []) ≡ loc + frame_size v.fn.layout = omega arith in
         let ar1 = subst (λ m. AreaAt adr area s m) z ar in
-        let r = rewinds_one_law g area p st n v.fn v.site v.out v.seek s v.func [] v.locals ls loc f.law e
+        let r = rewinds_one_law g area p st n v.fn v.site v.out v.seek s v.func [] v.locals ls loc f.law f.codes e
         (subst (λ a. AreaAt a area s (loc + frame_size v.fn.layout)) (sym f.address_is) ar1) low holds.0 f.small f.living size in
         let re = r.restored in
         record {
@@ -213,7 +213,7 @@ module _ (g : ℕ) (area : Area) (p : Module) where
         let ar1 = area_lowered adr s loc1 (loc + total_size (v ∷ w ∷ vs)) ih.after ar lo1 (omega arith) (omega arith) in
         let frame1 = still_frame v.fn.layout s.memory ih.after loc v.fn.layout.scratch v.locals v.site.number fv.living.fields
         (λ x k lo hi. lo1.others.same x k (inr (omega arith)) (inr (omega arith))) holds.0 in
-        let r = rewinds_one_law g area p st n v.fn v.site v.out v.seek s1 v.func under1 v.locals ls2 loc fv.law e
+        let r = rewinds_one_law g area p st n v.fn v.site v.out v.seek s1 v.func under1 v.locals ls2 loc fv.law fv.codes e
         (subst (λ a. AreaAt a area s1 loc1) (sym fv.address_is) ar1) low frame1 fv.small fv.living ls2_size in
         let re = r.restored in
         let lo2 = r.lowered in

@@ -63,7 +63,7 @@ module _ (g : ℕ) (area : Area) (p : Module) (st n adr : ℕ) where
       → UnwindsAll g area p (behind_call s v ops vs) (unwinding_all v vs) s loc (v ∷ vs) (outer_of v vs).func
   unwind_all v [] s ops loc fit e ar fits =
       let f = fit.0 in
-      let u = unwinds_one_law g area p st n v.fn v.site v.out v.seek s v.func [] v.locals ops loc f.law e (subst (λ a. AreaAt a area s loc) (sym f.address_is) ar) (omega arith) f.living in
+      let u = unwinds_one_law g area p st n v.fn v.site v.out v.seek s v.func [] v.locals ops loc f.law f.codes e (subst (λ a. AreaAt a area s loc) (sym f.address_is) ar) (omega arith) f.living in
       let pu = u.pushed in
       let z : frame_size v.fn.layout ≡ total_size (v ∷ []) = omega arith in
       record {
@@ -80,7 +80,7 @@ module _ (g : ℕ) (area : Area) (p : Module) (st n adr : ℕ) where
   unwind_all v (w ∷ vs) s ops loc fit e ar fits =
       let f = fit.0 in
       let ar1 = subst (λ a. AreaAt a area s loc) (sym f.address_is) ar in
-      let u = unwinds_one_law g area p st n v.fn v.site v.out v.seek s v.func (map activation_of (w ∷ vs)) v.locals ops loc f.law e ar1 (omega arith) f.living in
+      let u = unwinds_one_law g area p st n v.fn v.site v.out v.seek s v.func (map activation_of (w ∷ vs)) v.locals ops loc f.law f.codes e ar1 (omega arith) f.living in
       let pu = u.pushed in
       let s1 = with_memory s u.after in
       let loc1 = loc + level_size v in
@@ -130,7 +130,7 @@ module _ (g : ℕ) (area : Area) (p : Module) (st n adr : ℕ) where
       → StopsAll g area p (behind_call s v ops vs) (unwinding_all v vs) s used (v ∷ vs)
   full v vs s ops used f e ar q =
       let over = lt_of area.len (used + level_size v) q in
-      let t = stops_one_law g area p st n v.fn v.site v.out v.seek s v.func (map activation_of vs) v.locals ops (area.at + used) f.law e
+      let t = stops_one_law g area p st n v.fn v.site v.out v.seek s v.func (map activation_of vs) v.locals ops (area.at + used) f.law f.codes e
       (subst (λ a. AreaAt a area s (area.at + used)) (sym f.address_is) ar) (omega arith) f.living in
       let w = t.within in let c = first_cost v vs in
       let fit : used ≡ fit_of area.len used (v ∷ vs) = sym (ap (λ b. if b then used else fit_of area.len (used + level_size v) vs) q) in
@@ -161,7 +161,7 @@ module _ (g : ℕ) (area : Area) (p : Module) (st n adr : ℕ) where
           let f = fit.0 in
           let room = le_of area.len (used + level_size v) q in
           let ar1 = subst (λ a. AreaAt a area s (area.at + used)) (sym f.address_is) ar in
-          let u = unwinds_one_law g area p st n v.fn v.site v.out v.seek s v.func (map activation_of (w ∷ vs)) v.locals ops (area.at + used) f.law e ar1 (omega arith) f.living in
+          let u = unwinds_one_law g area p st n v.fn v.site v.out v.seek s v.func (map activation_of (w ∷ vs)) v.locals ops (area.at + used) f.law f.codes e ar1 (omega arith) f.living in
           let pu = u.pushed in
           let s1 = with_memory s u.after in
           let ops1 = take (result_count p v.func) u.results ++ w.ops in

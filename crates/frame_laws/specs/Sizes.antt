@@ -2,17 +2,18 @@
 use Rattle.std.specs.Prelude.{◌≡◌, ℕ, ◌+◌, ◌*◌, max, Option, Some, None}
 use Rattle.wa_types.specs.Counts.{depth_of}
 use Rattle.wa_model.specs.Rewrites.{instructions_and_labels}
-use Rattle.frame_laws.specs.Function.{WrittenFunc, function_code}
-use Rattle.frame_laws.specs.Layout.{kept_count}
+use Rattle.wa_types.specs.Syntax.{Code}
+use Rattle.frame_laws.specs.Function.{by_layout, function_code}
+use Rattle.frame_laws.specs.Layout.{kept_count, Layout}
 
 abbrev pub result_size : Option ℕ → ℕ
 result_size None = 0
 result_size (Some x) = 1
 
--- 3 instructions a kept local and 28 for both, and 5 around
+-- With one layout for all calls: 3 instructions a kept local and 28 for both, and 5 around
 abbrev pub FunctionSize : Type 0
-FunctionSize = (st : ℕ) (f : WrittenFunc)
-    → instructions_and_labels (function_code st f) ≡ 33 + 6 * kept_count f.layout.fields + instructions_and_labels f.body + result_size f.result
+FunctionSize = (st : ℕ) (l : Layout) (body : Code) (result : Option ℕ)
+    → instructions_and_labels (function_code st (by_layout l body result)) ≡ 33 + 6 * kept_count l.fields + instructions_and_labels body + result_size result
 
 abbrev pub FunctionDepth : Type 0
-FunctionDepth = (st : ℕ) (f : WrittenFunc) → depth_of (function_code st f) ≡ max 2 (1 + depth_of f.body)
+FunctionDepth = (st : ℕ) (l : Layout) (body : Code) (result : Option ℕ) → depth_of (function_code st (by_layout l body result)) ≡ max 2 (1 + depth_of body)

@@ -11,7 +11,7 @@ use Rattle.wa_model.specs.Step.{asks, leave, result_count, param_count, same_fun
 use Rattle.wa_model.specs.Store.{Store, with_memory, value_at}
 use Rattle.wa_model.specs.declared.answers.Area.{Area}
 use Rattle.frame_laws.specs.FrameMemory.{AreaAt, HoldsFrameOf, SameBut, Lowered, IsKept}
-use Rattle.frame_laws.specs.Function.{WrittenFunc, function_code, CallSite, site_code, KeptWithin, BodyLaw, LocalsFit, unwinding, rewinding}
+use Rattle.frame_laws.specs.Function.{WrittenFunc, function_code, CallSite, site_code, KeptWithin, BodyLaw, FrameCodes, LocalsFit, unwinding, rewinding}
 use Rattle.frame_laws.specs.Layout.{FrameField, frame_size}
 use Rattle.frame_laws.specs.Saving.{TrapsAt}
 
@@ -38,9 +38,10 @@ abbrev pub AllKept : List ℕ → List FrameField → Type 0
 AllKept [] ps = Unit {0}
 AllKept (x ∷ xs) ps = IsKept x ps × AllKept xs ps
 
--- Its body keeps its promise, its frame can be saved, and the call took the values of its slots, which are saved.
+-- Its body and the codes of its frames keep their promise, its frame can be saved, and the call took the values of its slots, which are saved.
 pub record LevelFits (g : ℕ) (area : Area) (p : Module) (st address : ℕ) (v : Level) : Type 0 where
   pub law : BodyLaw g area p st v.fn v.site v.out v.seek
+  pub codes : FrameCodes v.fn v.site.number
   pub address_is : v.fn.layout.address ≡ address
   pub living : LocalsFit v.fn.layout v.locals
   pub small : v.site.number < 2 ^ 32

@@ -16,14 +16,14 @@ use Rattle.wa_types.specs.Modules.{locals_of, func_imports, defined_at}
 use Rattle.wa_types.specs.Points.{func_call_points}
 use Rattle.wa_types.specs.Liveness.{live_at, live_from, behind_calls, is_live_after, Position}
 use Rattle.wa_types.specs.Frames.{Pair, Place, SlotPairs, is_on_stack, place_onto, named_places, slot_places, width, Saved, Room, frame_of, size_of_found}
-use Rattle.frame_sizes.specs.declared.slots.Pair.{Pair as PairValue}
+use Rattle.point_visits.specs.declared.slot_pairs.Pair.{Pair as PairValue}
 use Rattle.frame_sizes.specs.declared.frames.Place.{Place as PlaceValue}
 use Rattle.frame_sizes.specs.declared.frames.Suspended.{Suspended as SuspendedValue}
-use Rattle.frame_sizes.specs.Lives.{lives}
-use Rattle.frame_sizes.specs.Points.{lists_of}
-use Rattle.frame_sizes.specs.Slots.{pair_of, pairs_of}
+use Rattle.live_behind.specs.Lives.{lives}
+use Rattle.point_visits.specs.Points.{lists_of}
+use Rattle.point_visits.specs.Slots.{pair_of, pairs_of}
 use Rattle.frame_sizes.specs.Frames.{place_of, places_of, suspended_of, keep_local, keep_slot}
-use Rattle.frame_sizes.proofs.LiveLemmas.{told_calls}
+use Rattle.live_behind.proofs.LiveLemmas.{told_calls}
 
 -- ---- places
 

@@ -1,6 +1,3 @@
-pub mod PointLemmas
-pub mod VisitLemmas
-pub mod LiveLemmas
-pub mod SlotLemmas
+mod TypeLemmas
 pub mod FrameLemmas
 pub mod SavedLemmas

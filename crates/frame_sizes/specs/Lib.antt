@@ -1,4 +1,1 @@
-pub mod Points
-pub mod Lives
-pub mod Slots
 pub mod Frames

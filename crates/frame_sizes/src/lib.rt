@@ -7,9 +7,6 @@
 #![tactic(auto)]
 
 mod frames;
-mod liveness;
 mod locals;
-mod points;
-mod slots;
 
 pub use frames::{Place, Suspended, room, saved};

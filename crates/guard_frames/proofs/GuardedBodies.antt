@@ -36,11 +36,7 @@ module _ (g : ℕ) (area : Area) (p : Module) where
       moves (move_keeps c (silent c) (keeps g area c) (step p c) k es1 t (λ q. silent_is_kept g area c q) e) (all_keep t d n1 fs rest) em eg
 
 pub same_code : SameCode
-same_code st f l u =
-    ap (λ c. function_code_with c (save_code l done)) (sym u.restoring) ∙ ap (λ c. function_code_with f.restoring c) (sym u.saving)
-  where
-    function_code_with : Code → Code → Code
-    function_code_with r s = by_state st r done (nest a_block None (front (indices_of st f) 0 0 f.first f.body) (by_state st s done (result_got f.result)))
+same_code st f l = refl
 
 pub body_keeps : BodyKeeps
 body_keeps g area p st k h f l slots x to behind rest xs u arms place bottom =
@@ -53,16 +49,14 @@ body_keeps g area p st k h f l slots x to behind rest xs u arms place bottom =
             within = omega arith;
             goes = subst (λ i. GoesKeeping g area p (from s fn under ls ops) 4
                 (running s fn under (slice_set ls i (V.I32 k)) [] (epilogue st (written_of st f l)) [])) (sym u.index)
-                (subst (λ c. GoesKeeping g area p (from s fn under ls ops) 4 (running s fn under (slice_set ls f.size (V.I32 k)) [] (by_state st c done (result_got f.result)) [])) u.saving d1);
+                d1;
           };
       seeks = λ n s fn under ls e i.
           let q = seeks_law p st n k f s fn under ls slots x to behind rest xs e (ap (value_at ls) (sym u.index) ∙ i) arms place bottom in
           record {
             cost = q.cost;
             within = q.within;
-            goes = subst (λ c. GoesKeeping g area p
-                (running s fn under ls [] (front (indices_of st f) 0 0 f.first f.body) (block_label 0 0 (by_state st c done (result_got f.result)) done ∷ [])) q.cost
-                (there s fn under ls)) u.saving (all_keep g area p _ _ q.cost [] q.goes);
+            goes = all_keep g area p _ _ q.cost [] q.goes;
           };
     }
   where

@@ -7,12 +7,13 @@ use Rattle.wa_model.specs.Store.{value_at}
 use Rattle.wa_model.specs.Configuration.{Activation, waiting}
 use Rattle.wa_model.specs.Flat.{set_to, followed_by}
 use Rattle.frame_laws.specs.FrameMemory.{IsKept}
-use Rattle.frame_laws.specs.Layout.{FrameField, kept, gap, Layout}
+use Rattle.frame_laws.specs.Layout.{FrameField, kept, gap}
 use Rattle.frame_laws.specs.Stack.{AllCameBack}
 use Rattle.guard_form.specs.Functions.{with_guards}
 use Rattle.guard_form.specs.Pieces.{flat_units}
 use Rattle.guard_form.specs.Places.{flat_labels, written_labels, noted_code, call_label}
-use Rattle.guard_frames.specs.Levels.{levels_of, FlatFieldsFit, MayStand}
+use Rattle.guard_frames.specs.Joined.{CallFrame}
+use Rattle.guard_frames.specs.Levels.{flat_waiting, levels_of, FlatFieldsFit, MayStand}
 use Rattle.guard_frames.specs.Returned.{FlatAgain, StacksReturn}
 use Rattle.guard_runs.specs.Alike.{Setting}
 use Rattle.guard_runs.specs.Beside.{Locals}
@@ -24,7 +25,7 @@ kept_there ls x [] h k = absurd k
 kept_there ls x (kept y t ∷ ps) h k = ⊎_elim (λ e. subst (λ z. z < length ls) (sym e) h.0) (λ q. kept_there ls x ps h.3 q) k
 kept_there ls x (gap t ∷ ps) h k = kept_there ls x ps h k
 
-module _ (v : Setting) (lay : ℕ → Layout) where
+module _ (v : Setting) (lay : Activation → CallFrame) where
   again : (callee : ℕ) (us us' new' : List Activation) (d : Stopped v callee us us') → MayStand v lay d → AllCameBack (levels_of v lay d) new' → FlatAgain v lay callee us new'
   again callee _ _ [] (host top) may re = record { new = []; stopped = host top; same = tt; count = refl }
   again callee _ _ (a ∷ new') (host top) may re = absurd re
@@ -61,8 +62,8 @@ module _ (v : Setting) (lay : ℕ → Layout) where
             operands = refl;
             size = n1;
             kept_same = λ y q.
-                let lt = kept_there ls y (lay fn).fields may.6 q in
-                sym (got_left ls2 extra2 y (omega arith)) ∙ ap (λ ys. value_at ys y) whole ∙ ks.same y q ∙ kept_left ls extra y (lay fn).fields may.6 q;
+                let lt = kept_there ls y (lay (flat_waiting fn f to behind rest xs ls ops taken)).layout.fields may.6 q in
+                sym (got_left ls2 extra2 y (omega arith)) ∙ ap (λ ys. value_at ys y) whole ∙ ks.same y q ∙ kept_left ls extra y (lay (flat_waiting fn f to behind rest xs ls ops taken)).layout.fields may.6 q;
           },
           ih.same,
         );

@@ -15,13 +15,13 @@ use Rattle.wa_model.specs.Configuration.{Activation}
 use Rattle.wa_model.specs.Step.{param_count, same_types, same_func_type}
 use Rattle.frame_laws.specs.FrameMemory.{FieldsFit, IsKept}
 use Rattle.frame_laws.specs.Function.{function_code}
-use Rattle.frame_laws.specs.Layout.{FrameField, kept, gap, Layout}
+use Rattle.frame_laws.specs.Layout.{FrameField, kept, gap}
 use Rattle.frame_laws.specs.Stack.{Level, activation_of, slot_values, AllKept, LevelFits, AllFit, CallsTo, Enters, Chain}
 use Rattle.guard_form.specs.Bounds.{passing}
 use Rattle.guard_form.specs.Functions.{GuardedFunc, with_guards, size_of, extra_types, written_code}
 use Rattle.guard_form.specs.Pieces.{call_to}
-use Rattle.guard_frames.specs.Joined.{written_of, site_of, Uses}
-use Rattle.guard_frames.specs.Levels.{levels_of, FlatFieldsFit, MayStand, ChainOf, AreLevels, StoppedAreLevels}
+use Rattle.guard_frames.specs.Joined.{CallFrame, written_of, site_of}
+use Rattle.guard_frames.specs.Levels.{flat_waiting, levels_of, FlatFieldsFit, MayStand, ChainOf, AreLevels, StoppedAreLevels}
 use Rattle.guard_runs.specs.Alike.{Setting, sides_of, Paired}
 use Rattle.guard_runs.specs.Beside.{Twin, both_import, both_defined, GoesTo, directly, by_table, Locals}
 use Rattle.guard_runs.specs.Stopped.{Stopped, host, above}
@@ -107,13 +107,13 @@ module _ (v : Setting) (pair : Paired v) where
           (length r.before, S.through_table callee t n r.last r.before is split value found same2 params, long ∙ count)
 
   -- the function of a level
-  pub entered_by : (lay : ℕ → Layout) (fn : ℕ) (f : GuardedFunc) (func : Func) (ls extra : List Value) → fn < v.funcs → v.role fn ≡ with_guards f
-      → defined_at v.written fn ≡ Some func → Uses f (lay fn) → Locals (with_guards f) ls extra
-      → (func.body ≡ function_code v.globals (written_of v.globals f (lay fn)))
+  pub entered_by : (l : CallFrame) (fn : ℕ) (f : GuardedFunc) (func : Func) (ls extra : List Value) → fn < v.funcs → v.role fn ≡ with_guards f
+      → defined_at v.written fn ≡ Some func → Locals (with_guards f) ls extra
+      → (func.body ≡ function_code v.globals (written_of v.globals f l))
       × (param_count (func_type_at v.flat fn) + length (declared_locals func.locals) ≡ length (ls ++ extra))
-  entered_by lay fn f func ls extra lt is def u both = by_twin (pair.twin fn lt)
+  entered_by l fn f func ls extra lt is def both = by_twin (pair.twin fn lt)
     where
-      by_twin : Twin (sides_of v) fn → (func.body ≡ function_code v.globals (written_of v.globals f (lay fn))) ×
+      by_twin : Twin (sides_of v) fn → (func.body ≡ function_code v.globals (written_of v.globals f l)) ×
           (param_count (func_type_at v.flat fn) + length (declared_locals func.locals) ≡ length (ls ++ extra))
       by_twin (both_import none none2) =
           let q : Some func ≡ None = sym def ∙ none2 in
@@ -129,19 +129,19 @@ module _ (v : Setting) (pair : Paired v) where
           ≡ length (declared_locals h.locals ++ extra_types (v.role fn)) = ap (λ z. length (declared_locals z.locals)) (sym q) ∙ ap length e in
           let l3 : length (extra_types (v.role fn)) ≡ length (extra_types (with_guards f)) = ap (λ r. length (extra_types r)) is in
           let l4 : size_of (v.role fn) ≡ size_of (with_guards f) = ap size_of is in
-          (ap (λ z. z.body) (sym q) ∙ d ∙ ap (written_code v.globals) is ∙ sym (same_code v.globals f (lay fn) u), omega arith)
+          (ap (λ z. z.body) (sym q) ∙ d ∙ ap (written_code v.globals) is ∙ sym (same_code v.globals f l), omega arith)
 
   -- the level below calls its function
-  link : (lay : ℕ → Layout) (fn : ℕ) (w : Level) (f : GuardedFunc) (func : Func) (ls extra : List Value) (us us' : List Activation) → fn < v.funcs → v.role fn ≡ with_guards f
-      → defined_at v.written fn ≡ Some func → Uses f (lay fn) → Locals (with_guards f) ls extra
-      → w.func ≡ fn → w.fn ≡ written_of v.globals f (lay fn) → w.locals ≡ ls ++ extra → (d : Stopped v fn us us') → MayStand v lay d → ChainOf v (levels_of v lay d)
+  link : (lay : Activation → CallFrame) (l : CallFrame) (fn : ℕ) (w : Level) (f : GuardedFunc) (func : Func) (ls extra : List Value) (us us' : List Activation) → fn < v.funcs
+      → v.role fn ≡ with_guards f → defined_at v.written fn ≡ Some func → Locals (with_guards f) ls extra
+      → w.func ≡ fn → w.fn ≡ written_of v.globals f l → w.locals ≡ ls ++ extra → (d : Stopped v fn us us') → MayStand v lay d → ChainOf v (levels_of v lay d)
       → Chain v.written v.globals v.table w (levels_of v lay d)
-  link lay fn w f func ls extra _ _ lt is def u both e1 e2 e3 (host top) may chain = tt
-  link lay fn w f func ls extra _ _ lt is def u both e1 e2 e3 (above {f = f2} {k = k2} {slots = slots2} {x = x2} {to = to2} {behind = behind2} {rest = rest2} {xs = xs2} fn2 here2 is2
+  link lay l fn w f func ls extra _ _ lt is def both e1 e2 e3 (host top) may chain = tt
+  link lay l fn w f func ls extra _ _ lt is def both e1 e2 e3 (above {f = f2} {k = k2} {slots = slots2} {x = x2} {to = to2} {behind = behind2} {rest = rest2} {xs = xs2} fn2 here2 is2
       ls2 extra2 ops2 taken2 both2 h2 pl2 gt2 deep2 under2) may chain =
       let w2 : Level = record {
         func = fn2;
-        fn = written_of v.globals f2 (lay fn2);
+        fn = written_of v.globals f2 (lay (flat_waiting fn2 f2 to2 behind2 rest2 xs2 ls2 ops2 taken2));
         site = site_of v.globals f2 k2 h2 slots2 x2 to2 behind2 rest2 xs2;
         locals = ls2 ++ extra2;
         ops = ops2;
@@ -150,9 +150,10 @@ module _ (v : Setting) (pair : Paired v) where
         seek = passing f2.first f2.body;
       } in
       let took : taken2 ≡ slot_values (ls2 ++ extra2) slots2 [] = may.9
-      ∙ sym (args_same ls2 (ls2 ++ extra2) slots2 (lay fn2).fields [] may.8 (λ y q. kept_left ls2 extra2 y (lay fn2).fields may.6 q)) in
+      ∙ sym (args_same ls2 (ls2 ++ extra2) slots2 (lay (flat_waiting fn2 f2 to2 behind2 rest2 xs2 ls2 ops2 taken2)).layout.fields [] may.8
+      (λ y q. kept_left ls2 extra2 y (lay (flat_waiting fn2 f2 to2 behind2 rest2 xs2 ls2 ops2 taken2)).layout.fields may.6 q)) in
       let ct = calls_to w2 x2 fn lt refl took gt2 in
-      let en = entered_by lay fn f func ls extra lt is def u both in
+      let en = entered_by l fn f func ls extra lt is def both in
       let size : ct.0 + length (declared_locals func.locals) ≡ length w.locals = ap (λ n. n + length (declared_locals func.locals)) ct.2 ∙ en.1 ∙ ap length (sym e3) in (
         record {
           params = ct.0;
@@ -166,14 +167,14 @@ module _ (v : Setting) (pair : Paired v) where
         chain,
       )
 
-  module _ (g : ℕ) (area : Area) (lay : ℕ → Layout) where
+  module _ (g : ℕ) (area : Area) (lay : Activation → CallFrame) where
     are_levels : (callee : ℕ) (us us' : List Activation) (d : Stopped v callee us us') → MayStand v lay d → AreLevels g area v us' (levels_of v lay d)
     are_levels callee _ _ (host top) may = record { acts = refl; fit = tt; chain = tt }
     are_levels callee _ _ (above {f = f} {k = k} {slots = slots} {x = x} {to = to} {behind = behind} {rest = rest} {xs = xs} {under = us} {under' = us'} fn here is ls extra ops taken
         both h pl gt deep under) may =
         let w : Level = record {
           func = fn;
-          fn = written_of v.globals f (lay fn);
+          fn = written_of v.globals f (lay (flat_waiting fn f to behind rest xs ls ops taken));
           site = site_of v.globals f k h slots x to behind rest xs;
           locals = ls ++ extra;
           ops = ops;
@@ -181,7 +182,8 @@ module _ (v : Setting) (pair : Paired v) where
           out = 4;
           seek = passing f.first f.body;
         } in
-        let l = lay fn in
+        let cl = lay (flat_waiting fn f to behind rest xs ls ops taken) in
+        let l = cl.layout in
         let u = may.1 in
         let ix = u.index in
         let sc = may.3 in
@@ -194,7 +196,8 @@ module _ (v : Setting) (pair : Paired v) where
           acts = ap (λ more. activation_of w ∷ more) ih.acts;
           fit = (
             record {
-              law = body_keeps g area v.written v.globals k h f l slots x to behind rest xs u may.5 pl may.4;
+              law = body_keeps g area v.written v.globals k h f cl slots x to behind rest xs u may.5 pl may.4;
+              codes = u.codes;
               address_is = may.2;
               living = record {
                 fields = spots_fit l.scratch ls extra l.fields (omega arith) may.6;
@@ -209,7 +212,7 @@ module _ (v : Setting) (pair : Paired v) where
             },
             ih.fit,
           );
-          chain = link lay fn w f may.0.0 ls extra us us' here is may.0.1 u both refl refl refl under may.10 ih.chain;
+          chain = link lay cl fn w f may.0.0 ls extra us us' here is may.0.1 both refl refl refl under may.10 ih.chain;
         }
 
 pub stopped_are_levels : StoppedAreLevels

@@ -84,13 +84,13 @@ small_law m i x f st places l valid at keeps =
     let flat = flat_size m x f in
     let few = (counted_law places 0 g.body).few in
     let guarded = size_law ids 0 0 first us in
-    let whole = function_size st (rewritten m x f st places l) in
+    let whole = function_size st l (rewritten m x f st places l).body (rewritten m x f st places l).result in
     let res = result_small g.result in
     let slots = slots_are_few m i f valid at in
     let count = counts m (pruned f.body) in
     let pass = passing_small first us in
     let deep = depth_law ids 0 0 first us in
     let shallow = flat_is_flat m x f in
-    let whole_depth = function_depth st (rewritten m x f st places l) in
+    let whole_depth = function_depth st l (rewritten m x f st places l).body (rewritten m x f st places l).result in
     let mx = small_max (1 + depth_of (guarded_code st places g)) (3 * depth_of (pruned f.body) + 8) (omega arith) (omega arith) in
     record { size = omega arith; nesting = omega arith; cost = omega arith }

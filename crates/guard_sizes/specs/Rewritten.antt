@@ -13,12 +13,12 @@ use Rattle.flat_laws.specs.Flatten.{flattened}
 use Rattle.guard_form.specs.Bounds.{passing, reads, reads_bound}
 use Rattle.guard_form.specs.Guarded.{guarded_code}
 use Rattle.guard_form.specs.Pieces.{first_piece, units}
-use Rattle.frame_laws.specs.Function.{WrittenFunc, function_code, unwinding, rewinding}
+use Rattle.frame_laws.specs.Function.{WrittenFunc, by_layout, function_code, unwinding, rewinding}
 use Rattle.frame_laws.specs.Layout.{Layout, kept_count}
 
 -- what becomes of a function of a module, where the calls at these places are numbered, and frames have this layout
 abbrev pub rewritten : Module → (x : ℕ) → Func → (state : ℕ) → (places : List ℕ) → Layout → WrittenFunc
-rewritten m x f st places l = record { layout = l; body = guarded_code st places (flattened m x f); result = (flattened m x f).result }
+rewritten m x f st places l = by_layout l (guarded_code st places (flattened m x f)) (flattened m x f).result
 
 -- frames keep no more than parameters, locals and slots
 abbrev pub KeepsFew : Module → Func → Layout → Type 0

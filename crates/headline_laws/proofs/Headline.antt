@@ -33,7 +33,7 @@ module _ (w : World) (whole : Whole w) (Known : Held → Type 0) (wl : WrittenLa
       → BehavesOn w.original w.settings w.written w.plan os n w.which (expected_notes w.original w.settings w.plan os n)
 
   -- THE HEADLINE: all four fields, for one plan, outcomes and cost
-  pub headline : (Live : Configuration → Configuration → Type 0) → LiveLaw w Live → FlatLaw w Live L W G → (os : List Outcome) (n : ℕ) → Says os n
+  pub headline : (Live : Configuration → Configuration → Type 0) → LiveLaw w Live W → FlatLaw w Live L W G → (os : List Outcome) (n : ℕ) → Says os n
   headline Live lv law os n cmp pauses =
       let f = cmp.fits in
       let gs = f.globals in
@@ -47,4 +47,4 @@ module _ (w : World) (whole : Whole w) (Known : Held → Type 0) (wl : WrittenLa
 
   -- for the policy that saves all, with nothing in between
   pub headline_all : FlatLaw w (λ c d. c ≡ d) L W G → (os : List Outcome) (n : ℕ) → Says os n
-  headline_all law os n cmp pauses = headline (λ c d. c ≡ d) (equal_lives w) law os n cmp pauses
+  headline_all law os n cmp pauses = headline (λ c d. c ≡ d) (equal_lives w W) law os n cmp pauses

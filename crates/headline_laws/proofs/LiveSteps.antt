@@ -14,8 +14,8 @@ use Rattle.wa_model.specs.Untouched.{StaysOff, next_access}
 use Rattle.wa_types.specs.Modules.{func_type_at}
 
 -- equality is such a relation: the policy that saves all
-pub equal_lives : (w : World) → LiveLaw w (λ c d. c ≡ d)
-equal_lives w = record {
+pub equal_lives : (w : World) (W : (top import : ℕ) → Configuration → Configuration → Type 0) → LiveLaw w (λ c d. c ≡ d) W
+equal_lives w W = record {
   same = λ c. refl;
   on = λ c d e p q. p ∙ q;
   store = λ c d p. ap (λ (z : Configuration). z.store) (sym p);
@@ -23,7 +23,7 @@ equal_lives w = record {
   steps_keep = λ c d p. subst (λ z. LiveNext (λ c d. c ≡ d) (step (base w) c) (step (base w) z)) p (self (step (base w) c));
   resumes = λ c d s vs p. ap (λ (z : Configuration). resumed z s vs) p;
   numbered = λ c d p h. subst (λ z. All (StandsNumbered w.original w.settings w.which) (stack_of (base w) z)) p h;
-  stand = λ c d ws p h. subst (λ z. AllStandFor w.original w.settings w.which ws (stack_of (base w) z)) (sym p) h;
+  stand = λ top i c d f ws p wt h. subst (λ z. AllStandFor w.original w.settings w.which ws (stack_of (base w) z)) (sym p) h;
   weigh = λ c d n ws p h. subst (λ z. AllWeigh w.original n ws (stack_of (base w) z)) (sym p) h;
 }
   where
@@ -38,7 +38,7 @@ module _ (w : World) (Live : Configuration → Configuration → Type 0) (L : (t
   abbrev pub Eq : Configuration → Configuration → Type 0
   Eq c d = c ≡ d
 
-  module _ (lv : LiveLaw w Live) (law : FlatLaw w Live L W G) where
+  module _ (lv : LiveLaw w Live W) (law : FlatLaw w Live L W G) where
     next_too : (top : ℕ) (o o' : Next) (f : Configuration) → LiveNext Live o o' → FlatNext w Live L W G top o' f → FlatNext w Eq (L2 Live L W) (W2 Live L W) G top o f
     next_too top _ _ f (live_steps {c = c} {d = d} live) fs = record {
       n1 = fs.n1;
@@ -98,7 +98,7 @@ module _ (w : World) (Live : Configuration → Configuration → Type 0) (L : (t
       numbers = λ top i d f h nums. law.numbers top i h.chosen f h.waits (lv.numbered d h.chosen h.live nums);
       stands = λ top i d f us' st h nums fit.
           let fs = law.stands top i h.chosen f us' st h.waits (lv.numbered d h.chosen h.live nums) fit in
-          record { may = fs.may; stand = lv.stand d h.chosen _ h.live fs.stand; weigh = lv.weigh d h.chosen _ _ h.live fs.weigh };
+          record { may = fs.may; stand = lv.stand top i d h.chosen f _ h.live h.waits fs.stand; weigh = lv.weigh d h.chosen _ _ h.live fs.weigh };
       again = λ top i d f a us h nums same us' st fit.
           let ag = law.again top i h.chosen f a us h.waits (lv.numbered d h.chosen h.live nums) same us' st fit in
           record { chosen = d; live = refl; waits = record { chosen = ag.chosen; live = lv.on d h.chosen ag.chosen h.live ag.live; waits = ag.waits } };

@@ -1,11 +1,10 @@
 -- Facts on the levels of a suspended stack: who calls whom, the outermost function, and what both ways cost.
 use Rattle.frame_laws.specs.Function.{function_code}
-use Rattle.frame_laws.specs.Layout.{Layout}
 use Rattle.frame_laws.specs.Stack.{AllFit, CallsTo, Level, outer_of, rewinding_all, unwinding_all}
 use Rattle.guard_form.specs.Bounds.{passing}
 use Rattle.guard_frames.proofs.WaitingLevels.{calls_to, entered_by}
-use Rattle.guard_frames.specs.Joined.{site_of, written_of}
-use Rattle.guard_frames.specs.Levels.{MayStand, levels_of}
+use Rattle.guard_frames.specs.Joined.{CallFrame, site_of, written_of}
+use Rattle.guard_frames.specs.Levels.{MayStand, flat_waiting, levels_of}
 use Rattle.guard_runs.specs.Alike.{Paired, Setting}
 use Rattle.guard_runs.specs.Beside.{Callers, Sides}
 use Rattle.guard_runs.specs.Stopped.{Stopped, above, host}
@@ -30,7 +29,7 @@ pub under_deep : (w : Sides) (g : ℕ) (us us' : List Activation) → Callers w 
 under_deep w g _ _ (B.host e) lt = absurd (omega arith)
 under_deep w g _ _ (B.above {a = a} {under = u} {under' = u'} wt deep us) lt = let c = under_count w a.func u u' us in omega arith
 
-module _ (v : Setting) (pair : Paired v) (lay : ℕ → Layout) where
+module _ (v : Setting) (pair : Paired v) (lay : Activation → CallFrame) where
   -- a level's function
   pub record LevelOk (x : Level) (fn : ℕ) : Type 0 where
     pub is : x.func ≡ fn
@@ -42,15 +41,15 @@ module _ (v : Setting) (pair : Paired v) (lay : ℕ → Layout) where
   outer_at : (x : Level) (fn : ℕ) (us us' : List Activation) (d : Stopped v fn us us') → MayStand v lay d → LevelOk x fn → LevelOk (outer_of x (levels_of v lay d)) v.top
   outer_at x fn _ _ (host e) may ok = subst (LevelOk x) e ok
   outer_at x fn _ _ (above {f = f} {k = k} {slots = slots} {x = c} {to = to} {behind = behind} {rest = rest} {xs = xs} {under = us} {under' = us'} fn2 here is ls extra ops taken both h pl gt deep under) may ok =
-      let x2 : Level = record { func = fn2; fn = written_of v.globals f (lay fn2); site = site_of v.globals f k h slots c to behind rest xs; locals = ls ++ extra; ops = ops; taken = taken; out = 4; seek = passing f.first f.body } in
-      let en = entered_by v pair lay fn2 f may.0.0 ls extra here is may.0.1 may.1 both in
+      let x2 : Level = record { func = fn2; fn = written_of v.globals f (lay (flat_waiting fn2 f to behind rest xs ls ops taken)); site = site_of v.globals f k h slots c to behind rest xs; locals = ls ++ extra; ops = ops; taken = taken; out = 4; seek = passing f.first f.body } in
+      let en = entered_by v pair (lay (flat_waiting fn2 f to behind rest xs ls ops taken)) fn2 f may.0.0 ls extra here is may.0.1 both in
       outer_at x2 fn2 us us' under may.10 (record { is = refl; func = may.0.0; defined = may.0.1; body = en.0; size = en.1 })
 
   pub outer_all : (callee : ℕ) (us us' : List Activation) (d : Stopped v callee us us') → MayStand v lay d → (x0 : Level) (ws : List Level) → levels_of v lay d ≡ x0 ∷ ws → LevelOk (outer_of x0 ws) v.top
   outer_all callee _ _ (host e) may x0 ws q = cc
   outer_all callee _ _ (above {f = f} {k = k} {slots = slots} {x = c} {to = to} {behind = behind} {rest = rest} {xs = xs} {under = us} {under' = us'} fn2 here is ls extra ops taken both h pl gt deep under) may x0 ws q =
-      let x2 : Level = record { func = fn2; fn = written_of v.globals f (lay fn2); site = site_of v.globals f k h slots c to behind rest xs; locals = ls ++ extra; ops = ops; taken = taken; out = 4; seek = passing f.first f.body } in
-      let en = entered_by v pair lay fn2 f may.0.0 ls extra here is may.0.1 may.1 both in
+      let x2 : Level = record { func = fn2; fn = written_of v.globals f (lay (flat_waiting fn2 f to behind rest xs ls ops taken)); site = site_of v.globals f k h slots c to behind rest xs; locals = ls ++ extra; ops = ops; taken = taken; out = 4; seek = passing f.first f.body } in
+      let en = entered_by v pair (lay (flat_waiting fn2 f to behind rest xs ls ops taken)) fn2 f may.0.0 ls extra here is may.0.1 both in
       let e1 : x2 ≡ x0 = cc in
       let e2 : levels_of v lay under ≡ ws = cc in
       let r = outer_at x2 fn2 us us' under may.10 (record { is = refl; func = may.0.0; defined = may.0.1; body = en.0; size = en.1 }) in
@@ -63,7 +62,7 @@ module _ (v : Setting) (pair : Paired v) (lay : ℕ → Layout) where
   pub inner_calls : (g : ℕ) (area : Area) (callee : ℕ) (us us' : List Activation) (d : Stopped v callee us us') → callee < v.funcs → AllFit g area v.written v.globals (suc v.globals) (levels_of v lay d) → (x0 : Level) (ws : List Level) → levels_of v lay d ≡ x0 ∷ ws → InnerCalls x0 callee
   inner_calls g area callee _ _ (host e) lt fit x0 ws q = cc
   inner_calls g area callee _ _ (above {f = f} {k = k} {slots = slots} {x = c} {to = to} {behind = behind} {rest = rest} {xs = xs} {under = us} {under' = us'} fn2 here is ls extra ops taken both h pl gt deep under) lt fit x0 ws q =
-      let x2 : Level = record { func = fn2; fn = written_of v.globals f (lay fn2); site = site_of v.globals f k h slots c to behind rest xs; locals = ls ++ extra; ops = ops; taken = taken; out = 4; seek = passing f.first f.body } in
+      let x2 : Level = record { func = fn2; fn = written_of v.globals f (lay (flat_waiting fn2 f to behind rest xs ls ops taken)); site = site_of v.globals f k h slots c to behind rest xs; locals = ls ++ extra; ops = ops; taken = taken; out = 4; seek = passing f.first f.body } in
       let e1 : x2 ≡ x0 = cc in
       let lf = fit.0 in
       let ct = calls_to v pair x2 c callee lt refl lf.took gt in

@@ -66,6 +66,53 @@ some_is x y q = cc
 same_config : (c : Configuration) (a : Activation) (us : List Activation) → c.here ≡ a → c.under ≡ us → record { store = c.store; here = a; under = us } ≡ c
 same_config c a us e1 e2 = sym (ap (λ z. record { store = c.store; here = z; under = c.under }) e1 ∙ ap (λ z. record { store = c.store; here = a; under = z }) e2)
 
+-- The levels of a suspended stack: there is an innermost one.
+record LevelsOf (w : World) (top : ℕ) (S : List Suspended) (here : Activation) (under : List Activation) (ws : List Level) : Type 0 where
+  v : Level
+  vs : List Level
+  are : ws ≡ v ∷ vs
+  here_is : here ≡ activation_of v
+  under_is : under ≡ map activation_of vs
+  fits : AllFit (gl w) w.plan.area w.written (gl w) (suc (gl w)) (v ∷ vs)
+  chain : Chain w.written (gl w) w.table v vs
+  held : HeldAlike w.original w.settings w.which (v ∷ vs) S
+  weigh : AllWeigh w.original (param_count (func_type_at w.flat top)) (v ∷ vs) S
+
+-- activations that are levels
+record SomeLevel (here : Activation) (under : List Activation) (ws : List Level) : Type 0 where
+  v : Level
+  vs : List Level
+  are : ws ≡ v ∷ vs
+  acts : here ∷ under ≡ activation_of v ∷ map activation_of vs
+
+some_level : (here : Activation) (under : List Activation) (ws : List Level) → here ∷ under ≡ map activation_of ws → SomeLevel here under ws
+some_level here under [] e = cc
+some_level here under (v ∷ vs) e = record { v = v; vs = vs; are = refl; acts = e }
+
+first_is : (a b : Activation) (us vs : List Activation) → a ∷ us ≡ b ∷ vs → a ≡ b
+first_is a b us vs e = cc
+
+rest_are : (a b : Activation) (us vs : List Activation) → a ∷ us ≡ b ∷ vs → us ≡ vs
+rest_are a b us vs e = cc
+
+levels_are : (w : World) (top : ℕ) (S : List Suspended) (here : Activation) (under : List Activation) (ws : List Level) → here ∷ under ≡ map activation_of ws
+    → AllFit (gl w) w.plan.area w.written (gl w) (suc (gl w)) ws → ChainOf (setting w top) ws → AllStandFor w.original w.settings w.which ws S
+    → AllWeigh w.original (param_count (func_type_at w.flat top)) ws S → LevelsOf w top S here under ws
+levels_are w top S here under ws acts fit chain stand weigh = record {
+  v = r.v;
+  vs = r.vs;
+  are = r.are;
+  here_is = first_is here (activation_of r.v) under (map activation_of r.vs) r.acts;
+  under_is = rest_are here (activation_of r.v) under (map activation_of r.vs) r.acts;
+  fits = subst (AllFit (gl w) w.plan.area w.written (gl w) (suc (gl w))) r.are fit;
+  chain = subst (ChainOf (setting w top)) r.are chain;
+  held = stacks_held w.original w.settings w.which (r.v ∷ r.vs) S (subst (λ vs. AllStandFor w.original w.settings w.which vs S) r.are stand);
+  weigh = subst (λ vs. AllWeigh w.original (param_count (func_type_at w.flat top)) vs S) r.are weigh;
+}
+  where
+    r : SomeLevel here under ws
+    r = some_level here under ws acts
+
 module _ (w : World) (ft : WorldFits w) (sl : StoreLaws w) (L : ℕ → Configuration → Configuration → Type 0) (W : ℕ → ℕ → Configuration → Configuration → Type 0) (G : Store → Type 0) (law : FlatLaw w (λ c d. c ≡ d) L W G)
     (n top : ℕ) (e : Entry) (c b : Configuration) (l : Left) (is_top : TopOf w (an_entry e) top) (lk : Link w ft sl L W G law top c b) (lf : LeftFits w l) (al : Allowed w n (runs (an_entry e) c l))
     (k i : ℕ) (args : List Value) (d : Configuration) (is : step (base w) c ≡ asks k i args d) (cd : Called w ft sl L W G law top (an_entry e) l c.store b k i args d)
@@ -156,7 +203,19 @@ module _ (w : World) (ft : WorldFits w) (sl : StoreLaws w) (L : ℕ → Configur
     weigh : AllWeigh w.original (param_count (func_type_at w.flat top)) (v ∷ vs) S
 
   standing : suc k ≤ n → Standing
-  standing enough = by_levels (levels_of (setting w top) w.lay st) refl
+  standing enough = record {
+    st = st;
+    fs = fs;
+    v = r.v;
+    vs = r.vs;
+    are = r.are;
+    here_is = r.here_is;
+    under_is = r.under_is;
+    fits = r.fits;
+    chain = r.chain;
+    held = r.held;
+    weigh = r.weigh;
+  }
     where
       nums : All (StandsNumbered w.original w.settings w.which) S
       nums = numbered_now enough
@@ -170,23 +229,8 @@ module _ (w : World) (ft : WorldFits w) (sl : StoreLaws w) (L : ℕ → Configur
       lv : AreLevels (gl w) w.plan.area (setting w top) ((cd.at).here ∷ (cd.at).under) (levels_of (setting w top) w.lay st)
       lv = stopped_are_levels (gl w) w.plan.area (setting w top) w.lay i _ _ st (ft.paired top) fs.may
 
-      by_levels : (ws : List Level) → levels_of (setting w top) w.lay st ≡ ws → Standing
-      by_levels [] q = let z : (cd.at).here ∷ (cd.at).under ≡ [] = lv.acts ∙ ap (map activation_of) q in cc
-      by_levels (v ∷ vs) q =
-          let z : (cd.at).here ∷ (cd.at).under ≡ activation_of v ∷ map activation_of vs = lv.acts ∙ ap (map activation_of) q in
-          record {
-            st = st;
-            fs = fs;
-            v = v;
-            vs = vs;
-            are = q;
-            here_is = cc;
-            under_is = cc;
-            fits = subst (AllFit (gl w) w.plan.area w.written (gl w) (suc (gl w))) q lv.fit;
-            chain = subst (ChainOf (setting w top)) q lv.chain;
-            held = stacks_held w.original w.settings w.which (v ∷ vs) S (subst (λ ws. AllStandFor w.original w.settings w.which ws S) q fs.stand);
-            weigh = subst (λ ws. AllWeigh w.original (param_count (func_type_at w.flat top)) ws S) q fs.weigh;
-          }
+      r : LevelsOf w top S (cd.at).here (cd.at).under (levels_of (setting w top) w.lay st)
+      r = levels_are w top S (cd.at).here (cd.at).under (levels_of (setting w top) w.lay st) lv.acts lv.fit lv.chain fs.stand fs.weigh
 
   words_same : Sm w d.store (with_words s1 w.plan.area)
   words_same = let r = rdy in same_on (gl w) w.plan.area d.store s1 (with_words s1 w.plan.area) same1 (sl.words s1 ft.least r.inside)

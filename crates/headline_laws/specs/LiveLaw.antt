@@ -21,8 +21,8 @@ pub data LiveNext (Live : Configuration → Configuration → Type 0) : Next →
   live_traps : {k : ℕ} {t : Trap} {s : Store} → LiveNext Live (traps k t s) (traps k t s)
   live_stuck : LiveNext Live stuck stuck
 
--- What is asked of the relation: steps keep it, and a suspended stack stands for the one of both.
-pub record LiveLaw (w : World) (Live : Configuration → Configuration → Type 0) : Type 0 where
+-- What is asked of the relation: steps keep it, and what a suspended stack stands for beside a waiting flat one it stands for too.
+pub record LiveLaw (w : World) (Live : Configuration → Configuration → Type 0) (W : (top import : ℕ) → Configuration → Configuration → Type 0) : Type 0 where
   pub same : (c : Configuration) → Live c c
   pub on : (c d e : Configuration) → Live c d → Live d e → Live c e
   pub store : (c d : Configuration) → Live c d → d.store ≡ c.store
@@ -30,7 +30,7 @@ pub record LiveLaw (w : World) (Live : Configuration → Configuration → Type 
   pub steps_keep : (c d : Configuration) → Live c d → LiveNext Live (step (base w) c) (step (base w) d)
   pub resumes : (c d : Configuration) (s : Store) (vs : List Value) → Live c d → Live (resumed c s vs) (resumed d s vs)
   pub numbered : (c d : Configuration) → Live c d → All (StandsNumbered w.original w.settings w.which) (stack_of (base w) c) → All (StandsNumbered w.original w.settings w.which) (stack_of (base w) d)
-  pub stand : (c d : Configuration) (ws : List Level) → Live c d → AllStandFor w.original w.settings w.which ws (stack_of (base w) d) → AllStandFor w.original w.settings w.which ws (stack_of (base w) c)
+  pub stand : (top i : ℕ) (c d f : Configuration) (ws : List Level) → Live c d → W top i d f → AllStandFor w.original w.settings w.which ws (stack_of (base w) d) → AllStandFor w.original w.settings w.which ws (stack_of (base w) c)
   pub weigh : (c d : Configuration) (n : ℕ) (ws : List Level) → Live c d → AllWeigh w.original n ws (stack_of (base w) d) → AllWeigh w.original n ws (stack_of (base w) c)
 
 -- ---- both relations with that step in between

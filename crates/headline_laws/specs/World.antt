@@ -7,7 +7,8 @@ use Rattle.wa_types.specs.Runtime.{global_space}
 use Rattle.wa_types.specs.Syntax.{Module}
 use Rattle.wa_model.specs.Plan.{Plan}
 use Rattle.wa_model.specs.Protocol.{exports_of}
-use Rattle.frame_laws.specs.Layout.{Layout}
+use Rattle.wa_model.specs.Configuration.{Activation}
+use Rattle.guard_frames.specs.Joined.{CallFrame}
 use Rattle.guard_form.specs.Functions.{Role}
 use Rattle.guard_runs.specs.Alike.{Paired, Setting}
 use Rattle.pause_laws.specs.Pause.{RuntimeAt}
@@ -25,7 +26,7 @@ pub record World : Type 0 where
   pub role : ℕ → Role
   pub numbered : Callee → Bool
   pub table : List (Option ℕ)
-  pub lay : ℕ → Layout
+  pub lay : Activation → CallFrame
 
 abbrev pub base : World → Module
 base w = Base w.original

@@ -1,1 +1,2 @@
 pub mod LiveSteps
+pub mod LiveRelation

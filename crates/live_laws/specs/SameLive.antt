@@ -2,13 +2,16 @@
 use Rattle.std.specs.Prelude.{◌≡◌, ℕ, List, [], ◌∷◌, length, map}
 use Rattle.wa_types.specs.Liveness.{Position, ReadsFirst, goes_again, goes_behind, position}
 use Rattle.wa_types.specs.Liveness as L
+use Rattle.wa_types.specs.Pausing.{save_live}
 use Rattle.wa_types.specs.Pruned.{pruned}
 use Rattle.wa_types.specs.Syntax.{Code, Module}
 use Rattle.wa_types.specs.declared.values.Value.{Value}
 use Rattle.wa_model.specs.Configuration.{Activation, Configuration, Label, block_label, loop_label, waiting}
 use Rattle.wa_model.specs.Step.{step}
 use Rattle.wa_model.specs.Store.{Store, value_at}
-use Rattle.headline_laws.specs.LiveLaw.{LiveNext}
+use Rattle.stack_laws.proofs.SpotSteps.{WaitingAtSpots}
+use Rattle.headline_laws.specs.LiveLaw.{LiveLaw, LiveNext}
+use Rattle.headline_laws.specs.World.{World, base}
 
 -- where a label leads, in pruned code
 abbrev pub leads_to : Label → L.Label
@@ -41,3 +44,12 @@ pub data SameLive : Configuration → Configuration → Type 0 where
 -- What they do next is the same, and they stay so.
 abbrev pub LiveLocalsSuffice : Type 0
 LiveLocalsSuffice = (m : Module) (c d : Configuration) → SameLive c d → LiveNext SameLive (step m c) (step m d)
+
+-- the original's configuration stands behind calls of its bodies
+abbrev pub WaitsThere : World → (top import : ℕ) → (d f : Configuration) → Type 0
+WaitsThere w top i d f = WaitingAtSpots (base w) i d
+
+-- For the policy `live` it is such a step as the headline allows in between: what isn't saved no path from the calls reads first, so
+-- frames that stand for the one configuration stand for the other.
+abbrev pub LiveLocalsStand : Type 0
+LiveLocalsStand = (w : World) → w.settings.policy ≡ save_live → LiveLaw w SameLive (WaitsThere w)

@@ -4,4 +4,4 @@
 
 mod laws;
 
-pub use laws::live_locals_suffice;
+pub use laws::{live_locals_stand, live_locals_suffice};

@@ -20,7 +20,11 @@ use Rattle.guard_runs.specs.Modules.{SameFunction, DifferInFunctions}
 use Rattle.guard_runs.specs.Stopped.{Stopped, host, above}
 use Rattle.frame_laws.specs.Stack.{AllFit, CallsTo}
 use Rattle.frame_laws.specs.Stack.{directly as to_import}
+use Rattle.guard_frames.specs.Joined.{one_frame}
 use Rattle.guard_frames.specs.Levels.{MayStand}
+use Rattle.guard_form.specs.Functions.{indices_of}
+use Rattle.guard_form.specs.Guarded.{front}
+use Rattle.frame_laws.proofs.OneFunction.{layout_codes}
 use Rattle.pause_laws.specs.Pause.{AreaReady, EntersEntry, PausesAt, RuntimeAt}
 use Rattle.pause_example.specs.SmallModule.{ComesBack, after_call, answer, entry, flat_function, guarded, is_sleep, layout, left, level, numbered_places, plan, role, setting, store, written_function}
 use Rattle.guard_frames.proofs.WaitingLevels.{stopped_are_levels}
@@ -113,12 +117,12 @@ written_stack = waiting 1 (own ++ extra) [] [] (noted_code 0 guarded 0 0 (Some 1
 abbrev stopped : Stopped setting 0 flat_stack written_stack
 stopped = above 1 (omega arith) refl own extra [] [] (record { size = refl; more = refl }) 0 at_start (directly no_params) (omega arith) (host refl)
 
-stands : MayStand setting (λ x. layout) stopped
+stands : MayStand setting (λ a. one_frame layout) stopped
 unfolding with_runtime
-stands = ((written_function, refl), record { index = refl; saving = refl; restoring = refl }, refl, refl, tt, tt, (omega arith, refl, lit< tt, tt), lit< tt, tt, refl, tt)
+stands = ((written_function, refl), record { index = refl; codes = layout_codes layout (front (indices_of 0 guarded) 0 0 guarded.first guarded.body) (Some 1) 0 (λ e. cc) }, refl, refl, tt, tt, (omega arith, refl, lit< tt, tt), lit< tt, tt, refl, tt)
 
 pub fits : AllFit 0 plan.area setting.written 0 1 (level ∷ [])
-fits = (stopped_are_levels 0 plan.area setting (λ x. layout) 0 flat_stack written_stack stopped paired stands).fit
+fits = (stopped_are_levels 0 plan.area setting (λ a. one_frame layout) 0 flat_stack written_stack stopped paired stands).fit
 
 -- ---- the pause
 

@@ -22,7 +22,7 @@ use Rattle.guard_runs.specs.Alike.{Setting}
 use Rattle.frame_laws.specs.Layout.{Layout, kept, gap, save_code, restore_code}
 use Rattle.frame_laws.specs.Stack.{Level}
 use Rattle.pause_laws.specs.Pause.{AnswersAt, PausesAt}
-use Rattle.guard_frames.specs.Joined.{written_of, site_of}
+use Rattle.guard_frames.specs.Joined.{one_frame, written_of, site_of}
 
 -- ---- the function
 
@@ -117,7 +117,7 @@ left = record { number = 0; entries = []; outcomes = [] }
 abbrev pub level : Level
 level = record {
   func = 1;
-  fn = written_of 0 guarded layout;
+  fn = written_of 0 guarded (one_frame layout);
   site = site_of 0 guarded 0 0 [] (direct 0) (Some 1) (first_piece numbered_places 1 after_call) no_unit [];
   locals = V.I32 5 ∷ V.I32 0 ∷ V.I32 0 ∷ V.I32 0 ∷ V.I64 0 ∷ [];
   ops = [];

@@ -17,7 +17,7 @@ use Rattle.wa_model.specs.Step.{entered}
 use Rattle.wa_model.specs.Plan.{Plan, given}
 use Rattle.wa_model.specs.Blocking.{an_entry, events_of}
 use Rattle.wa_model.specs.Protocol.{Held, is_running, busy, exports_of, protocol}
-use Rattle.frame_laws.specs.Function.{WrittenFunc, function_code}
+use Rattle.frame_laws.specs.Function.{WrittenFunc, by_layout, function_code}
 use Rattle.frame_laws.specs.Layout.{kept}
 
 -- a numbered call 0 behind a piece: block; the piece in state 0, else out where the index isn't 0; the call; the index noted; out
@@ -31,11 +31,11 @@ call_0 index x piece =
 
 -- local 0 becomes 7, then the other one is called, and 7 is the result
 abbrev outer : WrittenFunc
-outer = record { layout = record { address = 1; index = 1; scratch = 2; fields = kept 0 I32 ∷ [] }; body = call_0 1 2 (plain (basic (const (V.I32 7))) (plain (local_set 0) done)); result = Some 0 }
+outer = by_layout (record { address = 1; index = 1; scratch = 2; fields = kept 0 I32 ∷ [] }) (call_0 1 2 (plain (basic (const (V.I32 7))) (plain (local_set 0) done))) (Some 0)
 
 -- the import is called
 abbrev inner : WrittenFunc
-inner = record { layout = record { address = 1; index = 0; scratch = 1; fields = [] }; body = call_0 0 0 done; result = None }
+inner = by_layout (record { address = 1; index = 0; scratch = 1; fields = [] }) (call_0 0 0 done) None
 
 abbrev m : Module
 m = record {

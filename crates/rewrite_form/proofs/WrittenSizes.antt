@@ -22,7 +22,6 @@ use Rattle.flat_laws.specs.Flatten.{Names, names, top, carry_to, carry, carry_al
 use Rattle.flat_laws.proofs.Depths.{flat_is_flat}
 use Rattle.flat_laws.proofs.Sizes.{flat_is_small}
 use Rattle.flat_laws.proofs.ValidModules.{flat_pruned}
-use Rattle.frame_laws.specs.Function.{WrittenFunc}
 use Rattle.frame_laws.specs.Layout.{FrameField, kept, gap, kept_count}
 use Rattle.frame_laws.specs.Sizes.{result_size}
 use Rattle.frame_laws.proofs.FrameSizes.{function_size, function_depth}
@@ -154,9 +153,6 @@ module _ (m : Module) (s : Settings) (which : List Bool) (x : ℕ) (f : Func) wh
   abbrev guarded : Code
   guarded = front (indices_of (global_space m) gf) 0 0 gf.first gf.body
 
-  abbrev as_written : WrittenFunc
-  as_written = record { layout = frame_layout m s which x f; body = guarded; result = gf.result }
-
   abbrev flat_code : Code
   flat_code = code_of (flattened m x f).body
 
@@ -195,7 +191,7 @@ module _ (m : Module) (s : Settings) (which : List Bool) (x : ℕ) (f : Func) wh
 
   pub written_size : (v : Valid m) (i : ℕ) → slice_get m.funcs i ≡ Some f → instructions_and_labels (written_func m s which x f).body ≤ 25 * w + 6 * length (locals_of m f) + 45
   written_size v i e =
-      let a = function_size (global_space m) as_written in
+      let a = function_size (global_space m) (frame_layout m s which x f) guarded gf.result in
       let b = kept_few (is_kept m s which x f) (Saved m save_all f 0) in
       let c = saved_count m f in
       let d = slots_are_few m i f v e in
@@ -206,7 +202,7 @@ module _ (m : Module) (s : Settings) (which : List Bool) (x : ℕ) (f : Func) wh
 
   pub written_depth : depth_of (written_func m s which x f).body ≤ depth_of (pruned f.body) + 3
   written_depth =
-      let a = function_depth (global_space m) as_written in
+      let a = function_depth (global_space m) (frame_layout m s which x f) guarded gf.result in
       let b = depth_law (indices_of (global_space m) gf) 0 0 gf.first gf.body in
       let e = ap depth_of joined in
       let c = flat_is_flat m x f in omega arith

@@ -1,4 +1,1 @@
-pub mod Texts
-pub mod Numerals
-pub mod Pieces
-pub mod Sequences
+mod Lists

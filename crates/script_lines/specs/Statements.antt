@@ -1,9 +1,11 @@
 -- Statements as the program has them, as plain data.
-use Rattle.std.specs.Prelude.{Option}
+use Rattle.std.specs.Prelude.{Option, List, ℕ}
+use Rattle.std.specs.List.{find}
 use Rattle.std.specs.Option.{option_map}
+use Rattle.std.specs.Str.{bytes_eq}
 use Rattle.wa_model.specs.ScriptLines.{Statement, begins_program, lists_imports, ignores_imports, saves, has_area, has_steps, sets_global, binds, enters, answers, shows, detaches}
 use Rattle.wa_model.specs.ScriptLines.{Keyword, program_word, imports_word, ignore_imports_word, save_word, area_word, steps_word, global_word, device_word, enter_word, answer_word}
-use Rattle.wa_model.specs.ScriptLines.{show_word, detach_word}
+use Rattle.wa_model.specs.ScriptLines.{show_word, detach_word, Spelling}
 use Rattle.wa_model.specs.View.{answer_line_of}
 use Rattle.script_lines.specs.declared.statements.Statement.{Statement as StatementValue}
 use Rattle.script_lines.specs.declared.statements.Statement.TheVariants as S
@@ -23,6 +25,10 @@ keyword_of K.Enter = enter_word
 keyword_of K.Answer = answer_word
 keyword_of K.Show = show_word
 keyword_of K.Detach = detach_word
+
+-- the keyword that a word is, among some of them
+abbrev pub keyword_among : List Spelling → List ℕ → Option Keyword
+keyword_among some word = option_map (λ (s : Spelling). s.keyword) (find (λ (s : Spelling). bytes_eq s.text word) some)
 
 abbrev pub statement_of : StatementValue → Statement
 statement_of (S.Program path) = begins_program path

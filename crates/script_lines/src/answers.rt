@@ -2,13 +2,12 @@
 ghost use Rattle.std.specs.Prelude.{◌≡◌, ◌∷◌, ◌++◌, [], OnOk, None, Some, false, map, true};
 ghost use Rattle.wa_model.specs.ScriptLines.{all_pokes, answer_of, answer_with, answer_word, pokes_in, result_in, says, says_answer, u32_in};
 ghost use Rattle.wa_model.specs.View.{poke_of};
-ghost use Rattle.script_lines.specs.Reading.{Reads, or_breaks, triples};
+ghost use Rattle.line_words.specs.Reading.{Reads, or_breaks};
+ghost use Rattle.script_lines.specs.Reading.{triples};
 ghost use Rattle.script_lines.specs.Statements.{statement_of};
 
-use crate::bytes::hex_in;
-use crate::faults::LineFault;
-use crate::numbers::{u32_in, value_in};
 use crate::statements::{Statement, copied, told};
+use line_words::{LineFault, hex_in, u32_in, value_in};
 use std::alloc::{AllocError, Global};
 use wa_model::{Answer, AnswerLine, Poke};
 use wa_types::{Name, Value};

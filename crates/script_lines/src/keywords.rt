@@ -1,11 +1,11 @@
 // The first words of lines.
-ghost use Rattle.std.specs.Prelude.{◌≡◌};
+ghost use Rattle.std.specs.Prelude.{◌≡◌, drop};
 ghost use Rattle.std.specs.Option.{option_map};
-ghost use Rattle.wa_model.specs.ScriptLines.{keyword_in};
-ghost use Rattle.script_lines.specs.Statements.{keyword_of};
+ghost use Rattle.wa_model.specs.ScriptLines.{keyword_in, keywords};
+ghost use Rattle.script_lines.specs.Statements.{keyword_among, keyword_of};
 
 /// The first word of a line.
-#[derive(Clone, Copy, Debug)]
+#[derive(Clone, Copy)]
 pub(crate) enum Keyword {
     Program,
     Imports,
@@ -36,6 +36,13 @@ pub(crate) fn keyword_in(word: &str) -> Option<Keyword>
     if "save" == word {
         return Some(Keyword::Save);
     }
+    behind_save(word)
+}
+
+// The keywords behind `save` in the list.
+fn behind_save(word: &str) -> Option<Keyword>
+    ensures { option_map keyword_of result ≡ keyword_among (drop 4 keywords) word.now }
+{
     if "area" == word {
         return Some(Keyword::Area);
     }
@@ -48,6 +55,13 @@ pub(crate) fn keyword_in(word: &str) -> Option<Keyword>
     if "device" == word {
         return Some(Keyword::Device);
     }
+    behind_device(word)
+}
+
+// And behind `device`.
+fn behind_device(word: &str) -> Option<Keyword>
+    ensures { option_map keyword_of result ≡ keyword_among (drop 8 keywords) word.now }
+{
     if "enter" == word {
         return Some(Keyword::Enter);
     }

@@ -3,20 +3,18 @@ ghost use Rattle.wa_model.specs.ScriptLines.{all_values, area_word, detach_word,
 ghost use Rattle.wa_model.specs.ScriptLines.{says, says_policy, says_with, show_word, steps_word, words_say};
 ghost use Rattle.std.specs.Prelude.{◌≡◌, ◌∷◌, ◌++◌, [], IfOk, OnOk, Some};
 ghost use Rattle.std.specs.Option.{option_map};
-ghost use Rattle.script_lines.specs.Reading.{Reads, or_breaks};
+ghost use Rattle.line_words.specs.Reading.{Reads, or_breaks};
 ghost use Rattle.script_lines.specs.Statements.{keyword_of, line_of, statement_of};
 
 use crate::answers::answer_line;
-use crate::faults::LineFault;
 use crate::keywords::{Keyword, keyword_in};
-use crate::numbers::{number_within, u32_in, value_in};
-use crate::words::read_words;
+use line_words::{LineFault, number_within, read_words, u32_in, value_in};
 use std::alloc::{AllocError, Global};
 use wa_model::{AnswerLine, Area, Detach};
 use wa_types::{Name, Value};
 
 /// What a line of a script says.
-#[derive(Debug, Drop)]
+#[derive(Drop)]
 pub enum Statement {
     /// A program begins, whose module is in the file of this path.
     Program(Name),

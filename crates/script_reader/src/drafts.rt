@@ -21,14 +21,14 @@ use wa_types::{Name, Value};
 const DEFAULT_STEPS: u64 = 100_000_000;
 
 /// An area and the line that tells it.
-#[derive(Clone, Copy, Debug)]
+#[derive(Clone, Copy)]
 pub(crate) struct AreaLine {
     pub line: u32,
     pub area: Area,
 }
 
 /// A program, as far as it is told.
-#[derive(Debug, Drop)]
+#[derive(Drop)]
 pub(crate) struct Draft {
     pub line: u32,
     pub path: Name,

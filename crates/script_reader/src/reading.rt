@@ -21,7 +21,7 @@ const MOST_PROGRAMS: u32 = 16;
 
 /// What is known of a script: the programs before the one that is being told, the line of the first of them that lacks its
 /// area, how many were begun, the one that is being told, and the devices that are taken out.
-#[derive(Debug, Drop)]
+#[derive(Drop)]
 struct Reading {
     programs: Vec<ProgramText>,
     missing: Option<u32>,

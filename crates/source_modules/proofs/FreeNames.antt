@@ -66,3 +66,8 @@ unreserved_is_free m e = each_free m.exports (none_found (λ (x : Export). is_ru
 pub sources_rewritten : (m : Module) (s : Settings) (which : List Bool) → Valid m → reserved_at m ≡ None → StrictSizeRule m → FewWritten m which → s.policy ≡ save_all → TellsMayPause m s which
     → Rewrites m s (Norm (asyncified m s which))
 sources_rewritten m s which v free strict few policy t = norm_rewritten m s (asyncified m s which) (asyncified_law m s which v (unreserved_is_free m free) strict few policy t)
+
+-- What is run of it is that module, rewritten.
+pub runs_rewritten : (m : Module) (s : Settings) (which : List Bool) (p : Module) → p ≡ asyncified m s which → Valid m → reserved_at m ≡ None → StrictSizeRule m → FewWritten m which → s.policy ≡ save_all
+    → TellsMayPause m s which → Rewrites m s p
+runs_rewritten m s which p e v free strict few policy t = subst (Rewrites m s) (sym e) (asyncified_law m s which v (unreserved_is_free m free) strict few policy t)

@@ -45,3 +45,8 @@ IsOfRewrite (rewrite_reserved at) fault = ⊥
 abbrev pub IsUnreserved : RewriteFault → Type 0
 IsUnreserved (rewrite_reserved at) = ⊥
 IsUnreserved _ = Unit {0}
+
+-- what isn't written has no length that is refused
+abbrev pub IsUnwritten : SourceFault → Type 0
+IsUnwritten (Refused (Output found)) = ⊥
+IsUnwritten _ = Unit {0}

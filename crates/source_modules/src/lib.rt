@@ -1,11 +1,13 @@
 //! A source module, from its bytes to those of the written one.
 //!
 //! `rewrite` reads a module within the limits of a source, refuses it by the first cause there is (`specs/Sources.antt`), and
-//! writes it rewritten.
+//! writes it rewritten. `rewritten` does the same without writing it, for whoever runs it.
 #![tactic(auto)]
 
 mod refusals;
+mod running;
 mod source;
 
-pub use refusals::Refusal;
+pub use refusals::{Refusal, refusal_kind};
+pub use running::{Runnable, rewritten};
 pub use source::{SourceFault, Written, rewrite};

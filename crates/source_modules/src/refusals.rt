@@ -1,5 +1,11 @@
 // Why a source is refused.
+ghost use Rattle.std.specs.Prelude.{◌≡◌};
+ghost use Rattle.transcript.specs.Printing.{refusal_of};
+ghost use Rattle.source_modules.specs.Refusals.{cause_of};
+ghost use Rattle.source_modules.specs.Sources.{refusal_for};
+
 use thiserror::Error;
+use transcript::RefusalKind;
 use wa_types::{LimitKind, Name};
 
 /// Why a source is refused.
@@ -48,4 +54,26 @@ pub enum Refusal {
     Output {
         found: u64,
     },
+}
+
+/// What is told of a module that is refused.
+pub fn refusal_kind(refusal: Refusal) -> RefusalKind
+    ensures { refusal_of result ≡ refusal_for (cause_of refusal) }
+{
+    match refusal {
+        Refusal::Malformed { at } => RefusalKind::Malformed { at },
+        Refusal::Float { at } => RefusalKind::Float { at },
+        Refusal::Deep { at } => RefusalKind::Nesting { at },
+        Refusal::Limit { what, found } => RefusalKind::Limit { what, found },
+        Refusal::Reserved { name } => RefusalKind::Reserved { name },
+        Refusal::Invalid { func, rule, at } => RefusalKind::Invalid { func, rule, at },
+        Refusal::RewrittenLocals { found } => RefusalKind::Limit {
+            what: LimitKind::Locals,
+            found: u64::from(found),
+        },
+        Refusal::Output { found } => RefusalKind::Limit {
+            what: LimitKind::Output,
+            found,
+        },
+    }
 }

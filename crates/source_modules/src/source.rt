@@ -7,7 +7,7 @@ ghost use Rattle.wa_types.specs.View.{module_of};
 ghost use Rattle.wasm_reader.specs.Answers.{IsAccepted};
 ghost use Rattle.asyncify_runtime.specs.Reserved.{reserved_at};
 ghost use Rattle.source_modules.specs.declared.source.SourceFault.TheVariants.{Memory};
-ghost use Rattle.source_modules.specs.Refusals.{IsFaultOf, IsOfRead, IsOfRewrite, IsUnreserved};
+ghost use Rattle.source_modules.specs.Refusals.{IsFaultOf, IsOfRead, IsOfRewrite, IsUnreserved, IsUnwritten};
 ghost use Rattle.source_modules.specs.Sources.{IsRewritten, IsValidSource, reserved_name};
 
 use crate::refusals::Refusal;
@@ -76,9 +76,14 @@ pub fn rewrite(alloc: Global, bytes: &[u8], settings: &Settings) -> Result<Writt
     }
 }
 
-// The module that these bytes spell, where it is a valid source.
-fn source(alloc: Global, bytes: &[u8], _settings: &Settings) -> Result<Valid, SourceFault>
+/// The module that these bytes spell, where it is a valid source.
+pub(crate) fn source(
+    alloc: Global,
+    bytes: &[u8],
+    _settings: &Settings,
+) -> Result<Valid, SourceFault>
     ensures source { IfOk result (λ r. IsValidSource bytes.now (module_of r)) }
+    ensures unwritten { IfErr result IsUnwritten }
     ensures refused { IfErr result (λ fault. IsFaultOf (settings_of _settings.now) bytes.now fault) }
 {
     let module = match read(alloc, bytes, &Bounds::source()) {
@@ -98,10 +103,11 @@ fn source(alloc: Global, bytes: &[u8], _settings: &Settings) -> Result<Valid, So
     }
 }
 
-// Why a valid source isn't rewritten; it has no reserved name.
-fn rewrite_fault(fault: RewriteFault) -> SourceFault
+/// Why a valid source isn't rewritten; it has no reserved name.
+pub(crate) fn rewrite_fault(fault: RewriteFault) -> SourceFault
     requires { IsUnreserved fault }
-    ensures { IsOfRewrite fault result }
+    ensures fault { IsOfRewrite fault result }
+    ensures unwritten { IsUnwritten result }
 {
     match fault {
         RewriteFault::Memory => SourceFault::Memory,
@@ -120,7 +126,8 @@ fn told_count(told: &[bool]) -> usize
 
 // Why a source that isn't read is refused.
 fn read_fault(fault: ReadFault) -> SourceFault
-    ensures { IsOfRead fault result }
+    ensures fault { IsOfRead fault result }
+    ensures unwritten { IsUnwritten result }
 {
     match fault {
         ReadFault::Memory => SourceFault::Memory,

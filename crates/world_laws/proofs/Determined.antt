@@ -23,10 +23,10 @@ use Rattle.world_laws.proofs.Worlds.{take_first}
 -- ---- one call
 
 -- The answer that a reply is.
-abbrev answer_of : Reply → Answer
+abbrev pub answer_of : Reply → Answer
 answer_of r = record { value = r.value; pokes = []; ticks = r.ticks }
 
-reply_same : (r q : Reply) → given (answer_of r) ≡ given (answer_of q) → r ≡ q
+pub reply_same : (r q : Reply) → given (answer_of r) ≡ given (answer_of q) → r ≡ q
 reply_same r q e = ap (λ (a : Answer). record { value = a.value; ticks = a.ticks }) (answer_same (answer_of r) (answer_of q) e)
   where
     answer_same : (a b : Answer) → given a ≡ given b → a ≡ b
@@ -59,7 +59,7 @@ device_fixes import base name args ds o d e h k = by_there (list_any (is_named n
     by_there true p q = both p q
     by_there false p q = p.1 ∙ sym q.1
 
-line_fixes : (import : ℕ) (name : List ℕ) (lines : List AnswerLine) (o q : Outcome) (l k : List AnswerLine) → MeetsLine import name lines o l → MeetsLine import name lines q k → (l ≡ k) × (o ≡ q)
+pub line_fixes : (import : ℕ) (name : List ℕ) (lines : List AnswerLine) (o q : Outcome) (l k : List AnswerLine) → MeetsLine import name lines o l → MeetsLine import name lines q k → (l ≡ k) × (o ≡ q)
 line_fixes import name [] o q l k h g = (h.1 ∙ sym g.1, h.0 ∙ sym g.0)
 line_fixes import name (x ∷ xs) o q l k h g = by_name (same_name x.import name) h g
   where
@@ -81,10 +81,10 @@ meets_fixes w import args lines ds o l k d e h g = by_bound (unwrap_or (slice_ge
 abbrev Fixed : List Outcome → List Outcome → List Outcome → List Note → List Outcome → List Outcome → Type 0
 Fixed us r s xs o1 o2 = (vs : List Outcome) × (o1 ≡ vs ++ r) × (o2 ≡ vs ++ s) × (length us ≡ new_calls xs + length vs)
 
-head_same : (a b : Outcome) (p q : List Outcome) → a ∷ p ≡ b ∷ q → b ≡ a
+pub head_same : (a b : Outcome) (p q : List Outcome) → a ∷ p ≡ b ∷ q → b ≡ a
 head_same a b p q e = cc
 
-tail_same : (a b : Outcome) (p q : List Outcome) → a ∷ p ≡ b ∷ q → q ≡ p
+pub tail_same : (a b : Outcome) (p q : List Outcome) → a ∷ p ≡ b ∷ q → q ≡ p
 tail_same a b p q e = cc
 
 calls_fix : (w : Program) (xs : List Note) (us r s : List Outcome) (lines : List AnswerLine) (ds : List Device) (o1 o2 : List Outcome) (l1 l2 : List AnswerLine) (d1 d2 : List Device)

@@ -54,17 +54,17 @@ abbrev size : List Actor → ℕ
 size [] = 0
 size (a ∷ acts) = length a.notes + size acts
 
-abbrev AllDone : List Actor → Type 0
+abbrev pub AllDone : List Actor → Type 0
 AllDone acts = IsOver acts
 
-abbrev SomeNext : List Actor → Type 0
+abbrev pub SomeNext : List Actor → Type 0
 SomeNext acts = (i : ℕ) × (a : Actor) × IsNext acts i a
 
 has_none : (xs : List Note) → (xs ≡ []) ⊎ (0 < length xs)
 has_none [] = inl refl
 has_none (x ∷ xs) = inr (omega arith)
 
-got_done : (acts : List Actor) (j : ℕ) (b : Actor) → IsOver acts → slice_get acts j ≡ Some b → HasNotes b → ⊥
+pub got_done : (acts : List Actor) (j : ℕ) (b : Actor) → IsOver acts → slice_get acts j ≡ Some b → HasNotes b → ⊥
 got_done [] j b over e has = cc
 got_done (a ∷ acts) zero b over e has =
     let done : a.notes ≡ [] = All-head (λ (a : Actor). a.notes ≡ []) a acts over in
@@ -76,7 +76,7 @@ got_done (a ∷ acts) zero b over e has =
     some_same x y e = cc
 got_done (a ∷ acts) (suc j) b over e has = got_done acts j b (All-tail (λ (a : Actor). a.notes ≡ []) a acts over) e has
 
-same_of : (x y : Actor) → Some x ≡ Some y → x ≡ y
+pub same_of : (x y : Actor) → Some x ≡ Some y → x ≡ y
 same_of x y e = cc
 
 -- the first of a list, where the others have ended
@@ -109,7 +109,7 @@ next_behind a acts i c n late = record { there = n.there; unfinished = n.unfinis
         inl (subst (λ (z : Actor). c.due < z.due) same (late (subst HasNotes (sym same) h)))
     least (suc j) b e h = ⊎_elim (λ lt. inl lt) (λ same. inr (same.0, let le = same.1 in omega arith)) (n.least j b e h)
 
-some_next : (acts : List Actor) → AllDone acts ⊎ SomeNext acts
+pub some_next : (acts : List Actor) → AllDone acts ⊎ SomeNext acts
 some_next [] = inl (All-nil (λ (a : Actor). a.notes ≡ []))
 some_next (a ∷ acts) = by_notes (has_none a.notes) (some_next acts)
   where
@@ -131,7 +131,7 @@ pub record Ready (w : Program) (a : Actor) : Type 0 where
   pub left : List AnswerLine
   pub calls : CallsMeet w a.notes a.outcomes a.answers [] [] left []
 
-fewer : (ys : List Note) → length (behind_turn ys) ≤ length ys
+pub fewer : (ys : List Note) → length (behind_turn ys) ≤ length ys
 fewer [] = omega arith
 fewer (y ∷ ys) = one_end (ends_turn y.event) (fewer ys)
   where
@@ -139,7 +139,7 @@ fewer (y ∷ ys) = one_end (ends_turn y.event) (fewer ys)
     one_end true le = omega arith
     one_end false le = omega arith
 
-shorter : (xs : List Note) → 0 < length xs → suc (length (behind_turn xs)) ≤ length xs
+pub shorter : (xs : List Note) → 0 < length xs → suc (length (behind_turn xs)) ≤ length xs
 shorter [] h = let no_way : ⊥ = omega arith in absurd no_way
 shorter (x ∷ xs) h = by_end (ends_turn x.event) (fewer xs)
   where

@@ -440,6 +440,17 @@ Quiet [] more = Unit {0}
 Quiet (given a ∷ os) more = Unit {0}
 Quiet (refused e ∷ os) more = new_calls more ≡ 0
 
+-- behind a refused call comes that end
+abbrev pub RefusedNext : List Outcome → List Note → Type 0
+RefusedNext [] more = Unit {0}
+RefusedNext (given a ∷ os) more = Unit {0}
+RefusedNext (refused e ∷ os) more = (s : Store) × (ys : List Note) × (more ≡ note (ended e) s ∷ ys)
+
+next_by : (tail : List Outcome) (more behind : List Note) → EndsRefused tail more → RefusedNext tail (more ++ behind)
+next_by [] more behind h = tt
+next_by (given a ∷ os) more behind h = tt
+next_by (refused e ∷ os) more behind h = (h.0, behind, ap (λ (ms : List Note). ms ++ behind) h.1)
+
 -- The one story stands at a call behind so many, for which the other has an outcome. A refusal is the last call.
 pub record StoryForks (tail : List Outcome) (left : ℕ) (story' story : List Note) : Type 0 where
   pub before : List Note
@@ -451,6 +462,7 @@ pub record StoryForks (tail : List Outcome) (left : ℕ) (story' story : List No
   pub first : story ≡ before ++ here ∷ []
   pub second : story' ≡ before ++ there ∷ more
   pub quiet : Quiet tail more
+  pub refusal : RefusedNext tail more
 
 quiet_by : (tail : List Outcome) (more behind : List Note) → EndsRefused tail more → new_calls behind ≡ 0 → Quiet tail (more ++ behind)
 quiet_by [] more behind h e = tt
@@ -484,6 +496,7 @@ story_forks w used tail = by_way (protocol_forks w.source w.plan used tail w.ste
       first = ap (λ (h : Held). r.events ++ unless_over w.steps h) f.halted ∙ append-nil r.events ∙ f.first;
       second = ap (λ (xs : List Note). xs ++ unless_over w.steps r'.last) f.second ∙ append_assoc f.before (f.there ∷ f.more) (unless_over w.steps r'.last);
       quiet = quiet_by tail f.more (unless_over w.steps r'.last) f.refusal (unless_calls w.steps r'.last);
+      refusal = next_by tail f.more (unless_over w.steps r'.last) f.refusal;
     })
 
 -- A story's calls have outcomes, or it stands at one for which there is none.

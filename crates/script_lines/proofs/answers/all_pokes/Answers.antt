@@ -2,9 +2,10 @@ use Rattle.std.proofs.Common.{ap, sym, ◌∙◌, map, Vec, Global, List, ℕ, s
 use Rattle.wa_model.specs.declared.answers.Poke.{Poke}
 use Rattle.wa_model.specs.ScriptLines.{all_pokes, u32_in, hex_in}
 use Rattle.wa_model.specs.View.{poke_of}
-use Rattle.script_lines.specs.Reading.{Blames, or_breaks, triples}
-use Rattle.script_lines.proofs.Pieces.{handed_on}
-use Rattle.script_lines.proofs.Sequences.{poke_step, poke_fails, pokes_pushed}
+use Rattle.line_words.specs.Reading.{Blames, or_breaks}
+use Rattle.script_lines.specs.Reading.{triples}
+use Rattle.line_words.proofs.Pieces.{handed_on}
+use Rattle.script_lines.proofs.Lists.{poke_step, poke_fails, pokes_pushed}
 use Rattle.script_lines.proofs.answers.all_pokes.Goals as goal
 
 pub returns-in_err-bytes : goal.returns-in_err-bytes

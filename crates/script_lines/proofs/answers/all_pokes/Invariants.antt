@@ -2,7 +2,7 @@ use Rattle.std.proofs.Common.{◌≡◌, length, map}
 use Rattle.wa_model.specs.ScriptLines.{all_pokes}
 use Rattle.wa_model.specs.View.{poke_of}
 use Rattle.script_lines.specs.Reading.{triples}
-use Rattle.script_lines.proofs.Sequences.{appended}
+use Rattle.line_words.proofs.Sequences.{appended}
 use Rattle.script_lines.proofs.answers.all_pokes.Given as goal
 
 abbrev pub invariant-loop-rest : goal.invariant-loop-rest

@@ -1,6 +1,6 @@
 use Rattle.std.proofs.Common.{◌≡◌, drop}
 use Rattle.wa_model.specs.ScriptLines.{all_values}
-use Rattle.script_lines.proofs.Sequences.{appended}
+use Rattle.line_words.proofs.Sequences.{appended}
 use Rattle.script_lines.proofs.statements.all_values.Given as goal
 
 abbrev pub invariant-loop-word : goal.invariant-loop-word

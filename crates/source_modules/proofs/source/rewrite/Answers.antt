@@ -24,7 +24,7 @@ rewrite_fault-requires c =
 
 pub returns-in-Err-clause-refused : goal.returns-in-Err-clause-refused
 returns-in-Err-clause-refused c =
-    rewrite_refused (settings_of c.args.settings.now) c.args.bytes.now (module_of c.in_ok-valid.valid) c.in-Err.fault c.rewrite_fault.result c.in_ok-valid.ensures.source c.in-Err.ensures c.rewrite_fault.ensures
+    rewrite_refused (settings_of c.args.settings.now) c.args.bytes.now (module_of c.in_ok-valid.valid) c.in-Err.fault c.rewrite_fault.result c.in_ok-valid.ensures.source c.in-Err.ensures c.rewrite_fault.ensures.fault
 
 pub encode-requires-clause-locals : goal.encode-requires-clause-locals
 encode-requires-clause-locals c =

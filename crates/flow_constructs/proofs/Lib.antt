@@ -1,0 +1,2 @@
+pub mod ConstructSteps
+pub mod IfSteps

@@ -1,0 +1,2 @@
+pub mod BadPokes
+pub mod MetLines

@@ -1,0 +1,10 @@
+pub mod Askings
+pub mod Comings
+pub mod Fronts
+pub mod Outcomes
+pub mod Pauses
+pub mod Results
+pub mod Stagings
+pub mod Tables
+pub mod Tasks
+pub mod Ways

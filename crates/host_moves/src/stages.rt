@@ -1,0 +1,89 @@
+use std::alloc::Global;
+use std::collections::VecDeque;
+use wa_model::{Answer, Area, End, Event};
+use wa_types::{Name, ValType, Value};
+
+/// The functions of the five exports through which a host unwinds and rewinds a stack.
+#[derive(Clone, Copy, Debug, PartialEq, Eq)]
+pub struct Exports {
+    pub start_unwind: u32,
+    pub stop_unwind: u32,
+    pub start_rewind: u32,
+    pub stop_rewind: u32,
+    pub get_state: u32,
+}
+
+/// An imported function as a host sees it: its joined name, and its result where it has one.
+#[derive(Debug, Drop)]
+pub struct HostImport {
+    pub name: Name,
+    pub result: Option<ValType>,
+}
+
+/// What stays of a program on its way: its imported functions, which of them are listed where that is told, its area, the
+/// exports that the host calls, and its number of steps.
+#[derive(Drop)]
+pub struct Setting {
+    pub alloc: Global,
+    pub imports: Vec<HostImport>,
+    pub listed: Option<Vec<bool>>,
+    pub area: Area,
+    pub exports: Exports,
+    pub steps: u64,
+}
+
+/// An entry call: the function and its arguments.
+#[derive(Debug, Drop)]
+pub struct EntryCall {
+    pub func: u32,
+    pub args: Vec<Value>,
+}
+
+/// The number of the entry that runs or comes next, and those that are still to be called.
+#[derive(Debug, Drop)]
+pub struct Left {
+    pub number: u32,
+    pub entries: VecDeque<EntryCall>,
+}
+
+/// What the host has called: an import as the start function, the start function, or an entry.
+#[derive(Debug, Drop)]
+pub enum Task {
+    Outermost,
+    Start,
+    Entry(EntryCall),
+}
+
+/// A pause: the entry that is called again, the import whose call waits, and its answer.
+#[derive(Debug, Drop)]
+pub struct Pause {
+    pub entry: EntryCall,
+    pub import: u32,
+    pub answer: Answer,
+}
+
+/// Where a program with an instance stands between two events.
+#[derive(Debug, Drop)]
+pub enum Stage {
+    /// The next entry is to be called, or all have returned.
+    Free,
+    /// A call was told whose answer is told next.
+    Answering { task: Task, answer: Answer },
+    /// The answer was told, and its value is to be given.
+    Giving { task: Task, value: Option<Value> },
+    /// A call was told whose answer pauses.
+    Pausing(Pause),
+    /// The pause was told.
+    Paused(Pause),
+    /// The end is told next.
+    Ending(End),
+    /// The end was told.
+    Ended(End),
+}
+
+/// An event, and where the program then stands.
+#[derive(Debug, Drop)]
+pub struct Moved {
+    pub event: Event,
+    pub stage: Stage,
+}

@@ -1,0 +1,25 @@
+//! Laws of stretches and of what is told. Each is the contract of a function that does nothing.
+
+ghost use Rattle.host_turns.specs.Laws.{NothingToldYet, OneMoreTold, StoryIsWorld, StretchesCompose, ToldBegins, ToldWhole};
+
+/// A stretch behind another is one.
+pub fn stretches_compose()
+    ensures { StretchesCompose }
+{}
+
+/// A program has told nothing at first, and one event more with each that it tells.
+pub fn events_are_told_in_turn()
+    ensures first { NothingToldYet }
+    ensures next { OneMoreTold }
+{}
+
+/// What a program has told begins a story of it, and is the whole one at its end.
+pub fn told_events_are_a_story()
+    ensures begins { ToldBegins }
+    ensures whole { ToldWhole }
+{}
+
+/// The story of a program alone is a run of the protocol world.
+pub fn stories_are_worlds()
+    ensures { StoryIsWorld }
+{}

@@ -1,0 +1,13 @@
+//! Laws of what a program tells under the host's protocol, event by event.
+//!
+//! A host doesn't know which outcomes a program's later calls will meet, so a stretch of its run is told for all of them
+//! (`specs/Stretch.antt`). Between two events a program stands at a place: notes that were made and not told yet, and where the
+//! run is behind them (`specs/Places.antt`). What it has told begins a story of the protocol world, and is the whole one once the
+//! end is told (`specs/Stories.antt`, `specs/Laws.antt`). Nothing here speaks of an interpreter.
+#![tactic(auto)]
+
+mod laws;
+
+pub use laws::{
+    events_are_told_in_turn, stories_are_worlds, stretches_compose, told_events_are_a_story,
+};

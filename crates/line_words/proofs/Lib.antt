@@ -1,0 +1,4 @@
+mod Texts
+pub mod Numerals
+pub mod Pieces
+pub mod Sequences

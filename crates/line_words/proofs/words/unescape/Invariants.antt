@@ -1,0 +1,11 @@
+use Rattle.std.proofs.Common.{◌≡◌, length, Some}
+use Rattle.wa_model.specs.ScriptLines.{both}
+use Rattle.line_words.proofs.Texts.{unescaped}
+use Rattle.line_words.proofs.words.unescape.Given as goal
+
+-- what is left stands behind what was read
+abbrev pub invariant-loop-rest : goal.invariant-loop-rest
+invariant-loop-rest l = both (Some l.text.items) (unescaped l.rest) ≡ unescaped l.fn.word
+
+abbrev pub decreases-loop-rest : goal.decreases-loop-rest
+decreases-loop-rest l = length l.rest

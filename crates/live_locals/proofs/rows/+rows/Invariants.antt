@@ -1,0 +1,14 @@
+use Rattle.std.proofs.Common.{◌≤◌, drop, length}
+use Rattle.wa_model.specs.Flat.{code_of}
+use Rattle.wa_model.specs.FlatView.{stmts}
+use Rattle.live_locals.specs.Sets.{Passed}
+use Rattle.live_locals.specs.Rows.{RowsPut}
+use Rattle.live_locals.proofs.rows.+rows.Given as goal
+
+abbrev pub invariant-put_body_rows-loop-left : goal.invariant-put_body_rows-loop-left
+invariant-put_body_rows-loop-left l =
+    (l.left ≤ length l.body) × Passed l.fn.tos.items l.tos.items l.fn.set l.set (code_of (stmts (drop l.left l.body)))
+    × RowsPut l.numbers l.fn.tos.items l.fn.set (stmts (drop l.left l.body)) l.last l.first l.fn.rows.items l.rows.items
+
+abbrev pub decreases-put_body_rows-loop-left : goal.decreases-put_body_rows-loop-left
+decreases-put_body_rows-loop-left l = l.left

@@ -1,0 +1,77 @@
+//! The sets of a function's numbered calls.
+
+ghost use Rattle.std.specs.Prelude.{◌≡◌, ◌<◌, ◌≤◌, ◌+◌, ◌^◌, All, List, map, Vec, Bool, IfOk};
+ghost use Rattle.wa_model.specs.Flat.{no_more};
+ghost use Rattle.wa_model.specs.FlatView.{flat_func_of, stmt_in_front, stmts};
+ghost use Rattle.wa_model.specs.FlatFits.{FlatFits};
+ghost use Rattle.guard_form.specs.Pieces.{call_total};
+ghost use Rattle.flow_rewrite.specs.Emitting.{Rises};
+ghost use Rattle.live_locals.specs.LiveAt.{LiveAtCalls, lists_of};
+
+use crate::rows::put_body_rows;
+use crate::sets::{copied, none_of, read_told};
+use std::alloc::{AllocError, Global};
+use wa_model::{FlatFunc, Stmt};
+
+/// How many calls there are in a body, and so many before it.
+#[cycle(count)]
+fn count_calls(body: &[Stmt], before: u32) -> u32
+    requires { before + call_total (stmts body.now) < 2 ^ 32 }
+    ensures { result ≡ before + call_total (stmts body.now) }
+{
+    let mut count = before;
+    for stmt in body {
+        count = count_stmt_calls(stmt, count);
+    }
+    count
+}
+
+/// How many there are in a statement, and so many before it.
+#[cycle(count)]
+fn count_stmt_calls(stmt: &Stmt, before: u32) -> u32
+    requires { before + call_total (stmt_in_front stmt.now no_more) < 2 ^ 32 }
+    ensures { result ≡ before + call_total (stmt_in_front stmt.now no_more) }
+{
+    match stmt {
+        Stmt::Call { .. } => before + 1,
+        Stmt::Block(body) => count_calls(body, before),
+        Stmt::Loop(body) => count_calls(body, before),
+        Stmt::If {
+            then_arm,
+            else_arm,
+            ..
+        } => {
+            let middle = count_calls(then_arm, before);
+            count_calls(else_arm, middle)
+        }
+        _ => before,
+    }
+}
+
+/// For each numbered call of a flat function which of its locals the call's frame has to keep: the entries of the call's
+/// stack, and each other local that some path from the call, its own result counting as written, reads before it writes it.
+/// `numbers` holds the places of the numbered calls among all calls; they rise. Takes two passes over the body, and one more over
+/// a loop for each loop around it; each branch, construct and call takes time linear in the number of locals.
+pub fn live_at(
+    alloc: Global,
+    func: &FlatFunc,
+    numbers: &[u32],
+) -> Result<Vec<Vec<bool>>, AllocError>
+    requires fits { FlatFits (flat_func_of func.now) }
+    requires rises { Rises numbers.now }
+    requires calls { All (λ n. n < call_total (flat_func_of func.now).body) numbers.now }
+    requires few { call_total (flat_func_of func.now).body < 2 ^ 32 }
+    ensures { IfOk result (λ sets. LiveAtCalls (flat_func_of func.now) numbers.now (lists_of sets.items)) }
+{
+    let mut set = none_of(alloc, func.locals.len())?;
+    read_told(&mut set, func.result);
+    let mut tos = Vec::new(alloc);
+    tos.push(copied(alloc, &set)?)?;
+    let mut rows = Vec::new(alloc);
+    let count = count_calls(&func.body, 0);
+    put_body_rows(
+        alloc, &mut rows, numbers, count, &mut tos, &mut set, &func.body,
+    )?;
+    rows.reverse();
+    Ok(rows)
+}

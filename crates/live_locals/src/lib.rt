@@ -1,0 +1,18 @@
+//! Which locals the frames of a flat function have to keep: at each numbered call the slots of the operands on the stack, and
+//! each other local that some path from the call reads before it writes it.
+//!
+//! A body is passed over backwards with one set of locals. Under a label a branch goes on with the set of its target. A path that
+//! comes to a loop's start again reads nothing that one which begins there doesn't read, so what a loop reads first is known
+//! after one pass over its body with nothing told for its own label; with that told, a second pass finds the sets of the calls
+//! inside. The first pass over a loop passes each loop inside once, and so there is no doubling from level to level.
+#![tactic(auto)]
+
+mod calls;
+mod laws;
+mod passes;
+mod rows;
+mod sets;
+mod steps;
+
+pub use calls::live_at;
+pub use laws::countdown_keeps;

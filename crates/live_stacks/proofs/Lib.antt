@@ -1,0 +1,2 @@
+pub mod BackAgain
+pub mod StacksAgain

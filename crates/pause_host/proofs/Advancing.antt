@@ -1,0 +1,177 @@
+-- A program that tells one event more.
+use Rattle.std.proofs.Common.{◌≡◌, ◌≤◌, ◌<◌, ℕ, ◌+◌, ◌-◌, ◌++◌, List, [], ◌∷◌, map, length, Option, Some, None, Bool, true, false, cond, All, refl, sym, ap, ◌∙◌, subst, arith}
+use Rattle.std.specs.Prelude.{MatchBool, nat_lt}
+use Rattle.std.specs.Option.{unwrap_or}
+use Rattle.std.proofs.lemmas.List.Elements.{All-nil, All-tail}
+use Rattle.wa_types.specs.Validity.{Valid, same_name}
+use Rattle.wa_types.specs.View.{module_of}
+use Rattle.wa_model.specs.declared.events.End.{End}
+use Rattle.wa_model.specs.declared.events.End.TheVariants as E
+use Rattle.wa_model.specs.declared.events.Event.{Event as EventValue}
+use Rattle.wa_model.specs.declared.events.Event.TheVariants as EV
+use Rattle.wa_model.specs.Outside.{Answer, Call, AnswerLine, Event, called, answered, paused, returned, ended, shown}
+use Rattle.wa_model.specs.View.{answer_of, event_of}
+use Rattle.wa_model.specs.Store.{Store}
+use Rattle.wa_model.specs.Plan.{Outcome, given, refused}
+use Rattle.wa_model.specs.Fitting.{types_of, global_types}
+use Rattle.wa_types.specs.Modules.{imported, imported_global, all_memories}
+use Rattle.wa_types.specs.declared.values.Value.{Value}
+use Rattle.wa_model.specs.declared.answers.Area.{Area}
+use Rattle.wa_model.specs.Blocking.{Note, note, no_store, Left, Asker, inside, outermost, the_start, an_entry, poked}
+use Rattle.wa_model.specs.Protocol as P
+use Rattle.interp.specs.declared.instance.Instance.{Instance}
+use Rattle.interp.specs.Host.{code_in, store_in}
+use Rattle.interp.specs.Instance as I
+use Rattle.interp.specs.Instance.{Waits}
+use Rattle.wa_model.specs.Protocol.{Held, exports_of, over, store_held}
+use Rattle.wa_model.specs.World as W
+use Rattle.wa_model.specs.World.{MeetsLine, name_at, import_names, call_in, is_end}
+use Rattle.run_laws.specs.FittingStates.{HeldFits, ExportsTyped}
+use Rattle.host_turns.specs.Stretch.{Stretch}
+use Rattle.host_turns.specs.Places.{Place, stands, has_ended, nowhere, Takes, Lands, goes_on, ends, spends, Tells, TellsFrom}
+use Rattle.host_turns.specs.Stories.{Told, IsStory}
+use Rattle.host_turns.proofs.Stretches.{nowhere_on}
+use Rattle.host_turns.proofs.Tellings.{one_more_told, told_whole}
+use Rattle.host_moves.specs.Moves.{Moves, IsSetting, PlaceFits, HasShortPokes}
+use Rattle.host_moves.specs.declared.stages.Stage.{Stage}
+use Rattle.host_moves.specs.declared.stages.Stage.TheVariants as S
+use Rattle.host_moves.specs.declared.stages.Task.{Task}
+use Rattle.host_moves.specs.declared.stages.Task.TheVariants as T
+use Rattle.host_moves.specs.Views.{exports_in, entry_of, lines_in, with_asker, answering, giving, place_in, end_of}
+use Rattle.host_moves.proofs.Comings.{fits_on}
+use Rattle.pause_host.specs.declared.program.Program.{Program}
+use Rattle.pause_host.specs.declared.program.State.{State}
+use Rattle.pause_host.specs.declared.program.State.TheVariants.{Live}
+use Rattle.pause_host.specs.Programs.{place_of, store_of, memory_at, memory_in, end_at, end_in, ended_as, RunsCode, FollowsAt, Follows, Advances}
+
+no_end : (e : Event) → is_end e ≡ false → end_in e ≡ None
+no_end (called c) h = refl
+no_end (answered v) h = refl
+no_end (paused ticks used) h = refl
+no_end (returned entry v) h = refl
+no_end (ended how) h = cc
+no_end (shown at bytes) h = refl
+
+module _ (w : W.Program) where
+  end_told : (ready : List Note) (h : Held) (os : List Outcome) (left : ℕ) (x : Note) (used : ℕ) (to : Place) → Lands w.source w.plan w.steps ready h os left x used to → end_at to ≡ end_in x.event
+  end_told ready h os left x used to (goes_on made tail h' stretch is_x more to_is) = ap end_at to_is ∙ sym (no_end x.event more)
+  end_told ready h os left x used to (ends how made s stretch is_x end_is to_is) = ap end_at to_is ∙ sym (ap end_in end_is)
+  end_told ready h os left x used to (spends h' stretch none spent is_x to_is) = ap end_at to_is ∙ sym (ap (λ (y : Note). end_in y.event) is_x)
+
+  fits_then : (ready : List Note) (h : Held) (os : List Outcome) (left : ℕ) (x : Note) (used : ℕ) (to : Place) → Valid w.source → ExportsTyped w.source → HeldFits w.source h → Lands w.source w.plan w.steps ready h os left x used to → PlaceFits w to
+  fits_then ready h os left x used to v ex f (goes_on made tail h' stretch is_x more to_is) = subst (PlaceFits w) (sym to_is) (fits_on w.source w.plan h h' os made used v ex stretch f)
+  fits_then ready h os left x used to v ex f (ends how made s stretch is_x end_is to_is) = subst (PlaceFits w) (sym to_is) tt
+  fits_then ready h os left x used to v ex f (spends h' stretch none spent is_x to_is) = subst (PlaceFits w) (sym to_is) tt
+
+  line_taken : (import : ℕ) (name : List ℕ) (lines : List AnswerLine) (o : Outcome) (lines' : List AnswerLine) → MeetsLine import name lines o lines' → All HasShortPokes lines → All HasShortPokes lines'
+  line_taken import name [] o lines' h k = subst (All HasShortPokes) (sym h.1) (All-nil HasShortPokes)
+  line_taken import name (l ∷ ls) o lines' h k = by_name (same_name l.import name) h
+    where
+      by_name : (b : Bool) → MatchBool b ((o ≡ given l.answer) × (lines' ≡ ls)) ((o ≡ refused (E.OtherImport import l.import)) × (lines' ≡ l ∷ ls)) → All HasShortPokes lines'
+      by_name true m = subst (All HasShortPokes) (sym m.1) (All-tail HasShortPokes l ls k)
+      by_name false m = subst (All HasShortPokes) (sym m.1) k
+
+  pokes_then : (c : Option Call) (lines : List AnswerLine) (os : List Outcome) (lines' : List AnswerLine) → Takes w.source c lines os lines' → All HasShortPokes lines → All HasShortPokes lines'
+  pokes_then None lines os lines' t k = subst (All HasShortPokes) (sym t.1) k
+  pokes_then (Some c) lines os lines' t k = line_taken c.import (name_at (import_names w.source) c.import) lines t.0 lines' t.2 k
+
+  -- The program x' is the program x with one note more.
+  pub advanced : (notes : List Note) (x x' : Program) (from to : Place) (event : EventValue) (s : Store) (used : ℕ) (lines' : List AnswerLine) → FollowsAt w notes x from → Moves w from x.steps_left (lines_in x.answers.items) event s used lines' to
+      → module_of x'.valid.now ≡ module_of x.valid.now → x'.setting ≡ x.setting → x'.globals ≡ x.globals → lines_in x'.answers.items ≡ lines' → x'.steps_left ≡ x.steps_left - used
+      → place_of x' x'.state ≡ to → store_of x'.state ≡ s → memory_in x' ≡ s.memory → RunsCode w.source x'.state → Advances w notes event x'
+  advanced notes x x' (stands ready h) to event s used lines' f m same_code same_setting same_globals same_lines same_steps same_place same_store same_memory code =
+      let t = m.tells in
+      record {
+        note = m.note;
+        event_is = m.event_is;
+        store_is = m.store_is ∙ sym same_store;
+        memory_is = same_memory ∙ ap (λ (z : Store). z.memory) (sym m.store_is);
+        ended_is = ap end_at same_place ∙ end_told ready h t.outcomes x.steps_left m.note used to t.lands;
+        follows = record {
+          at = record {
+            source = f.source ∙ sym same_code;
+            unbound = f.unbound;
+            setting = subst (IsSetting w) (sym same_setting) f.setting;
+            globals = subst (λ g. types_of g.items ≡ global_types (imported imported_global w.source)) (sym same_globals) f.globals;
+            pokes = subst (All HasShortPokes) (sym same_lines) (pokes_then (call_in m.note.event) (lines_in x.answers.items) t.outcomes lines' t.takes f.pokes);
+            fits = subst (PlaceFits w) (sym same_place) (fits_then ready h t.outcomes x.steps_left m.note used to f.setting.valid f.setting.typed f.fits t.lands);
+            told = subst (Told w (notes ++ m.note ∷ []) x'.steps_left (lines_in x'.answers.items)) (sym same_place)
+                (subst (λ ls. Told w (notes ++ m.note ∷ []) x'.steps_left ls to) (sym same_lines)
+                (subst (λ n. Told w (notes ++ m.note ∷ []) n lines' to) (sym same_steps)
+                (one_more_told w notes x.steps_left (lines_in x.answers.items) (stands ready h) m.note used lines' to f.unbound f.told t)));
+          };
+          code = code;
+        };
+      }
+  advanced notes x x' (has_ended how) to event s used lines' f m same_code same_setting same_globals same_lines same_steps same_place same_store same_memory code = absurd m.tells
+  advanced notes x x' nowhere to event s used lines' f m same_code same_setting same_globals same_lines same_steps same_place same_store same_memory code = absurd m.tells
+
+-- ---- for those above
+
+-- once the end was told, the notes are a whole story
+pub whole_of_follows : (w : W.Program) (notes : List Note) (x : Program) (how : End) → Follows w notes x → ended_as x ≡ Some how → IsStory w notes
+whole_of_follows w notes x how f e = by_place (place_of x x.state) f.at.told e
+  where
+    by_place : (at : Place) → Told w notes x.steps_left (lines_in x.answers.items) at → end_at at ≡ Some how → IsStory w notes
+    by_place (stands ready h) t z = cc
+    by_place (has_ended end) t z = told_whole w notes x.steps_left (lines_in x.answers.items) end t
+    by_place nowhere t z = cc
+
+-- ---- stages and places
+
+ended_asker : (s : Store) (task : Task) (waits : Waits) (then : Asker → Place) → ((who : Asker) → end_at (then who) ≡ None) → end_at (with_asker nowhere s task waits then) ≡ None
+ended_asker s T.Outermost I.outermost then h = h (outermost s)
+ended_asker s T.Outermost I.nothing then h = refl
+ended_asker s T.Outermost (I.inside here under) then h = refl
+ended_asker s T.Start (I.inside here under) then h = h (inside the_start (record { store = s; here = here; under = under }))
+ended_asker s T.Start I.nothing then h = refl
+ended_asker s T.Start I.outermost then h = refl
+ended_asker s (T.Entry e) (I.inside here under) then h = h (inside (an_entry (entry_of e)) (record { store = s; here = here; under = under }))
+ended_asker s (T.Entry e) I.nothing then h = refl
+ended_asker s (T.Entry e) I.outermost then h = refl
+
+told_asker : (l : Left) (a : Answer) (s : Store) (who : Asker) → end_at (answering l a s who) ≡ None
+told_asker l a s (inside task c) = refl
+told_asker l a s (outermost old) = refl
+
+given_asker : (l : Left) (v : Option Value) (s : Store) (who : Asker) → end_at (giving l v s who) ≡ None
+given_asker l v s (inside task c) = refl
+given_asker l v s (outermost old) = refl
+
+pub ended_stage : (x : P.Exports) (area : Area) (l : Left) (s : Store) (waits : Waits) (stage : Stage) → end_at (place_in x area l s waits stage) ≡ end_of stage
+ended_stage x area l s waits S.Free = refl
+ended_stage x area l s waits (S.Answering task a) = ended_asker s task waits (answering l (answer_of a) (poked s (answer_of a).pokes)) (told_asker l (answer_of a) (poked s (answer_of a).pokes))
+ended_stage x area l s waits (S.Giving task v) = ended_asker s task waits (giving l v s) (given_asker l v s)
+ended_stage x area l s (I.inside here under) (S.Pausing pause) = refl
+ended_stage x area l s I.nothing (S.Pausing pause) = refl
+ended_stage x area l s I.outermost (S.Pausing pause) = refl
+ended_stage x area l s waits (S.Paused pause) = refl
+ended_stage x area l s waits (S.Ending end) = refl
+ended_stage x area l s waits (S.Ended end) = refl
+
+-- the place is told by the program's own numbers and by the world's
+pub same_place : (w : W.Program) (x : Program) (l : Left) (s : Store) (waits : Waits) (stage : Stage) → IsSetting w x.setting
+    → place_in (exports_in x.setting.exports) x.setting.area l s waits stage ≡ place_in (exports_of w.source) w.plan.area l s waits stage
+same_place w x l s waits stage is =
+    ap (λ e. place_in e x.setting.area l s waits stage) is.exports ∙ ap (λ a. place_in (exports_of w.source) a l s waits stage) (sym is.area)
+
+-- the memory of an instance of the module
+pub memory_told : (w : W.Program) (x : Program) (instance : Instance) (stage : Stage) → IsSetting w x.setting → code_in instance ≡ w.source → memory_at (Live instance stage) ≡ (store_in instance).memory
+memory_told w x instance stage is code = by_test (nat_lt 0 (length (all_memories (code_in instance)))) (ap (λ m. nat_lt 0 (length (all_memories m))) code ∙ is.memory)
+  where
+    by_test : (b : Bool) → b ≡ true → unwrap_or (cond b (Some (store_in instance).memory) None) [] ≡ (store_in instance).memory
+    by_test true e = refl
+    by_test false e = cc
+
+-- the same of a program in another state
+pub in_state : (w : W.Program) (notes : List Note) (x : Program) (st : State) (place : Place) → FollowsAt w notes x place → FollowsAt w notes (record x { state = st }) place
+in_state w notes x st place f = record { source = f.source; unbound = f.unbound; setting = f.setting; globals = f.globals; pokes = f.pokes; fits = f.fits; told = f.told }
+
+-- an end that is told without an instance
+pub failed_moves : (w : W.Program) (left : ℕ) (lines : List AnswerLine) (end told : End) → told ≡ end → Moves w (stands (note (ended end) no_store ∷ []) (over no_store)) left lines (EV.Ended told) no_store 0 lines (has_ended end)
+failed_moves w left lines end told e = record {
+  note = note (ended end) no_store;
+  event_is = ap ended (sym e);
+  store_is = refl;
+  tells = record { outcomes = []; takes = (refl, refl); within = omega arith; lands = ends end [] no_store (nowhere_on w.source w.plan (over no_store)) refl refl refl };
+}

@@ -1,0 +1,4 @@
+pub mod Advancing
+pub mod Beginning
+pub mod Making
+pub mod Parts

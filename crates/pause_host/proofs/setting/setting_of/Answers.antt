@@ -1,0 +1,13 @@
+use Rattle.std.proofs.Common.{refl, sym}
+use Rattle.wa_types.specs.View.{module_of}
+use Rattle.pause_host.proofs.setting.setting_of.Goals as goal
+
+pub returns : goal.returns
+returns c = record {
+  exports = c.exports_of.ensures (module_of c.args.«module».now) (sym c.deref.ensures.value);
+  area_is = refl;
+  listed_is = refl;
+  steps_are = refl;
+  names = c.in_ok-host_imports.ensures.names;
+  results = c.in_ok-host_imports.ensures.results;
+}

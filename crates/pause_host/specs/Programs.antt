@@ -1,0 +1,134 @@
+-- A program as plain data, and what its calls do.
+use Rattle.std.specs.Prelude.{◌≡◌, ◌<◌, ◌≤◌, ◌^◌, ◌++◌, ℕ, List, [], ◌∷◌, length, map, Option, Some, None, All, Bool, Result, Ok, Err}
+use Rattle.std.specs.Option.{option_map, unwrap_or}
+use Rattle.wa_types.specs.declared.values.Value.{Value}
+use Rattle.wa_types.specs.Syntax.{Module}
+use Rattle.wa_types.specs.Modules.{imported, imported_func, imported_global, func_imports}
+use Rattle.wa_types.specs.View.{module_of}
+use Rattle.wa_model.specs.declared.events.End.{End}
+use Rattle.wa_model.specs.declared.events.Event.{Event as EventValue}
+use Rattle.wa_model.specs.Outside.{AnswerLine, Event, ended}
+use Rattle.wa_model.specs.View.{answer_line_of, event_of}
+use Rattle.wa_model.specs.Machine.{Ran}
+use Rattle.wa_model.specs.Store.{Store}
+use Rattle.wa_model.specs.Instantiation.{opening}
+use Rattle.wa_model.specs.Blocking.{Note, no_store}
+use Rattle.wa_model.specs.Protocol.{Held, held_begun}
+use Rattle.wa_model.specs.World as W
+use Rattle.wa_model.specs.World.{Look, is_end}
+use Rattle.wa_model.specs.Fitting.{types_of, global_types}
+use Rattle.interp.specs.Host.{code_in, memory_of, store_in, waits_in}
+use Rattle.host_setup.specs.declared.faults.SetupFault.{SetupFault}
+use Rattle.host_setup.specs.SetUp.{NamedEntry, set_up}
+use Rattle.host_setup.specs.Views as S
+use Rattle.host_setup.specs.Views.{Blames}
+use Rattle.host_turns.specs.Places.{Place, stands, has_ended, nowhere}
+use Rattle.host_turns.specs.Stories.{Unbound, Told}
+use Rattle.host_moves.specs.Views.{exports_in, left_of, lines_in, place_in}
+use Rattle.host_moves.specs.Moves.{IsSetting, PlaceFits, HasShortPokes}
+use Rattle.pause_host.specs.Settings.{calls_of}
+use Rattle.pause_host.specs.declared.plan.Plan.{Plan}
+use Rattle.pause_host.specs.declared.program.State.{State}
+use Rattle.pause_host.specs.declared.program.State.TheVariants.{Fresh, Live, Failed, Lost}
+use Rattle.pause_host.specs.declared.program.Program.{Program}
+
+-- ---- a plan
+
+abbrev pub source_of : Plan → Module
+source_of x = module_of x.module.now
+
+abbrev pub named_entries : Plan → List NamedEntry
+named_entries x = map S.entry_of x.entries.items
+
+-- What is asked of a plan: where it tells which function imports are listed, it tells it of each; the imported globals have
+-- values of their types; there is a step, and no more than 1,000,000,000; entries are numbered in 32 bits; pokes are short.
+pub record IsPlan (x : Plan) : Type 0 where
+  pub listed : (l : List Bool) → option_map (λ v. v.items) x.listed ≡ Some l → length l ≡ func_imports (source_of x)
+  pub globals : types_of x.globals.items ≡ global_types (imported imported_global (source_of x))
+  pub some_steps : 1 ≤ x.steps
+  pub few_steps : x.steps ≤ 1000000000
+  pub entries : length x.entries.items < 2 ^ 32
+  pub pokes : All HasShortPokes (map answer_line_of x.answers.items)
+
+-- the program of a world that a plan is, where its entries are of these functions and these looks come after its end
+abbrev pub world_program : Plan → List ℕ → List Look → W.Program
+world_program x funcs looks = record {
+  source = source_of x;
+  plan = record { globals = x.globals.items; entries = calls_of (named_entries x) funcs; area = x.area; listed = option_map (λ v. v.items) x.listed };
+  steps = x.steps;
+  answers = map answer_line_of x.answers.items;
+  binds = [];
+  looks = looks;
+}
+
+-- ---- a program
+
+-- where a program stands: before instantiation, before what that makes
+abbrev pub before : Ran Held Note → Place
+before r = stands r.events r.last
+
+abbrev pub place_of : Program → State → Place
+place_of x Fresh = before (held_begun (module_of x.valid.now).start (left_of x.left) (opening (module_of x.valid.now) x.globals.items))
+place_of x (Live instance stage) = place_in (exports_in x.setting.exports) x.setting.area (left_of x.left) (store_in instance) (waits_in instance) stage
+place_of x (Failed how) = has_ended how
+place_of x Lost = nowhere
+
+-- the store of the instance, where there is one
+abbrev pub store_of : State → Store
+store_of (Live instance stage) = store_in instance
+store_of _ = no_store
+
+-- the bytes of its memory; none where there is none
+abbrev pub memory_at : State → List ℕ
+memory_at (Live instance stage) = unwrap_or (memory_of (code_in instance) (store_in instance)) []
+memory_at _ = []
+
+abbrev pub memory_in : Program → List ℕ
+memory_in x = memory_at x.state
+
+abbrev pub end_at : Place → Option End
+end_at (has_ended how) = Some how
+end_at _ = None
+
+-- the end that an event tells
+abbrev pub end_in : Event → Option End
+end_in (ended how) = Some how
+end_in _ = None
+
+-- how the program ended, where its end was told
+abbrev pub ended_as : Program → Option End
+ended_as x = end_at (place_of x x.state)
+
+-- the instance is one of the program's module
+abbrev pub RunsCode : Module → State → Type 0
+RunsCode p (Live instance stage) = code_in instance ≡ p
+RunsCode p _ = Unit {0}
+
+-- The program has told these notes of the story of a program of a world, and stands here.
+pub record FollowsAt (w : W.Program) (notes : List Note) (x : Program) (place : Place) : Type 0 where
+  pub source : w.source ≡ module_of x.valid.now
+  pub unbound : Unbound w
+  pub setting : IsSetting w x.setting
+  pub globals : types_of x.globals.items ≡ global_types (imported imported_global w.source)
+  pub pokes : All HasShortPokes (lines_in x.answers.items)
+  pub fits : PlaceFits w place
+  pub told : Told w notes x.steps_left (lines_in x.answers.items) place
+
+-- It has told these notes, and goes on with the story.
+pub record Follows (w : W.Program) (notes : List Note) (x : Program) : Type 0 where
+  pub at : FollowsAt w notes x (place_of x x.state)
+  pub code : RunsCode w.source x.state
+
+-- It told one note more, with this event; the instance has that note's store; and where the event is its end, it has ended so.
+pub record Advances (w : W.Program) (notes : List Note) (event : EventValue) (x : Program) : Type 0 where
+  pub note : Note
+  pub event_is : note.event ≡ event_of event
+  pub store_is : note.store ≡ store_of x.state
+  pub memory_is : memory_in x ≡ note.store.memory
+  pub ended_is : ended_as x ≡ end_in note.event
+  pub follows : Follows w (notes ++ note ∷ []) x
+
+-- Set up is a plan whose area, exports and entries are lawful: the program has told nothing yet. Else the first fault says why.
+abbrev pub SetsUp : Plan → Result Program SetupFault → Type 0
+SetsUp x (Ok program) = (funcs : List ℕ) × (set_up (source_of x) x.area (named_entries x) ≡ Ok funcs) × ((looks : List Look) → Follows (world_program x funcs looks) [] program)
+SetsUp x (Err fault) = Blames fault (set_up (source_of x) x.area (named_entries x))

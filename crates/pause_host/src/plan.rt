@@ -1,0 +1,17 @@
+use host_setup::Entry;
+use wa_model::{AnswerLine, Area};
+use wa_types::Value;
+use wasm_validate::Valid;
+
+/// What a program is given: its module, which function imports are listed where that is told, its area, its number of steps, the
+/// values of the imported globals, its entries and its answer lines.
+#[derive(Debug, Drop)]
+pub struct Plan<'m> {
+    pub module: &'m Valid,
+    pub listed: Option<Vec<bool>>,
+    pub area: Area,
+    pub steps: u64,
+    pub globals: Vec<Value>,
+    pub entries: Vec<Entry>,
+    pub answers: Vec<AnswerLine>,
+}

@@ -1,0 +1,232 @@
+ghost use Rattle.std.specs.Prelude.{◌≡◌, ◌<◌, ◌≤◌, ◌+◌, ◌++◌, ◌^◌, [], ◌∷◌, ℕ, List, IfOk, IfErr, None, Some, length, map};
+ghost use Rattle.std.specs.Option.{option_copied};
+ghost use Rattle.wa_model.specs.World.{bytes_shown};
+
+use crate::entries::entry_calls;
+use crate::plan::Plan;
+use crate::setting::setting_of;
+use host_moves::{Left, Setting, Stage, copy_end, next_event, start};
+use host_setup::{SetupFault, set_up};
+use interp::{Instance, MakeFault, Steps};
+use std::alloc::{AllocError, Global};
+use std::collections::VecDeque;
+use std::mem;
+use wa_model::{AnswerLine, End, Event};
+use wa_types::Value;
+use wasm_validate::Valid;
+
+/// Where a program stands: before its instantiation, with an instance, ended without one, or out of memory.
+#[derive(Drop)]
+pub(crate) enum State<'m> {
+    Fresh,
+    Live {
+        instance: Instance<'m>,
+        stage: Stage,
+    },
+    Failed(End),
+    Lost,
+}
+
+/// A program: a plan over a prepared module, on its way.
+#[derive(Drop)]
+pub struct Program<'m> {
+    valid: &'m Valid,
+    globals: Vec<Value>,
+    setting: Setting,
+    left: Left,
+    answers: VecDeque<AnswerLine>,
+    steps_left: u64,
+    state: State<'m>,
+}
+
+impl<'m> Program<'m> {
+    ghost use Rattle.wa_model.specs.declared.events.End.{End};
+    ghost use Rattle.wa_model.specs.Outside.{ended};
+    ghost use Rattle.wa_model.specs.View.{event_of};
+    ghost use Rattle.wa_model.specs.Blocking.{Note, no_store, note};
+    ghost use Rattle.wa_model.specs.Protocol.{over, starting};
+    ghost use Rattle.wa_model.specs.World.{Program as WorldProgram};
+    ghost use Rattle.wa_types.specs.View.{module_of};
+    ghost use Rattle.wa_model.specs.Instantiation.{opening, opens};
+    ghost use Rattle.interp.specs.Faults.{FailsAs};
+    ghost use Rattle.interp.specs.Host.{code_in, store_in};
+    ghost use Rattle.host_turns.specs.Places.{stands};
+    ghost use Rattle.host_moves.specs.Views.{end_of, left_of};
+    ghost use Rattle.pause_host.specs.Programs.{Advances, Follows, FollowsAt, IsPlan, RunsCode, SetsUp, ended_as, memory_in, place_of};
+
+    /// A program of a plan, before its instantiation, or the first fault of the plan.
+    pub fn new(alloc: Global, plan: Plan<'m>) -> Result<Program<'m>, SetupFault>
+        requires { IsPlan plan }
+        ensures { SetsUp plan.entry result }
+    {
+        let funcs = set_up(alloc, plan.module, plan.area, &plan.entries)?;
+        let Plan {
+            module: valid,
+            listed,
+            area,
+            steps,
+            globals,
+            entries,
+            answers,
+        } = plan;
+        let setting = setting_of(alloc, valid.module(), listed, area, steps)?;
+        let entries = entry_calls(alloc, entries, &funcs)?;
+        Ok(Program {
+            valid,
+            globals,
+            setting,
+            left: Left { number: 0, entries },
+            answers: VecDeque::from_vec(answers),
+            steps_left: steps,
+            state: State::Fresh,
+        })
+    }
+
+    /// The next event of the run under the protocol. After the end it is the end again. After want of memory it isn't called
+    /// again.
+    pub fn advance(&mut self) -> Result<Event, AllocError>
+        ensures next { (w : WorldProgram) (notes : List Note) → Follows w notes self.old → ended_as self.old ≡ None → IfOk result (λ event. Advances w notes event self.new) }
+        ensures again { (how : End) → ended_as self.old ≡ Some how → IfOk result (λ event. (event_of event ≡ ended how) × (self.new ≡ self.old)) }
+    {
+        match mem::replace(&mut self.state, State::Lost) {
+            State::Fresh => self.open(),
+            State::Live { instance, stage } => self.live(instance, stage),
+            State::Failed(end) => self.fail(end),
+            State::Lost => Err(AllocError),
+        }
+    }
+
+    // The module is instantiated, and its start function called where it has one.
+    fn open(&mut self) -> Result<Event, AllocError>
+        ensures { (w : WorldProgram) (notes : List Note) → FollowsAt w notes self.old (place_of self.old State.Fresh) → IfOk result (λ event. Advances w notes event self.new) }
+    {
+        match Instance::make(self.setting.alloc, self.valid, &self.globals) {
+            Ok(instance) => self.opened(instance),
+            Err(fault) => self.not_opened(fault),
+        }
+    }
+
+    fn opened(&mut self, instance: Instance<'m>) -> Result<Event, AllocError>
+        ensures { (w : WorldProgram) (notes : List Note) → code_in instance.entry ≡ module_of self.old.valid.now → opening (module_of self.old.valid.now) self.old.globals.items ≡ opens (store_in instance.entry) → FollowsAt w notes self.old (place_of self.old State.Fresh) → IfOk result (λ event. Advances w notes event self.new) }
+    {
+        match self.valid.module().start {
+            None => self.go_on(instance, Stage::Free),
+            Some(func) => self.begin(instance, func),
+        }
+    }
+
+    fn not_opened(&mut self, fault: MakeFault) -> Result<Event, AllocError>
+        ensures { (w : WorldProgram) (notes : List Note) → FailsAs (opening (module_of self.old.valid.now) self.old.globals.items) fault → FollowsAt w notes self.old (place_of self.old State.Fresh) → IfOk result (λ event. Advances w notes event self.new) }
+    {
+        match fault {
+            MakeFault::Memory => Err(AllocError),
+            MakeFault::HostLimit { entries, found } => {
+                self.fail(End::HostLimit { entries, found })
+            }
+            MakeFault::ElementsOut(number) => self.fail(End::ElementsOut(number)),
+            MakeFault::BytesOut(number) => self.fail(End::BytesOut(number)),
+        }
+    }
+
+    // The program has ended without an instance.
+    fn fail(&mut self, end: End) -> Result<Event, AllocError>
+        ensures next { (w : WorldProgram) (notes : List Note) → FollowsAt w notes self.old (stands (note (ended end) no_store ∷ []) (over no_store)) → IfOk result (λ event. Advances w notes event self.new) }
+        ensures again { IfOk result (λ event. (event_of event ≡ ended end) × (self.new ≡ record self.old { state = State.Failed end })) }
+    {
+        let told = copy_end(self.setting.alloc, &end)?;
+        self.state = State::Failed(end);
+        Ok(Event::Ended(told))
+    }
+
+    fn live(&mut self, instance: Instance<'m>, stage: Stage) -> Result<Event, AllocError>
+        ensures next { (w : WorldProgram) (notes : List Note) → FollowsAt w notes self.old (place_of self.old (State.Live instance.entry stage)) → RunsCode w.source (State.Live instance.entry stage) → end_of stage ≡ None → IfOk result (λ event. Advances w notes event self.new) }
+        ensures again { (how : End) → end_of stage ≡ Some how → IfOk result (λ event. (event_of event ≡ ended how) × (self.new ≡ record self.old { state = (State.Live instance.entry stage) })) }
+    {
+        match stage {
+            Stage::Ended(end) => self.end_again(instance, end),
+            stage => self.go_on(instance, stage),
+        }
+    }
+
+    // The end was told before.
+    fn end_again(&mut self, instance: Instance<'m>, end: End) -> Result<Event, AllocError>
+        ensures { IfOk result (λ event. (event_of event ≡ ended end) × (self.new ≡ record self.old { state = State.Live instance.entry (Stage.Ended end) })) }
+    {
+        let told = copy_end(self.setting.alloc, &end)?;
+        let stage = Stage::Ended(end);
+        self.state = State::Live { instance, stage };
+        Ok(Event::Ended(told))
+    }
+
+    // From a stage to the next event.
+    fn go_on(&mut self, mut instance: Instance<'m>, stage: Stage) -> Result<Event, AllocError>
+        ensures { (w : WorldProgram) (notes : List Note) → FollowsAt w notes self.old (place_of self.old (State.Live instance.entry stage)) → RunsCode w.source (State.Live instance.entry stage) → end_of stage ≡ None → IfOk result (λ event. Advances w notes event self.new) }
+    {
+        let mut steps = unused(self.steps_left);
+        let moved = next_event(
+            &self.setting,
+            &mut instance,
+            &mut self.left,
+            &mut self.answers,
+            &mut steps,
+            stage,
+        )?;
+        self.steps_left = steps.left;
+        let stage = moved.stage;
+        self.state = State::Live { instance, stage };
+        Ok(moved.event)
+    }
+
+    // From the call of the start function to the first event.
+    fn begin(&mut self, mut instance: Instance<'m>, func: u32) -> Result<Event, AllocError>
+        ensures { (w : WorldProgram) (notes : List Note) → code_in instance.entry ≡ w.source → FollowsAt w notes self.old (stands [] (starting func (store_in instance.entry) (left_of self.old.left))) → IfOk result (λ event. Advances w notes event self.new) }
+    {
+        let mut steps = unused(self.steps_left);
+        let moved = start(
+            &self.setting,
+            &mut instance,
+            &mut self.left,
+            &mut self.answers,
+            &mut steps,
+            func,
+        )?;
+        self.steps_left = steps.left;
+        let stage = moved.stage;
+        self.state = State::Live { instance, stage };
+        Ok(moved.event)
+    }
+
+    /// Bytes of the memory. None exactly where the program has no instance or the range isn't inside its memory.
+    pub fn show(&self, at: u32, len: u32) -> Option<&[u8]>
+        ensures { option_copied result ≡ bytes_shown (memory_in self.now) (record { at = at; len = len }) }
+    {
+        let State::Live { instance, stage: _ } = &self.state else {
+            return None;
+        };
+        match instance.memory() {
+            None => None,
+            Some(memory) => shown(memory, at, len),
+        }
+    }
+}
+
+// So many steps, of which none is used.
+fn unused(left: u64) -> Steps
+    ensures left { result.left ≡ left }
+    ensures used { result.used ≡ 0 }
+    ensures sum { result.left + result.used < 2 ^ 64 }
+{
+    Steps { left, used: 0 }
+}
+
+// Bytes of a memory, where they are inside it.
+fn shown(memory: &[u8], at: u32, len: u32) -> Option<&[u8]>
+    ensures { option_copied result ≡ bytes_shown memory.now (record { at = at; len = len }) }
+{
+    let from = at as usize;
+    let to = from + len as usize;
+    if memory.is_empty() || to > memory.len() {
+        return None;
+    }
+    Some(&memory[from..to])
+}

@@ -1,0 +1,3 @@
+pub mod UsesLive
+pub mod StackSlots
+pub mod SavedLive

@@ -1,0 +1,101 @@
+-- The laws.
+use Rattle.std.proofs.Common.{◌≡◌, ℕ, suc, ◌+◌, ◌≤◌, List, [], ◌++◌, length, map, refl, sym, ap, ◌∙◌, subst, arith, length-append}
+use Rattle.std.proofs.lemmas.List.{length-map}
+use Rattle.wa_types.specs.declared.values.Value.{Value}
+use Rattle.wa_types.specs.Modules.{declared_locals}
+use Rattle.wa_types.specs.Pausing.{calls_of}
+use Rattle.wa_model.specs.Store.{value_at}
+use Rattle.wa_model.specs.Configuration.{Label, Configuration, running}
+use Rattle.wa_model.specs.Step.{Next, steps, zero_of, entered, step}
+use Rattle.slim_runs.specs.Beside.{Sides, Twin, both_import, both_defined, woven, in_body, waits, bottom, above, Beside, beside, lean, Way, way_ends, way_same, way_sets, ComesToo, it_steps}
+use Rattle.slim_runs.specs.Beside.{it_asks, it_returns, it_traps, it_is_stuck, EachStep, EachStretch, stays, moves, Follows, CallsBegin, AnswersGoOn, WaitsWithAny, WaitingAgrees, Around}
+use Rattle.slim_runs.specs.Beside.{in_block, in_loop, calls_behind}
+use Rattle.slim_form.specs.Slim.{Free, Held, Terms}
+use Rattle.slim_runs.proofs.Stretches.{Comes, none, one, on}
+use Rattle.slim_runs.proofs.StepTable.{table}
+
+pub each_step : EachStep
+each_step w spare _ _ ok (beside {n = n} {ts = ts} {out = out} {sh = sh} {code = code} {code' = code'} {labels = labels} {labels' = labels'} {ls = ls} {ls' = ls'} {ops =
+    ops} {ops' = ops'} {under = under} {under' = under'} s fn f e size ag wo sl ar us) pr =
+    subst (λ n. ComesToo w (running s fn under ls ops code labels) (running s fn under' ls' ops' code' labels') n (lean w (running s fn under ls ops code labels))
+    (step w.flat (running s fn under ls ops code labels))) e
+    (table w ok s fn under under' us ls size f ls' ag n ts out sh ops ops' code code' labels labels' wo sl ar pr)
+
+-- a way is a stretch
+pub way_goes : (w : Sides) (c c' d : Configuration) (n : ℕ) → Way w c c' n d → Comes w.slim c' n d
+way_goes w c c' _ _ way_ends = none w.slim c'
+way_goes w c c' d _ (way_same {k = k} sn e) = one w.slim k c' d e
+way_goes w c c' d _ (way_sets {n = n} {c2 = c2} is e go em) = subst (λ j. Comes w.slim c' j d) (sym em) (on w.slim 1 n c' c2 d (one w.slim 0 c' c2 e) (way_goes w c c2 d n go))
+
+pub each_stretch : EachStretch
+each_stretch w spare _ _ c c' _ ok bs stays = record { took = 0; left = spare; to = c'; goes = (none w.slim c').by; enough = omega arith; no_more = omega arith; near = bs }
+each_stretch w spare m j c c' d ok bs (moves {d = e} {k = k} {n = n} {l = l} pr is rest em ej) =
+    by_next (step w.flat c) is (each_step w spare c c' ok bs pr) (λ left to b. each_stretch w left n l e to d ok b rest)
+  where
+    by_next : (o : Next) → o ≡ steps k e → ComesToo w c c' spare (lean w c) o → ((left : ℕ) (to : Configuration) → Beside w left e to → Follows w to left n l d) → Follows w c' spare m j d
+    by_next _ z (it_steps {k = k2} {d = e2} cost left to go le mo b) ih =
+        let qk : k2 ≡ k = cc in
+        let qe : e2 ≡ e = cc in
+        let r = ih left to (subst (λ y. Beside w left y to) qe b) in
+        let le2 : lean w c (suc k) ≤ cost = subst (λ i. lean w c (suc i) ≤ cost) qk le in
+        let re = r.enough in let rn = r.no_more in
+        record {
+          took = cost + r.took;
+          left = r.left;
+          to = r.to;
+          goes = (on w.slim cost r.took c' to r.to (way_goes w c c' to cost go) (record { by = r.goes })).by;
+          enough =
+              omega arith;
+          no_more = omega arith;
+          near = r.near;
+        }
+    by_next _ z (it_asks cost at to go mo sn st a) ih = cc
+    by_next _ z (it_returns cost at go mo sn st) ih = cc
+    by_next _ z (it_traps cost at go mo sn st) ih = cc
+    by_next _ z it_is_stuck ih = cc
+
+pub calls_begin : CallsBegin
+calls_begin w s args x g g' ok is is' la = by_twin (ok.twin x)
+  where
+    by_twin : Twin w x → Beside w 0 (entered s [] args x g) (entered s [] args x g')
+    by_twin (both_import e e') = cc
+    by_twin (both_defined h h' e e' zeros size out f sl) =
+        let qg : h ≡ g = cc in
+        let qg' : h' ≡ g' = cc in
+        subst (λ y. Beside w 0 (entered s [] args x y) (entered s [] args x g')) qg
+        (subst (λ y. Beside w 0 (entered s [] args x h) (entered s [] args x y)) qg' at_h)
+      where
+        zs : List Value
+        zs = map zero_of (declared_locals h.locals)
+
+        same_zeros : args ++ map zero_of (declared_locals h'.locals) ≡ args ++ zs
+        same_zeros = ap (λ ts. args ++ map zero_of ts) zeros
+
+        long : length (args ++ zs) ≡ (w.terms x).size
+        long = let l1 = length-append args zs in let l2 = length-map (declared_locals h.locals) zero_of in omega arith
+
+        at_h : Beside w 0 (entered s [] args x h) (entered s [] args x h')
+        at_h = beside s x f refl long (record { long = ap length same_zeros; same = λ z fr. ap (λ us. value_at us z) same_zeros }) woven sl in_body bottom
+
+pub answers_go_on : AnswersGoOn
+answers_go_on w s _ _ _ _ vs (above (waits fn f ac ls ls' ops taken size ag sl ar) us) = beside s fn f refl size ag woven sl ar us
+
+pub waits_with_any : WaitsWithAny
+waits_with_any w _ _ us (waits fn f ac ls ls' ops taken size ag sl ar) e = waits fn f ac us us ops taken (e ∙ size) (record { long = refl; same = λ x fr. refl }) sl ar
+
+behind_is : (t : Terms) (n : ℕ) (ts : List Free) (out : Free) (labels labels' : List Label) → Around t n ts out labels labels' → n ≡ calls_behind labels
+behind_is t _ _ _ _ _ in_body = refl
+behind_is t m _ _ _ _ (in_block {n = n} {ts = ts} {out = out} {labels = lb} {labels' = lb'} h arity sk sk' em sl ar) = let e = behind_is t n ts out lb lb' ar in omega arith
+behind_is t m _ _ _ _ (in_loop {n = n} {ts = ts} {out = out} {labels = lb} {labels' = lb'} h em sl sl2 ar) = let e = behind_is t n ts out lb lb' ar in omega arith
+
+pub waiting_agrees : WaitingAgrees
+waiting_agrees w _ _ (waits {n = n} {ts = ts} {out = out} {rest = rest} {labels = labels} {labels' = labels'} fn f ac ls ls' ops taken size ag sl ar) =
+    record {
+      func = refl;
+      operands = refl;
+      taken = refl;
+      free = f;
+      held =
+          subst (λ j. Held f ((w.terms fn).fixed (length (calls_of rest) + j))) (behind_is (w.terms fn) n ts out labels labels' ar) ac;
+      locals = ag;
+    }

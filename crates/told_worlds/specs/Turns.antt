@@ -1,0 +1,80 @@
+-- A world as it is told, turn by turn.
+use Rattle.std.specs.Prelude.{◌≡◌, ℕ, zero, suc, ◌+◌, ◌<◌, List, [], ◌∷◌, ◌++◌, length, map, Option, Some, None, Bool, true, false, ◌||◌, MatchBool, slice_get, slice_set}
+use Rattle.wa_model.specs.declared.answers.Detach.{Detach}
+use Rattle.wa_model.specs.Outside.{AnswerLine, Line}
+use Rattle.wa_model.specs.Plan.{Outcome}
+use Rattle.wa_model.specs.Blocking.{Note}
+use Rattle.wa_model.specs.World.{Device, Program, detached, CallsMeet, ends_turn, is_end, put_off, line_at, events_with_looks, protocol_story}
+use Rattle.many_host.specs.Dues.{IsLeast}
+
+-- What is known of a program: the tick at which it is due, whether it has ended, its answer lines left, the notes that it has
+-- told, and the outcomes that its calls met.
+pub record Teller : Type 0 where
+  pub due : ℕ
+  pub has_ended : Bool
+  pub answers : List AnswerLine
+  pub told : List Note
+  pub met : List Outcome
+
+-- a program that has told nothing yet
+abbrev pub starting : Program → Teller
+starting w = record { due = 0; has_ended = false; answers = w.answers; told = []; met = [] }
+
+-- when it is due; never once it has ended
+abbrev pub unless : Bool → ℕ → Option ℕ
+unless true due = None
+unless false due = Some due
+
+abbrev pub due_of : Teller → Option ℕ
+due_of t = unless t.has_ended t.due
+
+-- the last note ends a turn, and no other does
+abbrev pub EndsOnce : List Note → Type 0
+EndsOnce [] = ⊥
+EndsOnce (x ∷ xs) = MatchBool (ends_turn x.event) (xs ≡ []) (EndsOnce xs)
+
+abbrev pub ends_program : List Note → Bool
+ends_program [] = false
+ends_program (x ∷ xs) = is_end x.event || ends_program xs
+
+-- the program once it has told a turn, whose calls met these outcomes and left these answer lines
+abbrev pub having_told : Teller → List Note → List Outcome → List AnswerLine → Teller
+having_told t turn met answers =
+    record { due = t.due + put_off turn; has_ended = ends_program turn; answers = answers; told = t.told ++ turn; met = t.met ++ met }
+
+-- Event number `number`: the detaches with its number come first, then the unfinished program with the least pair of due tick and
+-- number tells a turn.
+pub record TellsTurn (programs : List Program) (detaches : List Detach) (number : ℕ) (tellers : List Teller) (ds : List Device) (lines : List Line) (tellers' : List Teller) (ds' : List Device) : Type 0 where
+  pub i : ℕ
+  pub w : Program
+  pub t : Teller
+  pub program : slice_get programs i ≡ Some w
+  pub there : slice_get tellers i ≡ Some t
+  pub unfinished : t.has_ended ≡ false
+  pub next : IsLeast (map due_of tellers) i t.due
+  pub turn : List Note
+  pub whole : EndsOnce turn
+  pub met : List Outcome
+  pub answers : List AnswerLine
+  pub calls : CallsMeet w turn met t.answers (detached number detaches ds) [] answers ds'
+  pub made : lines ≡ map (line_at t.due i) (events_with_looks w.looks turn)
+  pub after : tellers' ≡ slice_set tellers i (having_told t turn met answers)
+
+-- so many events, from 1 on
+abbrev pub Tells : List Program → List Detach → List Device → (count : ℕ) → List Line → List Teller → List Device → Type 0
+Tells programs detaches ds zero lines tellers ds' = (lines ≡ []) × (tellers ≡ map starting programs) × (ds' ≡ ds)
+Tells programs detaches ds (suc count) lines tellers ds' =
+    (before more : List Line) × (mid : List Teller) × (es : List Device)
+    × Tells programs detaches ds count before mid es × TellsTurn programs detaches (suc count) mid es more tellers ds' × (lines ≡ before ++ more)
+
+-- what is still to be told: nothing exactly where the program has ended
+abbrev pub IsRest : Bool → List Note → Type 0
+IsRest true rest = rest ≡ []
+IsRest false rest = 0 < length rest
+
+-- What a program has told begins its story, for some outcomes that later calls may meet.
+pub record HasStory (w : Program) (t : Teller) : Type 0 where
+  pub rest : List Note
+  pub more : List Outcome
+  pub story : protocol_story w (t.met ++ more) ≡ t.told ++ rest
+  pub is_rest : IsRest t.has_ended rest
