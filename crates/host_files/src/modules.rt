@@ -1,0 +1,56 @@
+// The prepared module in a file.
+ghost use Rattle.std.specs.Prelude.{◌≡◌, ◌⊎◌, ◌≤◌, IfOk, IsErrOf, IsSome};
+ghost use Rattle.std.specs.Result.{IfErr};
+ghost use Rattle.vault_port.specs.Counts.{HasRisen};
+ghost use Rattle.vault_port.specs.Files.{bytes_of, IsMissing};
+ghost use Rattle.vault_port.specs.Told.{WhereTold};
+ghost use Rattle.wa_types.specs.View.{module_of};
+ghost use Rattle.host_modules.specs.Prepared.{IsPrepared};
+ghost use Rattle.host_files.specs.Views.{IsContentFault, IsToldUnprepared, file_fault};
+
+use crate::fault::FileFault;
+use host_modules::{PreparedFault, prepare};
+use std::alloc::Global;
+use vault_port::{FetchFault, Vault, fetch_whole};
+use wasm_validate::Valid;
+
+/// The file of a prepared module is read until one byte past its limit.
+const FETCH_LIMIT: u64 = 67_108_865;
+
+/// The prepared module in this file. No file changes.
+pub fn fetch_prepared<V: Vault>(
+    alloc: Global,
+    vault: &mut V,
+    name: &str,
+) -> Result<Valid, FileFault>
+    ensures prepared { IfOk result (λ valid. WhereTold (V.files vault.old) (λ all. IsPrepared (bytes_of all name.now) (module_of valid))) }
+    ensures refused { IfErr result (λ fault. IsToldUnprepared (V.files vault.old) name.now fault) }
+    ensures content { IfErr result IsContentFault }
+    ensures read { IsErrOf result FileFault.Read
+        → HasRisen (V.fetch_faults vault.old) (V.fetch_faults vault.new)
+        ⊎ IsMissing (V.files vault.old) name.now }
+    ensures there { IsErrOf result FileFault.Read ⊎ IsErrOf result FileFault.Memory
+        ⊎ WhereTold (V.files vault.old) (λ all. IsSome (all name.now)) }
+    ensures kept { V.files vault.new ≡ V.files vault.old }
+    ensures faults { V.fetch_faults vault.old ≤ V.fetch_faults vault.new }
+    ensures saves { V.save_faults vault.new ≡ V.save_faults vault.old }
+{
+    let bytes = match fetch_whole(alloc, vault, name, FETCH_LIMIT) {
+        Ok(bytes) => bytes,
+        Err(FetchFault::Read) => return Err(FileFault::Read),
+        Err(FetchFault::Memory) => return Err(FileFault::Memory),
+    };
+    match prepare(alloc, &bytes) {
+        Ok(valid) => Ok(valid),
+        Err(fault) => Err(file_fault(fault)),
+    }
+}
+
+fn file_fault(fault: PreparedFault) -> FileFault
+    ensures { result ≡ file_fault fault }
+{
+    match fault {
+        PreparedFault::Memory => FileFault::Memory,
+        PreparedFault::Refused(kind) => FileFault::Refused(kind),
+    }
+}

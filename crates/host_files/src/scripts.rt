@@ -1,0 +1,79 @@
+// The script in a file.
+ghost use Rattle.std.specs.Prelude.{◌≡◌, ◌⊎◌, ◌≤◌, IfOk, IsErrOf, IsSome, length};
+ghost use Rattle.std.specs.Result.{IfErr};
+ghost use Rattle.vault_port.specs.Counts.{HasRisen};
+ghost use Rattle.vault_port.specs.Files.{bytes_of, IsMissing};
+ghost use Rattle.vault_port.specs.Told.{WhereTold};
+ghost use Rattle.transcript.specs.Printing.{refusal_of};
+ghost use Rattle.script_reader.specs.Views.{script_of};
+ghost use Rattle.host_modules.specs.Prepared.{IsOfContent};
+ghost use Rattle.host_files.specs.Scripts.{IsScript, refusal_for};
+ghost use Rattle.host_files.specs.Views.{IsContentFault, IsNoScriptFor, IsToldNoScript, fault_of};
+
+use crate::fault::FileFault;
+use crate::serving::{ServeFault, Told, served_script};
+use script_reader::Script;
+use std::alloc::Global;
+use transcript::RefusalKind;
+use vault_port::{FetchFault, Vault, fetch_whole};
+use wa_types::LimitKind;
+
+/// A script file is read until one byte past its limit.
+const FETCH_LIMIT: u64 = 1_048_577;
+
+/// A script has at most so many bytes.
+const MOST_BYTES: usize = 1_048_576;
+
+/// The script in this file. No file changes.
+pub fn fetch_script<V: Vault>(alloc: Global, vault: &mut V, name: &str) -> Result<Script, FileFault>
+    ensures script { IfOk result (λ s. WhereTold (V.files vault.old) (λ all. IsScript (bytes_of all name.now) (script_of s))) }
+    ensures refused { IfErr result (λ fault. IsToldNoScript (V.files vault.old) name.now fault) }
+    ensures content { IfErr result IsContentFault }
+    ensures read { IsErrOf result FileFault.Read
+        → HasRisen (V.fetch_faults vault.old) (V.fetch_faults vault.new)
+        ⊎ IsMissing (V.files vault.old) name.now }
+    ensures there { IsErrOf result FileFault.Read ⊎ IsErrOf result FileFault.Memory
+        ⊎ WhereTold (V.files vault.old) (λ all. IsSome (all name.now)) }
+    ensures kept { V.files vault.new ≡ V.files vault.old }
+    ensures faults { V.fetch_faults vault.old ≤ V.fetch_faults vault.new }
+    ensures saves { V.save_faults vault.new ≡ V.save_faults vault.old }
+{
+    let bytes = match fetch_whole(alloc, vault, name, FETCH_LIMIT) {
+        Ok(bytes) => bytes,
+        Err(FetchFault::Read) => return Err(FileFault::Read),
+        Err(FetchFault::Memory) => return Err(FileFault::Memory),
+    };
+    script_in(alloc, &bytes)
+}
+
+// The script that these bytes are.
+fn script_in(alloc: Global, bytes: &[u8]) -> Result<Script, FileFault>
+    ensures script { IfOk result (λ s. IsScript bytes.now (script_of s)) }
+    ensures refused { IfErr result (λ fault. IsNoScriptFor bytes.now fault) }
+    ensures content { IfErr result IsContentFault }
+{
+    if MOST_BYTES < bytes.len() {
+        return Err(FileFault::Refused(RefusalKind::Limit {
+            what: LimitKind::Script,
+            found: FETCH_LIMIT,
+        }));
+    }
+    match served_script(alloc, bytes) {
+        Ok(script) => Ok(script),
+        Err(ServeFault::Memory) => Err(FileFault::Memory),
+        Err(ServeFault::Fault(fault)) => Err(FileFault::Refused(refusal(fault))),
+    }
+}
+
+fn refusal(fault: Told) -> RefusalKind
+    ensures fault { refusal_of result ≡ refusal_for (fault_of fault) }
+    ensures content { IsOfContent (refusal_of result) }
+{
+    match fault {
+        Told::Rule { line, rule } => RefusalKind::Script { line, rule },
+        Told::TooMany { found } => RefusalKind::Limit {
+            what: LimitKind::Programs,
+            found: u64::from(found),
+        },
+    }
+}
