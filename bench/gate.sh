@@ -55,7 +55,10 @@ def look(top, found):
             found[pid, begun] = told, ticks
 
 before = resource.getrusage(resource.RUSAGE_CHILDREN)
-gate, found = subprocess.Popen(["rt", "ci", "--anew", *sys.argv[1:]]), {}
+# some kits prove everything anew without being asked, and know no names
+helped = subprocess.run(["rt", "help"], capture_output=True, text=True)
+anew = ["--anew", *sys.argv[1:]] if "--anew" in helped.stdout + helped.stderr else []
+gate, found = subprocess.Popen(["rt", "ci", *anew]), {}
 while gate.poll() is None:
     look(gate.pid, found)
     time.sleep(0.2)

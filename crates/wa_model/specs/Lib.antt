@@ -25,6 +25,7 @@ pub mod Rewrites
 pub mod Script
 pub mod ScriptLines
 pub mod ScriptText
+pub mod Spelled
 pub mod Step
 pub mod Store
 pub mod Touches
