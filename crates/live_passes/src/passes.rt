@@ -14,7 +14,7 @@ use wa_model::Stmt;
 /// A body is passed over backwards: `set` tells what is read first from behind it on, then from its front on, and `tos` the same
 /// for the target of each label, that of the innermost last.
 #[cycle(pass)]
-pub fn pass_body(
+pub(crate) fn pass_body(
     alloc: Global,
     tos: &mut Vec<Vec<bool>>,
     set: &mut [bool],

@@ -25,7 +25,7 @@ pub fn copied(alloc: Global, set: &[bool]) -> Result<Vec<bool>, AllocError>
 }
 
 /// A local is read.
-pub fn read(set: &mut [bool], local: u32)
+pub(crate) fn read(set: &mut [bool], local: u32)
     ensures { TellsAnywhere set.old set.new (plain (local_get local) done) }
 {
     if (local as usize) < set.len() {
@@ -34,7 +34,7 @@ pub fn read(set: &mut [bool], local: u32)
 }
 
 /// A local is written.
-pub fn write(set: &mut [bool], local: u32)
+pub(crate) fn write(set: &mut [bool], local: u32)
     ensures { TellsAnywhere set.old set.new (plain (local_set local) done) }
 {
     if (local as usize) < set.len() {
@@ -71,7 +71,7 @@ pub fn read_operand(set: &mut [bool], operand: Operand)
 }
 
 /// Operands are read.
-pub fn read_operands(set: &mut [bool], operands: &[Operand])
+pub(crate) fn read_operands(set: &mut [bool], operands: &[Operand])
     ensures { TellsAnywhere set.old set.new (all_got operands.now done) }
 {
     let mut left = operands.len();
@@ -93,7 +93,7 @@ pub fn read_slots(set: &mut [bool], slots: &[u32])
 }
 
 /// Control doesn't go on.
-pub fn empty(set: &mut [bool])
+pub(crate) fn empty(set: &mut [bool])
     ensures { TellsAnywhere set.old set.new (plain unreachable done) }
 {
     for told in set.iter_mut() {
@@ -114,7 +114,7 @@ pub fn join(set: &mut [bool], other: &[bool])
 }
 
 /// What is told for a label's target is put in.
-pub fn join_label(set: &mut [bool], tos: &[Vec<bool>], label: u32)
+pub(crate) fn join_label(set: &mut [bool], tos: &[Vec<bool>], label: u32)
     ensures { Joined tos.now (label ∷ []) set.old set.new }
 {
     let label = label as usize;
@@ -124,7 +124,7 @@ pub fn join_label(set: &mut [bool], tos: &[Vec<bool>], label: u32)
 }
 
 /// What is told for these labels' targets is put in.
-pub fn join_labels(set: &mut [bool], tos: &[Vec<bool>], labels: &[u32])
+pub(crate) fn join_labels(set: &mut [bool], tos: &[Vec<bool>], labels: &[u32])
     ensures { Joined tos.now labels.now set.old set.new }
 {
     let mut left = labels.len();
