@@ -1,0 +1,83 @@
+-- What `transform` does to the files and what it prints.
+use Rattle.std.specs.Prelude.{◌≡◌, ◌⊎◌, ℕ, List, ◌++◌, length, take, count_by, Bool, Option, Some, None, codes}
+use Rattle.std.specs.Fmt.{decimal}
+use Rattle.vault_port.specs.Files.{Files, bytes_of, KeepsOthers, ChangesOnly}
+use Rattle.vault_port.specs.Told.{WhereTold}
+use Rattle.vault_port.specs.Taken.{Appends, AppendsLess}
+use Rattle.wa_types.specs.Syntax.{Module}
+use Rattle.wa_types.specs.Encoding.{Enc}
+use Rattle.wa_types.specs.Norm.{Norm}
+use Rattle.wa_types.specs.Pausing.{Settings}
+use Rattle.wa_types.specs.ModuleBounds.{prepared_bounds}
+use Rattle.wasm_reader.specs.Answers.{IsAccepted}
+use Rattle.rewrite_form.specs.Emitted.{asyncified}
+use Rattle.wa_model.specs.Rewrites.{Rewrites}
+use Rattle.wa_model.specs.Transcript.{refusal_line, read_fault, write_fault, line_end}
+use Rattle.printing.specs.Refused.{status_of, Prints, PrintsMemory}
+use Rattle.source_modules.specs.Sources.{IsSource, Cause, IsRefusedFor, refusal_for}
+
+-- what `transform` prints: how many functions the module defines, how many of them are instrumented, and how
+-- many bytes were written
+unfoldable pub done_line : (functions instrumented bytes : ℕ) → List ℕ
+done_line functions instrumented bytes =
+    codes "ok functions " ++ decimal functions ++ codes " instrumented " ++ decimal instrumented ++ codes " bytes " ++ decimal bytes ++ line_end
+
+-- OUT holds the bytes of the module of IN, rewritten by these settings. They spell a valid module without a float, which passes
+-- no bound of a prepared module, and under the host's protocol behaves like the original. The other files are as before.
+pub record IsTransformed (s : Settings) (input output : List ℕ) (old new : Files) : Type 0 where
+  pub «module» : Module
+  pub which : List Bool
+  pub source : IsSource s (bytes_of old input) «module» which
+  pub written : ChangesOnly output (Enc (asyncified «module» s which)) old new
+  pub prepared : IsAccepted prepared_bounds (Enc (asyncified «module» s which)) (Norm (asyncified «module» s which))
+  pub rewritten : Rewrites «module» s (Norm (asyncified «module» s which))
+
+-- OUT is as before, or holds some first bytes of what it would hold; the other files are as before.
+pub record IsCutShort (s : Settings) (input output : List ℕ) (old new : Files) : Type 0 where
+  pub left : (new output ≡ old output)
+      ⊎ ((m : Module) × (which : List Bool) × IsSource s (bytes_of old input) m which × (n : ℕ) × (new output ≡ Some (take n (Enc (asyncified m s which)))))
+  pub others : KeepsOthers output old new
+
+-- the functions of the module that these bytes spell, how many of them may pause, and the bytes of what is written
+abbrev pub IsCount : Settings → List ℕ → (functions instrumented bytes : ℕ) → Type 0
+IsCount s source functions instrumented bytes =
+    (m : Module) × (which : List Bool) × IsSource s source m which × (functions ≡ length m.funcs) × (instrumented ≡ count_by (λ b. b) which) × (bytes ≡ length (Enc (asyncified m s which)))
+
+-- the line of a module that was written; where the files are told, that of the module in IN
+abbrev pub IsDoneLine : Settings → Option Files → List ℕ → List ℕ → Type 0
+IsDoneLine s files input line =
+    (functions : ℕ) × (instrumented : ℕ) × (bytes : ℕ) × (line ≡ done_line functions instrumented bytes) × WhereTold files (λ all. IsCount s (bytes_of all input) functions instrumented bytes)
+
+-- there is an accepted source in IN
+unfoldable pub HoldsSource : Settings → List ℕ → Type 0
+HoldsSource s bytes = (m : Module) × (which : List Bool) × IsSource s bytes m which
+
+-- a cause of this status; where the files are told, IN is refused for it
+abbrev pub HasCause : Settings → Option Files → List ℕ → ℕ → Type 0
+HasCause s files input status = (cause : Cause) × (status ≡ status_of (refusal_for cause)) × WhereTold files (λ all. IsRefusedFor s (bytes_of all input) cause)
+
+-- the line of a refusal of IN
+abbrev pub IsRefusalLine : Settings → Option Files → List ℕ → List ℕ → Type 0
+IsRefusalLine s files input line = (cause : Cause) × (line ≡ refusal_line None (refusal_for cause)) × WhereTold files (λ all. IsRefusedFor s (bytes_of all input) cause)
+
+-- the line of a refusal, or of a module that was written
+abbrev pub IsLine : Settings → Option Files → List ℕ → List ℕ → List ℕ → Type 0
+IsLine s files input output line =
+    IsRefusalLine s files input line ⊎ (line ≡ refusal_line None (read_fault input)) ⊎ (line ≡ refusal_line None (write_fault output)) ⊎ IsDoneLine s files input line
+
+-- the line of the module that was written was printed
+abbrev pub PrintsDone : Settings → Option Files → List ℕ → List ℕ → List ℕ → Type 0
+PrintsDone s files input old new = (line : List ℕ) × IsDoneLine s files input line × Appends line old new
+
+-- less of that line was printed
+abbrev pub PrintsLess : Settings → Option Files → List ℕ → List ℕ → List ℕ → Type 0
+PrintsLess s files input old new = (line : List ℕ) × IsDoneLine s files input line × AppendsLess line old new
+
+-- some first bytes of a line of the command, and then some of the line on memory, were printed
+abbrev pub RunsOutOfMemory : Settings → Option Files → List ℕ → List ℕ → List ℕ → List ℕ → Type 0
+RunsOutOfMemory s files input output old new = (line : List ℕ) × IsLine s files input output line × PrintsMemory line old new
+
+-- the line of a cause of this status was printed, for which IN is refused; or less of it where the sink has failed
+abbrev pub PrintsRefusal : Settings → Option Files → List ℕ → ℕ → ℕ → ℕ → List ℕ → List ℕ → Type 0
+PrintsRefusal s files input status faults faults' old new =
+    (cause : Cause) × (status ≡ status_of (refusal_for cause)) × WhereTold files (λ all. IsRefusedFor s (bytes_of all input) cause) × Prints (refusal_line None (refusal_for cause)) faults faults' old new
