@@ -70,4 +70,3 @@ never_two way n h e = elim h [
     ]
   ]
 ]
-

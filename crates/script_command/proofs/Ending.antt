@@ -19,8 +19,8 @@ use Rattle.hosting.specs.declared.fault.HostFault.TheVariants.{Memory, Rule, Sin
 use Rattle.hosting.specs.Views.{KeepsRules, listing}
 use Rattle.script_command.specs.declared.way.Way.{Way}
 use Rattle.script_command.specs.declared.opening.Opened.{Opened}
-use Rattle.script_command.specs.Ends.{Call, call, End, done, memory, sink_fault, refused, read_fault_of, refusal_of_cause, cause_line, HasEnd, IsLine}
-use Rattle.script_command.specs.Playing.{HasNoProgram, Stage, Play, nothing, a_program, IsTranscript, IsBeginning, Cause, bad_script, bad_module, bad_line, IsRefused, IsRead, asks_all}
+use Rattle.script_command.specs.Ends.{Call, call, done, memory, sink_fault, refused, read_fault_of, refusal_of_cause, cause_line, HasEnd, IsLine}
+use Rattle.script_command.specs.Playing.{HasNoProgram, Play, nothing, a_program, IsTranscript, IsBeginning, Cause, bad_line, IsRefused, IsRead, asks_all}
 use Rattle.script_command.specs.Views.{OpensProgram}
 
 becomes_by : (P Q : List ℕ → List ℕ → Type 0) → ((x y : List ℕ) → P x y → Q x y) → (old new : Option (List ℕ)) → Becomes old new P → Becomes old new Q
@@ -95,7 +95,7 @@ module _ (way : Way) (name : List ℕ) (files : Option Files) (fetched fetched' 
   abbrev pub rules : Result SetUp ScriptFault
   rules = set_up_rules runs (module_of o.valid) (program_of o.text)
 
-  as_asked : (told : Result SetUp ScriptFault) → rules ≡ told → set_up_rules (asks_all way) (module_of o.valid) (program_of o.text) ≡ told
+  pub as_asked : (told : Result SetUp ScriptFault) → rules ≡ told → set_up_rules (asks_all way) (module_of o.valid) (program_of o.text) ≡ told
   as_asked told e = sym (ap (λ (b : Bool). set_up_rules b (module_of o.valid) (program_of o.text)) asks) ∙ e
 
   abbrev pub stage : (s : SetUp) → rules ≡ Ok s → Play way files name
@@ -118,8 +118,8 @@ module _ (way : Way) (name : List ℕ) (files : Option Files) (fetched fetched' 
   cut_at s e old new risen h = cut_off (call way name files fetched fetched' put put' old new) 12 refl risen (stage s e) h
 
   -- the sink failed
-  pub program_cut : {X : Type 0} (fault : HostFault) → fault ≡ Sink → KeepsRules {X} (Err fault) rules → (old new : Option (List ℕ)) → (IsErrOf {X} (Err fault) Sink → HasRisen put put')
-      → ((s : SetUp) → rules ≡ Ok s → IsErrOf {X} (Err fault) Sink → Becomes old new (TellsLess (module_of o.valid) (listing o.listed) (program_of o.text) s))
+  pub program_cut : (fault : HostFault) → fault ≡ Sink → KeepsRules {X = Unit {0}} (Err fault) rules → (old new : Option (List ℕ)) → (IsErrOf {T = Unit {0}} (Err fault) Sink → HasRisen put put')
+      → ((s : SetUp) → rules ≡ Ok s → IsErrOf {T = Unit {0}} (Err fault) Sink → Becomes old new (TellsLess (module_of o.valid) (listing o.listed) (program_of o.text) s))
       → HasEnd (call way name files fetched fetched' put put' old new) 12
   program_cut Memory e kept old new risen less = absurd cc
   program_cut (Rule line rule) e kept old new risen less = absurd cc

@@ -1,12 +1,12 @@
 -- A script that was read, and its program.
-use Rattle.std.proofs.Common.{◌≡◌, ◌⊎◌, ◌≤◌, inl, inr, ℕ, List, [], ◌∷◌, ◌++◌, map, Option, Some, None, Bool, true, false, Result, Ok, Err, refl, sym, ap, ◌∙◌, subst, arith}
+use Rattle.std.proofs.Common.{◌≡◌, ◌⊎◌, ◌≤◌, inl, inr, ℕ, List, [], ◌∷◌, ◌++◌, map, Option, Some, None, Bool, true, false, Result, Ok, Err, sym, ap, ◌∙◌, subst, arith}
 use Rattle.std.specs.Prelude.{All, if◌then◌else◌}
 use Rattle.vault_port.specs.Counts.{HasRisen}
 use Rattle.vault_port.specs.Files.{Files, IsMissing}
 use Rattle.wa_types.specs.View.{module_of}
 use Rattle.wa_model.specs.Script.{ProgramText, Script, ScriptFault, breaks, too_many}
 use Rattle.wa_model.specs.ScriptText.{script_text}
-use Rattle.host_files.specs.Scripts.{Unserved, IsScript, in_front_of, is_earlier, served_script, first_unserved}
+use Rattle.host_files.specs.Scripts.{Unserved, IsScript, in_front_of, is_earlier, served_script}
 use Rattle.host_files.specs.Views.{Holds}
 use Rattle.script_reader.specs.declared.script.ProgramText.{ProgramText as ProgramValue}
 use Rattle.script_reader.specs.declared.script.Script.{Script as ScriptValue}
@@ -19,7 +19,7 @@ use Rattle.script_command.specs.declared.opening.Opened.{Opened}
 use Rattle.script_command.specs.declared.opening.OpenFault.{OpenFault}
 use Rattle.script_command.specs.declared.opening.OpenFault.TheVariants.{Memory, Read, Script as a_script, Module as a_module}
 use Rattle.transcript.specs.Printing.{refusal_of}
-use Rattle.script_command.specs.Playing.{HasNoProgram, HasProgram, IsBadModule, IsModule, IsRead}
+use Rattle.script_command.specs.Playing.{HasNoProgram, HasProgram, IsBadModule, IsModule}
 use Rattle.script_command.specs.Views.{Blames, BlamesProgram, CanHost, IsOpened, IsUnread, OpensProgram}
 
 -- ---- programs of served scripts can be hosted

@@ -1,11 +1,11 @@
 -- Originals, rewritten to be run.
-use Rattle.std.proofs.Common.{◌≡◌, ◌⊎◌, ℕ, List, Option, Some, None, Bool, length, take, refl, sym, ap, ◌∙◌, subst}
+use Rattle.std.proofs.Common.{◌≡◌, ℕ, List, Option, Some, None, Bool, length, take, refl, sym, ap, ◌∙◌, subst}
 use Rattle.std.specs.List.{filter_map}
 use Rattle.vault_port.specs.Files.{Files, bytes_of}
 use Rattle.vault_port.specs.Told.{WhereTold}
 use Rattle.wa_types.specs.declared.syntax.Import.{Import}
-use Rattle.wa_types.specs.Modules.{func_imports, imported_func}
-use Rattle.wa_types.specs.Pausing.{Settings, Listed}
+use Rattle.wa_types.specs.Modules.{imported_func}
+use Rattle.wa_types.specs.Pausing.{Settings}
 use Rattle.wa_types.specs.Syntax.{Module}
 use Rattle.wa_types.specs.View.{module_of}
 use Rattle.wa_model.specs.Script.{ProgramText}
@@ -18,10 +18,9 @@ use Rattle.host_files.specs.declared.fault.FileFault.{FileFault}
 use Rattle.host_files.specs.declared.fault.FileFault.TheVariants.{Memory, Read, Refused}
 use Rattle.host_files.specs.Views.{Holds, IsToldUnprepared}
 use Rattle.hosting.specs.Hosted.{IsListing}
-use Rattle.hosting.specs.Views.{listing}
 use Rattle.script_command.specs.declared.way.Way.TheVariants.{Host, Run}
 use Rattle.script_command.specs.declared.modules.Loaded.{Loaded}
-use Rattle.script_command.specs.Playing.{IsBadModule, IsBadOriginal, IsModule, RunsFor}
+use Rattle.script_command.specs.Playing.{IsBadModule, IsBadOriginal, RunsFor}
 use Rattle.script_command.specs.Views.{IsBadModuleFor, IsBadOriginalFor, Loads, Rewritten}
 
 -- each function import of what is run is listed or not

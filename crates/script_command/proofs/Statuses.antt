@@ -1,5 +1,5 @@
 -- Which statuses ends have.
-use Rattle.std.proofs.Common.{◌≡◌, ◌≢◌, ◌⊎◌, inl, inr, ℕ, List, Option, refl, sym, ◌∙◌, ap, subst, arith}
+use Rattle.std.proofs.Common.{◌≡◌, ◌≢◌, inl, inr, ℕ, List, Option, refl, sym, ◌∙◌, ap, subst, arith}
 use Rattle.vault_port.specs.Files.{Files}
 use Rattle.wa_model.specs.Script.{ProgramText, ScriptFault, breaks, too_many}
 use Rattle.wa_model.specs.Transcript.{Refusal, usage, out_of_memory, not_built, malformed, float, nesting, invalid, limit, reserved, script, read_fault, write_fault}

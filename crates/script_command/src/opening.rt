@@ -31,9 +31,7 @@ pub(crate) enum OpenFault {
     Memory,
     /// The script, or its program's module, could not be read.
     #[error("a file could not be read")]
-    Read {
-        name: Name,
-    },
+    Read { name: Name },
     /// The script is refused.
     #[error("the script is refused")]
     Script(RefusalKind),
