@@ -1,3 +1,4 @@
+use Rattle.std.proofs.Common.{refl}
 use Rattle.wa_types.specs.Encoding.{Enc}
 use Rattle.gen_module.specs.Generated.{generated}
 use Rattle.gen_command.proofs.Telling.{nothing_held, memory_any}
