@@ -1,10 +1,10 @@
 -- Words of small commands that the definitions compute, wrong readings beside right ones.
-use Rattle.std.proofs.Common.{◌≡◌, ℕ, List, [], ◌∷◌, Some, None, refl}
-use Rattle.std.specs.Prelude.{Option, codes}
+use Rattle.std.proofs.Common.{◌≡◌, [], ◌∷◌, Some, None, refl}
+use Rattle.std.specs.Prelude.{codes}
 use Rattle.std.specs.Str.{is_utf8, chars}
 use Rattle.std.proofs.Math.Utf8.{encode}
 use Rattle.std.specs.Fmt.{digits}
-use Rattle.wa_model.specs.Spelled.{Spelled, spelled, hosts, runs, generates}
+use Rattle.wa_model.specs.Spelled.{spelled, hosts, runs, generates}
 
 -- ---- a script alone
 

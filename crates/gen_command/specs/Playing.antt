@@ -1,11 +1,11 @@
 -- The run of a generated module, rewritten: a call, a pause, its answer, a return, and the end.
-use Rattle.std.specs.Prelude.{◌≡◌, ℕ, List, [], ◌∷◌, Option, Some, Bool, true, false, codes}
+use Rattle.std.specs.Prelude.{◌≡◌, ℕ, List, [], ◌∷◌, Option, Some, true, false, codes}
 use Rattle.wa_types.specs.declared.values.Value.{Value}
 use Rattle.wa_types.specs.declared.values.Value.TheVariants as V
 use Rattle.wa_types.specs.Pausing.{Settings, every, save_all}
 use Rattle.wa_types.specs.Syntax.{Module}
 use Rattle.wa_model.specs.declared.events.End.TheVariants.{Done}
-use Rattle.wa_model.specs.Outside.{Call, Event, called, answered, paused, returned, ended, AnswerLine}
+use Rattle.wa_model.specs.Outside.{Call, called, answered, paused, returned, ended, AnswerLine}
 use Rattle.wa_model.specs.Blocking.{Note, events_of}
 use Rattle.wa_model.specs.Rewrites.{Rewrites}
 use Rattle.wa_model.specs.World as W

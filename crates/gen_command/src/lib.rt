@@ -6,5 +6,8 @@
 #![tactic(auto)]
 
 mod command;
+mod playing;
+mod program;
+mod writing;
 
 pub use command::run_generated;
