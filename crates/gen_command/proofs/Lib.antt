@@ -1,0 +1,4 @@
+pub mod GeneratedSizes
+pub mod Rewritten
+pub mod Runs
+pub mod Telling
