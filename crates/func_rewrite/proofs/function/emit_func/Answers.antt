@@ -1,10 +1,8 @@
 use Rattle.std.proofs.Common.{arith, refl, ap, sym, subst, length, get_or, take, drop, map, Bool, false, All, ◌∙◌, ◌≡◌, ◌+◌, ◌<◌, ◌++◌, ◌∷◌, []}
-use Rattle.std.specs.Vec.{vec_len}
 use Rattle.wa_types.specs.declared.values.ValType.TheVariants.{I32, I64}
 use Rattle.wa_model.specs.FlatFits.{one_run}
 use Rattle.local_spill.specs.Laying.{in_a_row, row_size}
-use Rattle.written_frames.specs.Frames.{numbered_places, AllFrames}
-use Rattle.call_numbers.proofs.NumberingLemmas.{callees_count}
+use Rattle.written_frames.specs.Frames.{numbered_places}
 use Rattle.wa_types.specs.Pausing.{places_from}
 use Rattle.wa_types.specs.View.{func_of, module_of}
 use Rattle.wa_model.specs.FlatView.{flat_func_of}
@@ -13,9 +11,9 @@ use Rattle.call_numbers.specs.Numbering.{callees, gets_number}
 use Rattle.flow_rewrite.specs.Emitting.{Rises}
 use Rattle.local_spill.specs.declared.frames.Place.{Place}
 use Rattle.rewrite_form.specs.Emitted.{is_kept, written_func}
-use Rattle.func_rewrite.proofs.CallNumbers.{places_rise, places_few as places_few_of}
-use Rattle.func_rewrite.proofs.WrittenFuncs.{fits, few_calls, stacks, numbers, own_few, saved_few, places_few, row_fits, frames_are, kept_is, body_same, runs_same, func_is}
-use Rattle.func_rewrite.proofs.function.write_func.Goals as goal
+use Rattle.func_rewrite.proofs.CallNumbers.{places_rise}
+use Rattle.func_rewrite.proofs.WrittenFuncs.{fits, few_calls, stacks, numbers, own_few, saved_few, places_few, row_fits, kept_is, body_same, runs_same, func_is}
+use Rattle.func_rewrite.proofs.function.emit_func.Goals as goal
 
 pub number_calls-requires : goal.number_calls-requires
 number_calls-requires c = few_calls (module_of c.args._module.now) (settings_of c.args.settings.now) c.args.which.now (func_of c.args.source.now) c.args.flat.now c.requires.valid c.requires.sizes c.requires.flat
@@ -54,20 +52,8 @@ written_body-requires-clause-rises c = subst Rises (sym (c.deref-5.ensures.value
 pub written_body-requires-clause-few : goal.written_body-requires-clause-few
 written_body-requires-clause-few c = few_calls (module_of c.args._module.now) (settings_of c.args.settings.now) c.args.which.now (func_of c.args.source.now) c.args.flat.now c.requires.valid c.requires.sizes c.requires.flat
 
-pub overflow_cast-len : goal.overflow_cast-len
-overflow_cast-len c =
-    let v = c.in_ok-numbers.numbers in
-    let many : vec_len v ≡ length v.items = let k = v.ok in omega arith in
-    let few = places_few_of (gets_number c.args.which.now c.args.listed.now c.args.settings.now.ignore_indirect) 0 (callees (flat_func_of c.args.flat.now.func).body) in
-    let count = callees_count (flat_func_of c.args.flat.now.func).body in
-    let total = few_calls (module_of c.args._module.now) (settings_of c.args.settings.now) c.args.which.now (func_of c.args.source.now) c.args.flat.now c.requires.valid c.requires.sizes c.requires.flat in
-    omega (arith, c.len.ensures, many, ap length c.in_ok-numbers.ensures, few, count, total)
-
-pub call_frames-requires : goal.call_frames-requires
-call_frames-requires c = let e = ap length c.deref-8.ensures.value in let k = places_few (module_of c.args._module.now) (settings_of c.args.settings.now) c.args.which.now (func_of c.args.source.now) c.args.flat.now c.requires.valid c.requires.sizes c.requires.flat c.in_ok-saved.saved.items (c.in_ok-saved.ensures ∙ ap (λ xs. numbered_places 0 (take c.args.flat.now.first_result xs)) c.deref-2.ensures.value) in omega (arith, e, k)
-
-pub returns-clause-func : goal.returns-clause-func
-returns-clause-func c =
+pub returns : goal.returns
+returns c =
     let g = written_func (module_of c.args._module.now) (settings_of c.args.settings.now) c.args.which.now c.args.flat.now.func.func (func_of c.args.source.now) in
     let kept : Place → Bool = λ (p : Place). get_or c.deref-4.result.now p.local false in
     let row : c.in_ok-layout.field-0.places.items ≡ in_a_row 0 c.in_ok-saved.saved.items = c.in_ok-layout.ensures.places ∙ ap (in_a_row 0) c.deref-3.ensures.value in
@@ -78,9 +64,3 @@ returns-clause-func c =
     let locals = c.in_ok-locals.ensures ∙ ap (λ rs. rs ++ map one_run (drop c.args.flat.now.first_slot c.deref-7.result.now ++ I32 ∷ I32 ∷ I64 ∷ [])) c.deref-6.ensures.value
     ∙ ap (λ ls. c.args.source.now.locals.items ++ map one_run (drop c.args.flat.now.first_slot ls ++ I32 ∷ I32 ∷ I64 ∷ [])) c.deref-7.ensures.value ∙ runs_same (module_of c.args._module.now) (settings_of c.args.settings.now) c.args.which.now (func_of c.args.source.now) c.args.flat.now c.requires.valid c.requires.sizes c.requires.flat c.args.flat.now.first_slot refl in
     func_is g c.args.source.now.sort _ _ refl locals body
-
-pub returns-clause-frames : goal.returns-clause-frames
-returns-clause-frames c =
-    let v = c.in_ok-numbers.numbers in
-    let many : vec_len v ≡ length v.items = let k = v.ok in omega arith in
-    frames_are (module_of c.args._module.now) (settings_of c.args.settings.now) c.args.which.now (func_of c.args.source.now) c.args.flat.now c.requires.valid c.requires.sizes c.requires.flat c.in_ok-saved.saved.items (c.in_ok-saved.ensures ∙ ap (λ xs. numbered_places 0 (take c.args.flat.now.first_result xs)) c.deref-2.ensures.value) v.items _ c.in_ok-frames.frames.items (c.in_ok-numbers.ensures ∙ ap (λ l. places_from (gets_number c.args.which.now l c.args.settings.now.ignore_indirect) 0 (callees (flat_func_of c.args.flat.now.func).body)) c.requires.listed ∙ numbers (module_of c.args._module.now) (settings_of c.args.settings.now) c.args.which.now (func_of c.args.source.now) c.args.flat.now c.requires.valid c.requires.sizes c.requires.flat) (c.len.ensures ∙ many) (subst (λ xs. AllFrames xs c.len.result c.in_ok-frames.frames.items) c.deref-8.ensures.value c.in_ok-frames.ensures)
