@@ -37,7 +37,15 @@ few_locals n = each DeclaresFew (omega arith) by_few n
 -- a body of seven instructions at most
 body_short : (f : Func) → length (vector run_bytes (merged f.locals)) ≤ 30 → instructions_and_labels f.body ≤ 7 → length (sized (body_bytes f)) ≤ 230
 body_short f locals few =
-    omega (arith, locals, few, sized_length (body_bytes f), length-append (vector run_bytes (merged f.locals)) (expression_bytes f.body), length-append (code_bytes f.body) (0x0B ∷ []), code_length f.body)
+    omega (
+      arith,
+      locals,
+      few,
+      sized_length (body_bytes f),
+      length-append (vector run_bytes (merged f.locals)) (expression_bytes f.body),
+      length-append (code_bytes f.body) (0x0B ∷ []),
+      code_length f.body,
+    )
 
 abbrev IsShort : Func → Type 0
 IsShort f = length (sized (body_bytes f)) ≤ 230

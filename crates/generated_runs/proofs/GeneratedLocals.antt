@@ -47,7 +47,12 @@ unfolding generated
 all_small n = each (IsSmall n) (first_small n) (by_small n) n
 
 pub few_locals : (n : ℕ) → All (λ (f : Func). Count (generated n) f ≤ 50000) (generated n).funcs
-few_locals n = all_from (λ (f : Func). Count (generated n) f ≤ 50000) (generated n).funcs (λ i f e. let small = one_of_all (IsSmall n) (generated n).funcs i f (all_small n) e in let few = slots_are_few (generated n) i f (is_valid n) e in omega (arith, small, few))
+few_locals n = all_from (λ (f : Func). Count (generated n) f ≤ 50000) (generated n).funcs one_few
+  where
+    one_few : (i : ℕ) (f : Func) → slice_get (generated n).funcs i ≡ Some f → Count (generated n) f ≤ 50000
+    one_few i f e =
+        let small = one_of_all (IsSmall n) (generated n).funcs i f (all_small n) e in
+        let few = slots_are_few (generated n) i f (is_valid n) e in omega (arith, small, few)
 
 -- ---- names
 

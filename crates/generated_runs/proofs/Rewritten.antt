@@ -4,7 +4,8 @@ use Rattle.std.proofs.lemmas.List.Elements.{All-nil, All-cons, All-head, All-tai
 use Rattle.wa_types.specs.Frames.{Count}
 use Rattle.wa_types.specs.Modules.{func_imports}
 use Rattle.wa_types.specs.Sizes.{ElemSizes, FuncSizes, SegmentSizes, SizeRule, StrictSizeRule, TypeSizes, code_lists, plain_lists}
-use Rattle.wa_types.specs.Syntax.{Code, Func, GlobalDef, Module, Plain, basic, br, br_if, br_table, branch, call, call_indirect, done, local_get, local_set, local_tee, nest, plain, return, unreachable}
+use Rattle.wa_types.specs.Syntax.{Code, Func, GlobalDef, Module, Plain, basic, br, br_if, br_table, branch, call, call_indirect, done}
+use Rattle.wa_types.specs.Syntax.{local_get, local_set, local_tee, nest, plain, return, unreachable}
 use Rattle.wa_types.specs.Validity.{Valid}
 use Rattle.wa_types.specs.View.{module_of}
 use Rattle.wa_model.specs.Rewrites.{Rewrites}
@@ -55,9 +56,12 @@ strict_is_wide m s = record {
   segments = omega (arith, s.segments);
   each_func = all_wider (FuncSizes (2 ^ 31) (2 ^ 31) m) (FuncSizes (2 ^ 32) (2 ^ 56) m)
       (λ f h. record { runs = omega (arith, h.runs); labels = lists_wider (2 ^ 31) (2 ^ 32) f.body (omega arith) h.labels; total = omega (arith, h.total) }) m.funcs s.each_func;
-  each_global = all_wider (λ (g : GlobalDef). code_lists (2 ^ 31) g.init) (λ (g : GlobalDef). code_lists (2 ^ 32) g.init) (λ g h. lists_wider (2 ^ 31) (2 ^ 32) g.init (omega arith) h) m.globals s.each_global;
-  each_elem = all_wider (ElemSizes (2 ^ 31)) (ElemSizes (2 ^ 32)) (λ e h. record { funcs = omega (arith, h.funcs); offset = lists_wider (2 ^ 31) (2 ^ 32) e.offset (omega arith) h.offset }) m.elems s.each_elem;
-  each_segment = all_wider (SegmentSizes (2 ^ 31)) (SegmentSizes (2 ^ 32)) (λ e h. record { bytes = omega (arith, h.bytes); offset = lists_wider (2 ^ 31) (2 ^ 32) e.offset (omega arith) h.offset }) m.segments s.each_segment;
+  each_global = all_wider (λ (g : GlobalDef). code_lists (2 ^ 31) g.init) (λ (g : GlobalDef). code_lists (2 ^ 32) g.init)
+      (λ g h. lists_wider (2 ^ 31) (2 ^ 32) g.init (omega arith) h) m.globals s.each_global;
+  each_elem = all_wider (ElemSizes (2 ^ 31)) (ElemSizes (2 ^ 32))
+      (λ e h. record { funcs = omega (arith, h.funcs); offset = lists_wider (2 ^ 31) (2 ^ 32) e.offset (omega arith) h.offset }) m.elems s.each_elem;
+  each_segment = all_wider (SegmentSizes (2 ^ 31)) (SegmentSizes (2 ^ 32))
+      (λ e h. record { bytes = omega (arith, h.bytes); offset = lists_wider (2 ^ 31) (2 ^ 32) e.offset (omega arith) h.offset }) m.segments s.each_segment;
 }
 
 -- what is emitted is the module, rewritten

@@ -1,8 +1,6 @@
 // A generated module, rewritten, and the program over it.
-ghost use Rattle.std.specs.Prelude.{All, ◌≤◌, ◌≡◌, ◌∷◌, [], ℕ, IfOk, None, codes, map};
-ghost use Rattle.std.specs.Option.{option_map};
+ghost use Rattle.std.specs.Prelude.{All, ◌≤◌, ◌≡◌, ◌∷◌, [], ℕ, IfOk, None};
 ghost use Rattle.host_setup.specs.Views.{entry_of};
-ghost use Rattle.host_turns.specs.Stories.{IsStory};
 ghost use Rattle.wa_model.specs.Rewrites.{Rewrites};
 ghost use Rattle.wa_model.specs.View.{answer_line_of};
 ghost use Rattle.wa_types.specs.Frames.{Count};
@@ -11,7 +9,7 @@ ghost use Rattle.wa_types.specs.Validity.{Valid as IsValid};
 ghost use Rattle.wa_types.specs.View.{module_of};
 ghost use Rattle.asyncify_runtime.specs.Reserved.{reserved_at};
 ghost use Rattle.gen_module.specs.Generated.{generated, sleep};
-ghost use Rattle.pause_host.specs.Programs.{Follows, IsPlan};
+ghost use Rattle.pause_host.specs.Programs.{Follows};
 ghost use Rattle.generated_runs.specs.Plans.{PlansRun, run_entry};
 ghost use Rattle.generated_runs.specs.Playing.{all_listed, run_program, sleep_answer};
 

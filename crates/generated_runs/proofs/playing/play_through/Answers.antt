@@ -19,6 +19,7 @@ returns c = λ w f.
       answer = third.0;
       ticks = second.0;
       entry = fourth.0;
-      events = events_told first.1.note second.1.note third.1.note fourth.1.note last.note (called first.0) (paused second.0 c.in_ok-used.used) (answered third.0) (returned fourth.0 (Some (V.I32 c.in_ok-value.value))) (ended Done)
+      events = events_told first.1.note second.1.note third.1.note fourth.1.note last.note
+          (called first.0) (paused second.0 c.in_ok-used.used) (answered third.0) (returned fourth.0 (Some (V.I32 c.in_ok-value.value))) (ended Done)
           first.1.event_is second.1.event_is third.1.event_is fourth.1.event_is last.event_is;
     }
