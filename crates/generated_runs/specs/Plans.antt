@@ -7,7 +7,7 @@ use Rattle.wa_model.specs.View.{answer_line_of}
 use Rattle.host_setup.specs.SetUp.{NamedEntry}
 use Rattle.pause_host.specs.Programs.{named_entries, source_of}
 use Rattle.pause_host.specs.declared.plan.Plan.{Plan}
-use Rattle.gen_command.specs.Playing.{sleep_answer}
+use Rattle.generated_runs.specs.Playing.{sleep_answer}
 
 -- `run` is entered with 7
 abbrev pub run_entry : NamedEntry

@@ -35,9 +35,9 @@ use Rattle.pause_host.specs.declared.program.Program.{Program}
 use Rattle.pause_host.specs.Settings.{calls_of}
 use Rattle.pause_host.specs.Programs.{Advances, Follows, IsPlan, SetsUp, end_at, end_in, ended_as, named_entries, place_of, world_program}
 use Rattle.host_moves.specs.Views.{lines_in}
-use Rattle.gen_command.specs.Plans.{PlansRun, run_entry}
-use Rattle.gen_command.specs.Playing.{all_listed, run_program, sleep_answer}
-use Rattle.gen_command.specs.Telling.{TellsNext}
+use Rattle.generated_runs.specs.Plans.{PlansRun, run_entry}
+use Rattle.generated_runs.specs.Playing.{all_listed, run_program, sleep_answer}
+use Rattle.generated_runs.specs.Telling.{TellsNext}
 
 -- ---- the function that is entered
 

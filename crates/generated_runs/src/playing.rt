@@ -1,5 +1,5 @@
 // A run of a generated module, rewritten, event by event.
-ghost use Rattle.std.specs.Prelude.{◌≡◌, ◌∷◌, [], ℕ, IfOk, List, None, OnOk, Option, Some};
+ghost use Rattle.std.specs.Prelude.{◌≡◌, ◌≤◌, ◌∷◌, [], ℕ, IfOk, List, None, OnOk, Option, Some};
 ghost use Rattle.wa_model.specs.Blocking.{Note};
 ghost use Rattle.wa_model.specs.Outside.{Call, answered, called, ended, paused, returned};
 ghost use Rattle.wa_model.specs.Rewrites.{Rewrites};
@@ -10,26 +10,34 @@ ghost use Rattle.wa_types.specs.declared.values.Value.{Value as PlainValue};
 ghost use Rattle.wa_types.specs.declared.values.Value.TheVariants as V;
 ghost use Rattle.gen_module.specs.Generated.{generated, sleep};
 ghost use Rattle.pause_host.specs.Programs.{Follows, ended_as};
-ghost use Rattle.gen_command.specs.Playing.{PausesOnce, all_listed, run_program};
-ghost use Rattle.gen_command.specs.Telling.{TellsNext};
+ghost use Rattle.generated_runs.specs.Playing.{PausesOnce, PlaysGenerated, all_listed, run_program};
+ghost use Rattle.generated_runs.specs.Telling.{TellsNext};
 
-use crate::program::program_of;
+use crate::program::{program_of, rewritten};
 use pause_host::Program;
 use std::alloc::{AllocError, Global};
 use wa_model::{End, Event};
-use wa_types::Value;
+use wa_types::{Module, Value};
 use wasm_validate::Valid;
 
 /// What a run told: how many bytes of its area the pause used, and the value that its entry returned.
 #[derive(Clone, Copy, Debug)]
-pub(crate) struct Played {
-    pub(crate) used: u32,
-    pub(crate) value: u32,
+pub struct Played {
+    pub used: u32,
+    pub value: u32,
 }
 
-/// Runs a generated module that was rewritten, through its one pause. No such run tells other events than these: one that did would
-/// be answered as want of memory.
-pub(crate) fn play(alloc: Global, module: &Valid) -> Result<Played, AllocError>
+/// Rewrites a generated module, each import listed, and runs it through its one pause. The one error is want of memory, which
+/// would also be answered of a run that tells other events; no generated module has such a run.
+pub fn play_generated(alloc: Global, module: Module) -> Result<Played, AllocError>
+    requires { (n : ℕ) × (n ≤ 4000) × (module_of «module» ≡ generated n) }
+    ensures { (n : ℕ) → module_of «module» ≡ generated n → IfOk result (λ p. PlaysGenerated n p.used p.value) }
+{
+    let rewritten = rewritten(alloc, module)?;
+    play(alloc, &rewritten)
+}
+
+fn play(alloc: Global, module: &Valid) -> Result<Played, AllocError>
     requires { (module_of «module».now).imports ≡ sleep ∷ [] }
     ensures { (n : ℕ) → Rewrites (generated n) all_listed (module_of «module».now) → IfOk result (λ p. PausesOnce (run_program n (module_of «module».now)) p.used p.value) }
 {
@@ -50,7 +58,8 @@ fn play_through(program: &mut Program<'_>) -> Result<Played, AllocError>
 
 // The import is called.
 fn hear_call(program: &mut Program<'_>) -> Result<(), AllocError>
-    ensures { (w : WorldProgram) (notes : List Note) → Follows w notes program.old → ended_as program.old ≡ None → OnOk result ((call : Call) × TellsNext w notes (called call) program.new) }
+    ensures { (w : WorldProgram) (notes : List Note) → Follows w notes program.old → ended_as program.old ≡ None
+        → OnOk result ((call : Call) × TellsNext w notes (called call) program.new) }
 {
     match program.advance()? {
         Event::Called(_) => Ok(()),
@@ -60,7 +69,8 @@ fn hear_call(program: &mut Program<'_>) -> Result<(), AllocError>
 
 // The program pauses; how many bytes of its area are used.
 fn hear_pause(program: &mut Program<'_>) -> Result<u32, AllocError>
-    ensures { (w : WorldProgram) (notes : List Note) → Follows w notes program.old → ended_as program.old ≡ None → IfOk result (λ used. (ticks : ℕ) × TellsNext w notes (paused ticks used) program.new) }
+    ensures { (w : WorldProgram) (notes : List Note) → Follows w notes program.old → ended_as program.old ≡ None
+        → IfOk result (λ used. (ticks : ℕ) × TellsNext w notes (paused ticks used) program.new) }
 {
     match program.advance()? {
         Event::Paused { used, .. } => Ok(used),
@@ -70,7 +80,8 @@ fn hear_pause(program: &mut Program<'_>) -> Result<u32, AllocError>
 
 // The call is answered.
 fn hear_answer(program: &mut Program<'_>) -> Result<(), AllocError>
-    ensures { (w : WorldProgram) (notes : List Note) → Follows w notes program.old → ended_as program.old ≡ None → OnOk result ((answer : Option PlainValue) × TellsNext w notes (answered answer) program.new) }
+    ensures { (w : WorldProgram) (notes : List Note) → Follows w notes program.old → ended_as program.old ≡ None
+        → OnOk result ((answer : Option PlainValue) × TellsNext w notes (answered answer) program.new) }
 {
     match program.advance()? {
         Event::Answered(_) => Ok(()),
@@ -80,7 +91,8 @@ fn hear_answer(program: &mut Program<'_>) -> Result<(), AllocError>
 
 // The entry returns this number.
 fn hear_return(program: &mut Program<'_>) -> Result<u32, AllocError>
-    ensures { (w : WorldProgram) (notes : List Note) → Follows w notes program.old → ended_as program.old ≡ None → IfOk result (λ value. (entry : ℕ) × TellsNext w notes (returned entry (Some (V.I32 value))) program.new) }
+    ensures { (w : WorldProgram) (notes : List Note) → Follows w notes program.old → ended_as program.old ≡ None
+        → IfOk result (λ value. (entry : ℕ) × TellsNext w notes (returned entry (Some (V.I32 value))) program.new) }
 {
     match program.advance()? {
         Event::Returned { value, .. } => number_of(value),
@@ -108,7 +120,8 @@ fn number_in(value: Value) -> Result<u32, AllocError>
 
 // All entries have returned.
 fn hear_end(program: &mut Program<'_>) -> Result<(), AllocError>
-    ensures { (w : WorldProgram) (notes : List Note) → Follows w notes program.old → ended_as program.old ≡ None → OnOk result (TellsNext w notes (ended Done) program.new) }
+    ensures { (w : WorldProgram) (notes : List Note) → Follows w notes program.old → ended_as program.old ≡ None
+        → OnOk result (TellsNext w notes (ended Done) program.new) }
 {
     match program.advance()? {
         Event::Ended(end) => done(&end),

@@ -2,8 +2,8 @@ use Rattle.std.proofs.Common.{Some, [], ◌∷◌}
 use Rattle.wa_types.specs.declared.values.Value.TheVariants as V
 use Rattle.wa_model.specs.declared.events.End.TheVariants.{Done}
 use Rattle.wa_model.specs.Outside.{answered, called, ended, paused, returned}
-use Rattle.gen_command.proofs.Runs.{events_told, not_ended, story_told}
-use Rattle.gen_command.proofs.playing.play_through.Goals as goal
+use Rattle.generated_runs.proofs.Runs.{events_told, not_ended, story_told}
+use Rattle.generated_runs.proofs.playing.play_through.Goals as goal
 
 pub returns : goal.returns
 returns c = λ w f.
@@ -19,6 +19,7 @@ returns c = λ w f.
       answer = third.0;
       ticks = second.0;
       entry = fourth.0;
-      events = events_told first.1.note second.1.note third.1.note fourth.1.note last.note (called first.0) (paused second.0 c.in_ok-used.used) (answered third.0) (returned fourth.0 (Some (V.I32 c.in_ok-value.value))) (ended Done)
+      events = events_told first.1.note second.1.note third.1.note fourth.1.note last.note
+          (called first.0) (paused second.0 c.in_ok-used.used) (answered third.0) (returned fourth.0 (Some (V.I32 c.in_ok-value.value))) (ended Done)
           first.1.event_is second.1.event_is third.1.event_is fourth.1.event_is last.event_is;
     }

@@ -1,21 +1,20 @@
 // A generated module, rewritten, and the program over it.
-ghost use Rattle.std.specs.Prelude.{◌≡◌, ◌∷◌, [], ℕ, IfOk, None, codes, map};
-ghost use Rattle.std.specs.Option.{option_map};
+ghost use Rattle.std.specs.Prelude.{All, ◌≤◌, ◌≡◌, ◌∷◌, [], ℕ, IfOk, None};
 ghost use Rattle.host_setup.specs.Views.{entry_of};
-ghost use Rattle.host_turns.specs.Stories.{IsStory};
 ghost use Rattle.wa_model.specs.Rewrites.{Rewrites};
 ghost use Rattle.wa_model.specs.View.{answer_line_of};
+ghost use Rattle.wa_types.specs.Frames.{Count};
 ghost use Rattle.wa_types.specs.Sizes.{StrictSizeRule};
 ghost use Rattle.wa_types.specs.Validity.{Valid as IsValid};
 ghost use Rattle.wa_types.specs.View.{module_of};
 ghost use Rattle.asyncify_runtime.specs.Reserved.{reserved_at};
 ghost use Rattle.gen_module.specs.Generated.{generated, sleep};
-ghost use Rattle.pause_host.specs.Programs.{Follows, IsPlan};
-ghost use Rattle.gen_command.specs.Plans.{PlansRun, run_entry};
-ghost use Rattle.gen_command.specs.Playing.{all_listed, run_program, sleep_answer};
+ghost use Rattle.pause_host.specs.Programs.{Follows};
+ghost use Rattle.generated_runs.specs.Plans.{PlansRun, run_entry};
+ghost use Rattle.generated_runs.specs.Playing.{all_listed, run_program, sleep_answer};
 
 use call_graph::{Choice, Policy, Settings};
-use module_rewrite::asyncify_module;
+use module_rewrite::{RewriteFault, asyncify_module};
 use pause_host::{Entry, Plan, Program};
 use std::alloc::{AllocError, Global};
 use wa_model::{Answer, AnswerLine, Area};
@@ -27,11 +26,12 @@ const AREA: Area = Area { at: 0, len: 65_536 };
 
 const STEPS: u64 = 100_000_000;
 
-/// A module with each of its imports listed, rewritten. No function of a generated module has too many locals, nor is a name of
-/// it reserved: a fault that tells so is answered as want of memory.
+/// A module with each of its imports listed, rewritten.
 pub(crate) fn rewritten(alloc: Global, module: Module) -> Result<Valid, AllocError>
     requires valid { IsValid (module_of «module») }
     requires sizes { StrictSizeRule (module_of «module») }
+    requires free { reserved_at (module_of «module») ≡ None }
+    requires few { All (λ f. Count (module_of «module») f ≤ 50000) (module_of «module»).funcs }
     ensures { IfOk result (λ v. Rewrites (module_of «module») all_listed (module_of v)) }
 {
     let valid = match validate(alloc, module) {
@@ -46,7 +46,9 @@ pub(crate) fn rewritten(alloc: Global, module: Module) -> Result<Valid, AllocErr
     };
     match asyncify_module(alloc, &valid, &settings) {
         Ok(rewritten) => Ok(rewritten.module),
-        Err(_) => Err(AllocError),
+        Err(RewriteFault::Memory) => Err(AllocError),
+        Err(RewriteFault::Reserved(_)) => unreachable!(),
+        Err(RewriteFault::Locals { .. }) => unreachable!(),
     }
 }
 
