@@ -1,8 +1,10 @@
 -- A program that is set up begins the story of the program that it is in a world.
-use Rattle.std.proofs.Common.{◌≡◌, ℕ, List, [], map, Bool, Result, Ok, sym, ap, ◌∙◌, subst}
+use Rattle.std.proofs.Common.{◌≡◌, ◌≤◌, ℕ, List, [], length, map, All, Bool, Result, Ok, arith, sym, ap, ◌∙◌, subst}
 use Rattle.wa_types.specs.declared.values.Value.{Value}
+use Rattle.std.proofs.lemmas.List.{length-map}
 use Rattle.wa_types.specs.Syntax.{Module}
 use Rattle.wa_model.specs.declared.answers.Area.{Area}
+use Rattle.wa_model.specs.Fitting.{types_of}
 use Rattle.wa_model.specs.Outside.{AnswerLine}
 use Rattle.wa_model.specs.Plan.{Entry}
 use Rattle.wa_model.specs.Script.{ProgramText}
@@ -10,15 +12,16 @@ use Rattle.wa_model.specs.View.{answer_line_of}
 use Rattle.wa_model.specs.World as W
 use Rattle.host_setup.specs.SetUp.{NamedEntry, Fault, set_up}
 use Rattle.host_setup.specs.Views.{entry_of as named_entry_of}
+use Rattle.host_moves.specs.Moves.{HasShortPokes}
 use Rattle.pause_host.specs.declared.plan.Plan.{Plan}
 use Rattle.pause_host.specs.declared.program.Program.{Program}
-use Rattle.pause_host.specs.Programs.{Follows, SetsUp, named_entries, source_of, world_program}
+use Rattle.pause_host.specs.Programs.{Follows, IsPlan, SetsUp, named_entries, source_of, world_program}
 use Rattle.pause_host.specs.Settings.{calls_of}
 use Rattle.script_setup.specs.declared.setting.SetUp.{SetUp as SetUpValue}
 use Rattle.script_setup.specs.SetUpRules.{named_entry, set_up_rules}
 use Rattle.script_setup.specs.Views.{set_up_of}
 use Rattle.script_setup.proofs.GlobalTypes.{given_by_rules}
-use Rattle.hosting.specs.Hosted.{hosted_program, look_at}
+use Rattle.hosting.specs.Hosted.{FitsPlan, IsListing, hosted_program, look_at}
 use Rattle.hosting.specs.Views.{Suits, listing}
 
 -- what is made by the rules suits
@@ -38,6 +41,20 @@ pub record IsPlanOf (t : ProgramText) (made : SetUpValue) (x : Plan) : Type 0 wh
 module _ (t : ProgramText) (made : SetUpValue) (x : Plan) (of : IsPlanOf t made x) (suits : Suits (source_of x) t made) where
   same_entries : named_entries x ≡ map named_entry t.entries
   same_entries = ap (λ (v : _). map named_entry_of v.items) of.entries ∙ suits.entries
+
+  -- the plan can be set up
+  pub is_plan : IsListing (source_of x) (listing x.listed) → FitsPlan t → IsPlan x
+  is_plan listed fits =
+      let few : length x.entries.items ≡ length t.entries = sym (length-map x.entries.items named_entry_of) ∙ ap (λ (es : List NamedEntry). length es) same_entries ∙ length-map t.entries named_entry in
+      let below = fits.entries in
+      record {
+        listed = listed;
+        globals = ap (λ (v : _). types_of v.items) of.globals ∙ suits.globals;
+        some_steps = subst (λ (n : ℕ). 1 ≤ n) (sym of.steps) fits.some_steps;
+        few_steps = subst (λ (n : ℕ). n ≤ 1000000000) (sym of.steps) fits.few_steps;
+        entries = omega (arith, few, below);
+        pokes = subst (All HasShortPokes) (sym of.answers) fits.pokes;
+      }
 
   same_funcs : (funcs : List ℕ) → set_up (source_of x) x.area (named_entries x) ≡ Ok funcs → funcs ≡ made.funcs.items
   same_funcs funcs e =

@@ -1,10 +1,12 @@
 -- What is told of a program of a script that runs alone and has no devices.
 use Rattle.std.specs.Prelude.{◌≡◌, ◌⊎◌, ◌≤◌, ◌<◌, ◌^◌, ◌++◌, ℕ, List, [], ◌∷◌, length, map, take, Option, Some, Bool, All}
 use Rattle.wa_types.specs.Modules.{func_imports}
+use Rattle.wa_types.specs.Sizes.{value_fits}
 use Rattle.wa_types.specs.Syntax.{Module}
 use Rattle.wa_model.specs.Blocking.{Note}
-use Rattle.wa_model.specs.Outside.{Line}
-use Rattle.wa_model.specs.Script.{ProgramText, ShowText}
+use Rattle.wa_model.specs.Outside.{AnswerLine, Line}
+use Rattle.wa_model.specs.Plan.{AnswerFits}
+use Rattle.wa_model.specs.Script.{EntryText, GlobalText, ProgramText, ShowText}
 use Rattle.wa_model.specs.Transcript.{Transcript, event_lines}
 use Rattle.wa_model.specs.World.{Look, Program, ProtocolWorld}
 use Rattle.host_moves.specs.Moves.{HasShortPokes}
@@ -22,6 +24,12 @@ pub record FitsPlan (t : ProgramText) : Type 0 where
   pub few_steps : t.steps ≤ 1000000000
   pub entries : length t.entries < 2 ^ 32
   pub pokes : All HasShortPokes t.answers
+
+-- Values, and the numbers of answers, lie in the ranges of their types.
+pub record HasRanges (t : ProgramText) : Type 0 where
+  pub globals : All (λ (g : GlobalText). value_fits g.value) t.globals
+  pub entries : All (λ (e : EntryText). All value_fits e.args) t.entries
+  pub answers : All (λ (l : AnswerLine). AnswerFits l.answer) t.answers
 
 -- Where it is told which function imports are listed, it is told of each.
 abbrev pub IsListing : Module → Option (List Bool) → Type 0

@@ -13,4 +13,4 @@ mod story;
 
 pub use fault::HostFault;
 pub use hosting::host_program;
-pub use laws::scripts_fit;
+pub use laws::{scripts_fit, scripts_in_range};

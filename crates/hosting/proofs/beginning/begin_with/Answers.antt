@@ -3,8 +3,14 @@ use Rattle.wa_types.specs.View.{module_of}
 use Rattle.pause_host.specs.declared.plan.Plan.{Plan}
 use Rattle.script_reader.specs.Views.{program_of}
 use Rattle.script_setup.specs.SetUpRules.{program_names}
-use Rattle.hosting.proofs.Starts.{begins}
+use Rattle.hosting.proofs.Starts.{begins, is_plan}
 use Rattle.hosting.proofs.beginning.begin_with.Goals as goal
+
+pub new-requires : goal.new-requires
+new-requires c =
+    let t = c.args.text in
+    let x : Plan = record { «module» = c.args.valid; listed = c.args.listed; area = t.area; steps = t.steps; globals = c.args.made.globals; entries = c.args.made.entries; answers = t.answers } in
+    is_plan (program_of t) c.args.made x (record { entries = refl; globals = refl; area = refl; steps = refl; answers = refl }) c.requires.suits c.requires.listed c.requires.fits
 
 pub returns-in-Ok : goal.returns-in-Ok
 returns-in-Ok c =
