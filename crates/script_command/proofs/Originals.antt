@@ -47,7 +47,8 @@ unwritten (R.Invalid func rule at) h = tt
 unwritten (R.RewrittenLocals found) h = tt
 unwritten (R.Output found) h = h
 
-pub bad_original : (t : ProgramText) (s : Settings) (bytes : List ℕ) (refusal : SourceRefusal) (r : Refusal) → settings_for t ≡ Some s → IsRefusedFor s bytes (cause_of refusal) → U.IsUnwritten (S.Refused refusal)
+pub bad_original : (t : ProgramText) (s : Settings) (bytes : List ℕ) (refusal : SourceRefusal) (r : Refusal) → settings_for t ≡ Some s → IsRefusedFor s bytes (cause_of refusal)
+    → U.IsUnwritten (S.Refused refusal)
     → r ≡ refusal_for (cause_of refusal) → IsBadOriginal t bytes r
 bad_original t s bytes refusal r e why before is = (s, cause_of refusal, e, why, unwritten refusal before, is)
 

@@ -19,4 +19,5 @@ pub returns-clause-refused : goal.returns-clause-refused
 returns-clause-refused c =
     let why = subst (λ (fault : SourceFault). IsFaultOf (settings_of c.in-Ok.settings) c.args.bytes.now fault) c.in-Err-Refused.field-0-is c.in-Err-Refused.ensures.refused in
     let before = subst IsUnwritten c.in-Err-Refused.field-0-is c.in-Err-Refused.ensures.unwritten in
-    bad_original (program_of c.args.text.now) (settings_of c.in-Ok.settings) c.args.bytes.now c.in-Err-Refused.refusal (refusal_of c.refusal_kind.result) c.in-Ok.ensures.settings why before c.refusal_kind.ensures
+    bad_original (program_of c.args.text.now) (settings_of c.in-Ok.settings) c.args.bytes.now c.in-Err-Refused.refusal (refusal_of c.refusal_kind.result) c.in-Ok.ensures.settings why
+    before c.refusal_kind.ensures
