@@ -14,6 +14,11 @@ pub record Supply : Type 0 where
   pub devices : List Device
   pub faults : List ℕ
 
+-- Asked of calls that are lent devices, and always so. (A call of another crate that is lent boxes and asks for nothing counts as one
+-- that may put boxes of its own in their place.)
+abbrev pub IsLent : Type 0
+IsLent = Unit {0}
+
 -- What an outcome says of the counts: no device was asked, and none changed; or it was the first device of the name to which the
 -- import is bound, only whose count may rise, and did where it failed.
 pub data Counts (import : ℕ) (bound : Option (List ℕ)) (ds : List Device) (o : Outcome) (old new : List ℕ) : Type 0 where
