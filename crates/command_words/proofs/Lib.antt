@@ -1,1 +1,2 @@
 pub mod SaidWords
+mod WordCases

@@ -1,12 +1,13 @@
 -- The words of a command, of the program's values.
-use Rattle.std.specs.Prelude.{◌≡◌, List, ℕ, Option, Some, None, Result, Ok, Err}
+use Rattle.std.specs.Prelude.{◌≡◌, ◌≤◌, List, ℕ, Option, Some, None, Result, Ok, Err}
 use Rattle.std.specs.Option.{option_map}
 use denote.Ref.{Bor}
 use Rattle.call_graph.specs.Settings.{settings_of}
 use Rattle.call_graph.specs.declared.settings.Policy.TheVariants.{All}
-use Rattle.wa_model.specs.Command.{Command, transform, Said, Place, anywhere, behind_imports, behind_options, Word, imports_word, ignore_imports_word, ignore_indirect_word, end_word, unknown_word, imports_with, name_word}
+use Rattle.wa_model.specs.Command.{transform, Said, Place, anywhere, behind_imports, behind_options, Word, imports_word, ignore_imports_word, ignore_indirect_word, end_word, unknown_word, imports_with, name_word}
+use Rattle.wa_model.specs.Spelled.{Spelled, rewrites, hosts, runs, generates}
 use Rattle.command_words.specs.declared.words.Command.{Command as CommandValue}
-use Rattle.command_words.specs.declared.words.Command.TheVariants.{Transform}
+use Rattle.command_words.specs.declared.words.Command.TheVariants.{Transform, Host, Run, Gen}
 use Rattle.command_words.specs.declared.words.WordsFault.{WordsFault}
 use Rattle.command_words.specs.declared.words.WordsFault.TheVariants.{Memory, Usage}
 use Rattle.command_words.specs.declared.said.Place.{Place as PlaceValue}
@@ -15,12 +16,21 @@ use Rattle.command_words.specs.declared.said.Said.{Said as SaidValue}
 use Rattle.command_words.specs.declared.said.Word.{Word as WordValue}
 use Rattle.command_words.specs.declared.said.Word.TheVariants.{Imports, ImportsWith, IgnoreImports, IgnoreIndirect, End, Name, Unknown}
 
-abbrev pub command_of : CommandValue → Command
-command_of (Transform settings input output) = transform (settings_of settings) input.now output.now
+abbrev pub spelled_of : CommandValue → Spelled
+spelled_of (Transform settings input output) = rewrites (transform (settings_of settings) input.now output.now)
+spelled_of (Host script) = hosts script.now
+spelled_of (Run script) = runs script.now
+spelled_of (Gen number output) = generates number output.now
 
 -- frames save all locals
 abbrev pub SavesAll : CommandValue → Type 0
 SavesAll (Transform settings input output) = settings.policy ≡ All
+SavesAll _ = Unit {0}
+
+-- a generated module has 1 to 4,000 functions
+abbrev pub HasFewFunctions : CommandValue → Type 0
+HasFewFunctions (Gen number output) = (1 ≤ number) × (number ≤ 4000)
+HasFewFunctions _ = Unit {0}
 
 -- What was read is what the words spell; `Usage` says that they spell nothing.
 abbrev pub Reads : {X Y : Type 0} → (X → Y) → Result X WordsFault → Option Y → Type 0

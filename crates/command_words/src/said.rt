@@ -2,8 +2,9 @@
 ghost use Rattle.std.specs.Prelude.{◌≡◌, IsSome, Some, codes, map};
 ghost use Rattle.std.specs.Option.{option_map};
 ghost use Rattle.std.specs.String.{string_bytes};
-ghost use Rattle.wa_model.specs.Command.{behind, behind_imports, is_hyphened, named_word, nothing_said, said, say, say_at, say_file, say_ignore_imports, say_ignore_indirect, say_imports, say_word, with_value, word_of};
-ghost use Rattle.command_words.specs.Words.{said_of, word_told};
+ghost use Rattle.wa_model.specs.Command.{anywhere, behind, behind_imports, behind_options, is_hyphened, named_word, nothing_said, said, say, say_at, say_file, say_ignore_imports, say_ignore_indirect, say_imports, say_word, with_value, word_of};
+ghost use Rattle.wa_model.specs.Spelled.{is_plain};
+ghost use Rattle.command_words.specs.Words.{said_of, text_of, word_told};
 
 /// What a word is where an option may stand.
 #[derive(Clone, Copy, Debug)]
@@ -60,6 +61,33 @@ fn nothing_said<'w>() -> Said<'w>
 }
 
 impl<'w> Said<'w> {
+    /// No option was given.
+    pub fn is_plain(self) -> bool
+        ensures { result ≡ is_plain (said_of self.entry).place (said_of self.entry).imports self.entry.ignore_imports self.entry.ignore_indirect }
+    {
+        match self.place {
+            Place::BehindImports => false,
+            Place::Anywhere => self.has_no_option(),
+            Place::BehindOptions => self.has_no_option(),
+        }
+    }
+
+    // None was given, wherever the next word stands.
+    fn has_no_option(self) -> bool
+        ensures anywhere { result ≡ is_plain anywhere (text_of self.entry.imports) self.entry.ignore_imports self.entry.ignore_indirect }
+        ensures behind { result ≡ is_plain behind_options (text_of self.entry.imports) self.entry.ignore_imports self.entry.ignore_indirect }
+    {
+        match self.imports {
+            None => {
+                if self.ignore_imports {
+                    return false;
+                }
+                !self.ignore_indirect
+            }
+            Some(_) => false,
+        }
+    }
+
     /// The words from left to right. All but a few are refused, so this doesn't go deep.
     fn say_all(self, words: &'w [String]) -> Option<Said<'w>>
         ensures { option_map said_of result ≡ said (Some (said_of self.entry)) (map string_bytes words.now) }

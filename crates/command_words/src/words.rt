@@ -1,10 +1,13 @@
 // The words of the command line.
 ghost use Rattle.std.specs.Prelude.{◌≡◌, None, Some, false, map, IfOk};
+ghost use Rattle.std.specs.Option.{option_map};
 ghost use Rattle.std.specs.String.{string_bytes};
 ghost use Rattle.call_graph.specs.Settings.{choice_of};
 ghost use Rattle.wa_model.specs.Command.{choice_said, command, transform_said, with_files};
-ghost use Rattle.command_words.specs.Words.{Reads, SavesAll, command_of, said_of, text_of};
+ghost use Rattle.wa_model.specs.Spelled.{rewrites, spelled};
+ghost use Rattle.command_words.specs.Words.{HasFewFunctions, Reads, SavesAll, said_of, spelled_of, text_of};
 
+use crate::files::{gen_words, one_file};
 use crate::said::{Place, Said, all_said};
 use call_graph::{Choice, ImportList, ListFault, Policy, Settings};
 use std::alloc::Global;
@@ -13,9 +16,23 @@ use thiserror::Error;
 /// A command, with its settings and the names of its files.
 #[derive(Debug, Drop)]
 pub enum Command<'w> {
+    /// Rewrite the module in one file into another.
     Transform {
         settings: Settings,
         input: &'w str,
+        output: &'w str,
+    },
+    /// Run the prepared modules of a script.
+    Host {
+        script: &'w str,
+    },
+    /// Run the original modules of a script, rewritten.
+    Run {
+        script: &'w str,
+    },
+    /// Write the generated module of this many functions, 1 to 4,000, and run it rewritten.
+    Gen {
+        number: u32,
         output: &'w str,
     },
 }
@@ -31,8 +48,31 @@ pub enum WordsFault {
 
 /// The command that the words spell, if they spell one.
 pub fn read_words<'w>(alloc: Global, words: &'w [String]) -> Result<Command<'w>, WordsFault>
-    ensures command { Reads command_of result (command (map string_bytes words.now)) }
+    ensures command { Reads spelled_of result (spelled (map string_bytes words.now)) }
     ensures policy { IfOk result SavesAll }
+    ensures number { IfOk result HasFewFunctions }
+{
+    let [first, rest @ ..] = words else {
+        return Err(WordsFault::Usage);
+    };
+    if first.as_str() == "host" {
+        let script = one_file(rest)?;
+        return Ok(Command::Host { script });
+    }
+    if first.as_str() == "run" {
+        let script = one_file(rest)?;
+        return Ok(Command::Run { script });
+    }
+    if first.as_str() == "gen" {
+        return gen_words(rest);
+    }
+    transform_words(alloc, words)
+}
+
+fn transform_words(alloc: Global, words: &[String]) -> Result<Command<'_>, WordsFault>
+    ensures command { Reads spelled_of result (option_map rewrites (command (map string_bytes words.now))) }
+    ensures policy { IfOk result SavesAll }
+    ensures number { IfOk result HasFewFunctions }
 {
     match words {
         [] => Err(WordsFault::Usage),
@@ -50,8 +90,9 @@ pub fn read_words<'w>(alloc: Global, words: &'w [String]) -> Result<Command<'w>,
 
 /// The `transform` that the words have said, if that is one whole.
 fn transform_said(alloc: Global, said: Said<'_>) -> Result<Command<'_>, WordsFault>
-    ensures command { Reads command_of result (transform_said (Some (said_of said.entry))) }
+    ensures command { Reads spelled_of result (option_map rewrites (transform_said (Some (said_of said.entry)))) }
     ensures policy { IfOk result SavesAll }
+    ensures number { IfOk result HasFewFunctions }
 {
     match said.place {
         Place::BehindImports => Err(WordsFault::Usage),
@@ -61,8 +102,9 @@ fn transform_said(alloc: Global, said: Said<'_>) -> Result<Command<'_>, WordsFau
 }
 
 fn with_choice(alloc: Global, said: Said<'_>) -> Result<Command<'_>, WordsFault>
-    ensures command { Reads command_of result (with_files (choice_said (text_of said.entry.imports) said.entry.ignore_imports) said.entry.ignore_indirect (text_of said.entry.input) (text_of said.entry.output)) }
+    ensures command { Reads spelled_of result (option_map rewrites (with_files (choice_said (text_of said.entry.imports) said.entry.ignore_imports) said.entry.ignore_indirect (text_of said.entry.input) (text_of said.entry.output))) }
     ensures policy { IfOk result SavesAll }
+    ensures number { IfOk result HasFewFunctions }
 {
     match choice_said(alloc, said.imports, said.ignore_imports) {
         Ok(choice) => with_files(choice, said.ignore_indirect, said.input, said.output),
@@ -118,8 +160,9 @@ fn with_files<'w>(
     input: Option<&'w str>,
     output: Option<&'w str>,
 ) -> Result<Command<'w>, WordsFault>
-    ensures command { Reads command_of result (with_files (Some (choice_of choice)) ignore_indirect (text_of input.entry) (text_of output.entry)) }
+    ensures command { Reads spelled_of result (option_map rewrites (with_files (Some (choice_of choice)) ignore_indirect (text_of input.entry) (text_of output.entry))) }
     ensures policy { IfOk result SavesAll }
+    ensures number { IfOk result HasFewFunctions }
 {
     let Some(input) = input else {
         return Err(WordsFault::Usage);

@@ -12,7 +12,9 @@ mod entries;
 mod plan;
 mod program;
 mod setting;
+mod unbound;
 
 pub use host_setup::{Entry, SetupFault};
 pub use plan::Plan;
 pub use program::Program;
+pub use unbound::unbound;

@@ -6,4 +6,4 @@
 
 mod refused;
 
-pub use refused::{out_of_memory, refuse, refuse_read, refuse_write};
+pub use refused::{out_of_memory, refuse, refuse_program, refuse_read, refuse_write};

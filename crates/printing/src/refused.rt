@@ -33,11 +33,26 @@ pub fn refuse<S: Sink>(alloc: Global, out: &mut S, kind: RefusalKind) -> u8
         (PrintsMemory (refusal_line None (refusal_of kind))) }
     ensures faults { S.faults out.old ≤ S.faults out.new }
 {
+    refuse_program(alloc, out, None, kind)
+}
+
+/// Prints the line of a refusal, as `refuse` does; of the program of this number, where one is told.
+pub fn refuse_program<S: Sink>(
+    alloc: Global,
+    out: &mut S,
+    program: Option<u32>,
+    kind: RefusalKind,
+) -> u8
+    requires { status_of (refusal_of kind) ≢ 9 }
+    ensures status { (result ≡ status_of (refusal_of kind)) ⊎ (result ≡ 9) }
+    ensures printed { result ≡ status_of (refusal_of kind) → Becomes (S.taken out.old) (S.taken out.new)
+        (Prints (refusal_line program (refusal_of kind)) (S.faults out.old) (S.faults out.new)) }
+    ensures memory { result ≡ 9 → Becomes (S.taken out.old) (S.taken out.new)
+        (PrintsMemory (refusal_line program (refusal_of kind))) }
+    ensures faults { S.faults out.old ≤ S.faults out.new }
+{
     let status = status_of(&kind);
-    let refusal = Refusal {
-        program: None,
-        kind,
-    };
+    let refusal = Refusal { program, kind };
     match fault_line(alloc, &refusal) {
         Ok(line) => put_refusal(out, status, &line),
         Err(_) => out_of_memory(out),

@@ -1,0 +1,62 @@
+-- Words of small commands that the definitions compute, wrong readings beside right ones.
+use Rattle.std.proofs.Common.{◌≡◌, [], ◌∷◌, Some, None, refl}
+use Rattle.std.specs.Prelude.{codes}
+use Rattle.std.specs.Str.{is_utf8, chars}
+use Rattle.std.proofs.Math.Utf8.{encode}
+use Rattle.std.specs.Fmt.{digits}
+use Rattle.wa_model.specs.Spelled.{spelled, hosts, runs, generates}
+
+-- ---- a script alone
+
+hosts_script : spelled (codes "host" ∷ codes "s" ∷ []) ≡ Some (hosts (codes "s"))
+unfolding is_utf8 chars encode digits
+hosts_script = refl
+
+runs_script : spelled (codes "run" ∷ codes "s" ∷ []) ≡ Some (runs (codes "s"))
+unfolding is_utf8 chars encode digits
+runs_script = refl
+
+-- behind `--` a name may begin with `-`
+hyphened_script : (spelled (codes "host" ∷ codes "--" ∷ codes "-s" ∷ []) ≡ Some (hosts (codes "-s"))) × (spelled (codes "host" ∷ codes "-s" ∷ []) ≡ None)
+unfolding is_utf8 chars encode digits
+hyphened_script = (refl, refl)
+
+-- the script is one
+no_script : spelled (codes "run" ∷ []) ≡ None
+unfolding is_utf8 chars encode digits
+no_script = refl
+
+two_scripts : spelled (codes "run" ∷ codes "a" ∷ codes "b" ∷ []) ≡ None
+unfolding is_utf8 chars encode digits
+two_scripts = refl
+
+-- the options of `transform` are none of these commands
+no_options : (spelled (codes "host" ∷ codes "--imports" ∷ codes "env.a" ∷ codes "s" ∷ []) ≡ None) × (spelled (codes "host" ∷ codes "--ignore-indirect" ∷ codes "s" ∷ []) ≡ None)
+unfolding is_utf8 chars encode digits
+no_options = (refl, refl)
+
+-- ---- a number and a file
+
+generates_four : spelled (codes "gen" ∷ codes "4" ∷ codes "out" ∷ []) ≡ Some (generates 4 (codes "out"))
+unfolding is_utf8 chars encode digits
+generates_four = refl
+
+generates_most : spelled (codes "gen" ∷ codes "4000" ∷ codes "out" ∷ []) ≡ Some (generates 4000 (codes "out"))
+unfolding is_utf8 chars encode digits
+generates_most = refl
+
+-- from 1 to 4,000, without a leading zero or a sign
+no_number :
+    (spelled (codes "gen" ∷ codes "04" ∷ codes "out" ∷ []) ≡ None) × (spelled (codes "gen" ∷ codes "+4" ∷ codes "out" ∷ []) ≡ None)
+    × (spelled (codes "gen" ∷ codes "0" ∷ codes "out" ∷ []) ≡ None) × (spelled (codes "gen" ∷ codes "4001" ∷ codes "out" ∷ []) ≡ None)
+unfolding is_utf8 chars encode digits
+no_number = (refl, refl, refl, refl)
+
+no_output : spelled (codes "gen" ∷ codes "4" ∷ []) ≡ None
+unfolding is_utf8 chars encode digits
+no_output = refl
+
+-- the first word is a command's name
+no_command : (spelled [] ≡ None) × (spelled (codes "hosts" ∷ codes "s" ∷ []) ≡ None) × (spelled (codes "--" ∷ codes "host" ∷ codes "s" ∷ []) ≡ None)
+unfolding is_utf8 chars encode digits
+no_command = (refl, refl, refl)

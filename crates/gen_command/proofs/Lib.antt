@@ -1,0 +1,2 @@
+pub mod GeneratedSizes
+pub mod Telling
