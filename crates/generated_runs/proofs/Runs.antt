@@ -1,6 +1,6 @@
 -- The program over a generated module that was rewritten, and what it tells.
 use Rattle.std.proofs.Common.{◌≡◌, ℕ, ◌++◌, List, [], ◌∷◌, Option, Some, None, Result, Ok, Err, refl, sym, ap, ◌∙◌, subst, length, map, arith, All, Vec, Global}
-use Rattle.std.specs.Prelude.{codes, true, Bool, IfOk}
+use Rattle.std.specs.Prelude.{codes, true, Bool, IfOk, slice_get}
 use Rattle.std.specs.Option.{option_map, unwrap_or}
 use Rattle.std.specs.List.{find, filter_map}
 use Rattle.std.proofs.lemmas.List.{length-map}
@@ -26,15 +26,14 @@ use Rattle.host_answers.specs.Answering.{IsShort}
 use Rattle.host_moves.specs.Moves.{HasShortPokes}
 use Rattle.host_setup.specs.Views.{entry_of}
 use Rattle.host_setup.specs.SetUp.{Fault, NamedEntry, all_told, entry_funcs, first_fault, func_in, set_up, unless_fault}
-use Rattle.host_turns.specs.Places.{Place, stands, has_ended, nowhere}
-use Rattle.host_turns.specs.Stories.{IsStory, Told}
-use Rattle.host_turns.proofs.Tellings.{told_whole}
+use Rattle.host_turns.specs.Stories.{IsStory}
 use Rattle.gen_module.specs.Generated.{generated, sleep}
 use Rattle.pause_host.specs.declared.plan.Plan.{Plan}
 use Rattle.pause_host.specs.declared.program.Program.{Program}
 use Rattle.pause_host.specs.Settings.{calls_of}
-use Rattle.pause_host.specs.Programs.{Advances, Follows, IsPlan, SetsUp, end_at, end_in, ended_as, named_entries, place_of, world_program}
-use Rattle.host_moves.specs.Views.{lines_in}
+use Rattle.pause_host.specs.Programs.{AdvancesAlone, BindsAs, FollowsAlone, IsPlan, SetsUp, end_in, ended_as, named_entries, world_program}
+use Rattle.pause_host.proofs.Advancing.{runs_first, starts_alone, story_told as story_of}
+use Rattle.pause_host.proofs.Binds.{none_at, none_for_each}
 use Rattle.generated_runs.specs.Plans.{PlansRun, run_entry}
 use Rattle.generated_runs.specs.Playing.{all_listed, run_program, sleep_answer}
 use Rattle.generated_runs.specs.Telling.{TellsNext}
@@ -65,7 +64,7 @@ with_parts p globals entries funcs area listed steps answers = record {
   looks = [];
 }
 
-pub is_run_program : (n : ℕ) (p : Module) (x : Plan) (funcs : List ℕ) → PlansRun p x → funcs ≡ n ∷ [] → world_program x funcs [] ≡ run_program n p
+pub is_run_program : (n : ℕ) (p : Module) (x : Plan) (funcs : List ℕ) → PlansRun p x → funcs ≡ n ∷ [] → world_program x funcs [] [] ≡ run_program n p
 is_run_program n p x funcs h e =
     ap (λ z. with_parts z x.globals.items (named_entries x) funcs x.area (option_map (λ (v : Vec Bool Global). v.items) x.listed) x.steps (map answer_line_of x.answers.items)) h.source
     ∙ ap (λ z. with_parts p z (named_entries x) funcs x.area (option_map (λ (v : Vec Bool Global). v.items) x.listed) x.steps (map answer_line_of x.answers.items)) h.globals
@@ -77,10 +76,12 @@ is_run_program n p x funcs h e =
     ∙ ap (λ z. with_parts p [] (run_entry ∷ []) (n ∷ []) (record { at = 0; len = 65536 }) (Some (true ∷ [])) 100000000 z) h.answers
 
 -- a program that was made follows that of the world
-pub made_follows : (n : ℕ) (p : Module) (x : Plan) (program : Program) → Rewrites (generated n) all_listed p → PlansRun p x → SetsUp x (Ok program) → Follows (run_program n p) [] program
+pub made_follows : (n : ℕ) (p : Module) (x : Plan) (program : Program) → Rewrites (generated n) all_listed p → PlansRun p x → SetsUp x (Ok program) → FollowsAlone (run_program n p) [] program
 made_follows n p x program r h s =
     let same : set_up p x.area (run_entry ∷ []) ≡ Ok s.0 = sym (ap (λ (z : Module). set_up z x.area (named_entries x)) h.source ∙ ap (λ (es : List NamedEntry). set_up p x.area es) h.entries) ∙ s.1 in
-    subst (λ (w : W.Program). Follows w [] program) (is_run_program n p x s.0 h (func_entered n p x.area s.0 r.exports same)) (s.2 [])
+    let bound : BindsAs x [] = λ import. sym (ap (λ bs. unwrap_or (slice_get bs import) None) h.binds ∙ none_at p import) in
+    subst (λ (w : W.Program). FollowsAlone w [] program) (is_run_program n p x s.0 h (func_entered n p x.area s.0 r.exports same))
+    (starts_alone (world_program x s.0 [] []) program (s.2 [] [] bound) s.3)
 
 -- ---- what is asked of the plan
 
@@ -101,6 +102,7 @@ one_told l e = let same : l ≡ true ∷ [] = cc in ap length same
 pub is_plan : (p : Module) (x : Plan) → p.imports ≡ sleep ∷ [] → PlansRun p x → IsPlan x
 is_plan p x i h = record {
   listed = λ l e. one_told l (sym e ∙ h.listed) ∙ sym (ap func_imports h.source ∙ one_import p i);
+  binds = ap length h.binds ∙ none_for_each p ∙ sym (ap func_imports h.source);
   globals = ap types_of h.globals ∙ sym (ap (λ (z : Module). global_types (imported imported_global z)) h.source ∙ no_globals p i);
   some_steps = omega (arith, h.steps);
   few_steps = omega (arith, h.steps);
@@ -111,29 +113,14 @@ is_plan p x i h = record {
 -- ---- what it tells
 
 module _ (w : W.Program) (x : Program) where
-  -- nothing is told of an end before any note
-  none_ended : (place : Place) → Told w [] x.steps_left (lines_in x.answers.items) place → end_at place ≡ None
-  none_ended (stands ready h) t = refl
-  none_ended (has_ended how) t = absurd (no_last t.at.before t.at.last t.at.last_is) where
-    no_last : (before : List Note) (last : Note) → [] ≡ before ++ last ∷ [] → ⊥
-    no_last [] last e = cc
-    no_last (y ∷ ys) last e = cc
-  none_ended nowhere t = absurd t.at
+  pub not_ended : FollowsAlone w [] x → ended_as x ≡ None
+  not_ended f = runs_first w f.outcomes x f.follows
 
-  pub not_ended : Follows w [] x → ended_as x ≡ None
-  not_ended f = none_ended (place_of x x.state) f.at.told
-
-  -- a story whose end was told is whole
-  is_whole : (notes : List Note) (how : End) (place : Place) → Told w notes x.steps_left (lines_in x.answers.items) place → end_at place ≡ Some how → IsStory w notes
-  is_whole notes how (stands ready h) t e = cc
-  is_whole notes how (has_ended last) t e = told_whole w notes x.steps_left (lines_in x.answers.items) last t
-  is_whole notes how nowhere t e = cc
-
-  pub story_told : (notes : List Note) (how : End) → Follows w notes x → ended_as x ≡ Some how → IsStory w notes
-  story_told notes how f e = is_whole notes how (place_of x x.state) f.at.told e
+  pub story_told : (notes : List Note) (how : End) → FollowsAlone w notes x → ended_as x ≡ Some how → IsStory w notes
+  story_told notes how f e = story_of w notes x how f e
 
   -- an event that is told
-  pub tells : (notes : List Note) (told : EventValue) (event : Event) → event_of told ≡ event → Advances w notes told x → TellsNext w notes event x
+  pub tells : (notes : List Note) (told : EventValue) (event : Event) → event_of told ≡ event → AdvancesAlone w notes told x → TellsNext w notes event x
   tells notes told event e a = record { note = a.note; event_is = a.event_is ∙ e; follows = a.follows; ended_is = a.ended_is ∙ ap end_in (a.event_is ∙ e) }
 
 -- five notes of these events

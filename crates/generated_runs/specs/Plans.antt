@@ -5,7 +5,7 @@ use Rattle.wa_types.specs.declared.values.Value.TheVariants as V
 use Rattle.wa_types.specs.Syntax.{Module}
 use Rattle.wa_model.specs.View.{answer_line_of}
 use Rattle.host_setup.specs.SetUp.{NamedEntry}
-use Rattle.pause_host.specs.Programs.{named_entries, source_of}
+use Rattle.pause_host.specs.Programs.{named_entries, none_bound, source_of}
 use Rattle.pause_host.specs.declared.plan.Plan.{Plan}
 use Rattle.generated_runs.specs.Playing.{sleep_answer}
 
@@ -17,6 +17,7 @@ run_entry = record { name = codes "run"; args = V.I32 7 ∷ [] }
 pub record PlansRun (p : Module) (x : Plan) : Type 0 where
   pub source : source_of x ≡ p
   pub listed : option_map (λ v. v.items) x.listed ≡ Some (true ∷ [])
+  pub binds : x.binds.items ≡ none_bound p
   pub area : x.area ≡ record { at = 0; len = 65536 }
   pub steps : x.steps ≡ 100000000
   pub globals : x.globals.items ≡ []

@@ -9,7 +9,7 @@ ghost use Rattle.wa_types.specs.View.{module_of};
 ghost use Rattle.wa_types.specs.declared.values.Value.{Value as PlainValue};
 ghost use Rattle.wa_types.specs.declared.values.Value.TheVariants as V;
 ghost use Rattle.gen_module.specs.Generated.{generated, sleep};
-ghost use Rattle.pause_host.specs.Programs.{Follows, ended_as};
+ghost use Rattle.pause_host.specs.Programs.{FollowsAlone, ended_as};
 ghost use Rattle.generated_runs.specs.Playing.{PausesOnce, PlaysGenerated, all_listed, run_program};
 ghost use Rattle.generated_runs.specs.Telling.{TellsNext};
 
@@ -46,7 +46,7 @@ fn play(alloc: Global, module: &Valid) -> Result<Played, AllocError>
 }
 
 fn play_through(program: &mut Program<'_>) -> Result<Played, AllocError>
-    ensures { (w : WorldProgram) → Follows w [] program.old → IfOk result (λ p. PausesOnce w p.used p.value) }
+    ensures { (w : WorldProgram) → FollowsAlone w [] program.old → IfOk result (λ p. PausesOnce w p.used p.value) }
 {
     hear_call(program)?;
     let used = hear_pause(program)?;
@@ -58,10 +58,10 @@ fn play_through(program: &mut Program<'_>) -> Result<Played, AllocError>
 
 // The import is called.
 fn hear_call(program: &mut Program<'_>) -> Result<(), AllocError>
-    ensures { (w : WorldProgram) (notes : List Note) → Follows w notes program.old → ended_as program.old ≡ None
+    ensures { (w : WorldProgram) (notes : List Note) → FollowsAlone w notes program.old → ended_as program.old ≡ None
         → OnOk result ((call : Call) × TellsNext w notes (called call) program.new) }
 {
-    match program.advance()? {
+    match program.advance_alone()? {
         Event::Called(_) => Ok(()),
         _ => Err(AllocError),
     }
@@ -69,10 +69,10 @@ fn hear_call(program: &mut Program<'_>) -> Result<(), AllocError>
 
 // The program pauses; how many bytes of its area are used.
 fn hear_pause(program: &mut Program<'_>) -> Result<u32, AllocError>
-    ensures { (w : WorldProgram) (notes : List Note) → Follows w notes program.old → ended_as program.old ≡ None
+    ensures { (w : WorldProgram) (notes : List Note) → FollowsAlone w notes program.old → ended_as program.old ≡ None
         → IfOk result (λ used. (ticks : ℕ) × TellsNext w notes (paused ticks used) program.new) }
 {
-    match program.advance()? {
+    match program.advance_alone()? {
         Event::Paused { used, .. } => Ok(used),
         _ => Err(AllocError),
     }
@@ -80,10 +80,10 @@ fn hear_pause(program: &mut Program<'_>) -> Result<u32, AllocError>
 
 // The call is answered.
 fn hear_answer(program: &mut Program<'_>) -> Result<(), AllocError>
-    ensures { (w : WorldProgram) (notes : List Note) → Follows w notes program.old → ended_as program.old ≡ None
+    ensures { (w : WorldProgram) (notes : List Note) → FollowsAlone w notes program.old → ended_as program.old ≡ None
         → OnOk result ((answer : Option PlainValue) × TellsNext w notes (answered answer) program.new) }
 {
-    match program.advance()? {
+    match program.advance_alone()? {
         Event::Answered(_) => Ok(()),
         _ => Err(AllocError),
     }
@@ -91,10 +91,10 @@ fn hear_answer(program: &mut Program<'_>) -> Result<(), AllocError>
 
 // The entry returns this number.
 fn hear_return(program: &mut Program<'_>) -> Result<u32, AllocError>
-    ensures { (w : WorldProgram) (notes : List Note) → Follows w notes program.old → ended_as program.old ≡ None
+    ensures { (w : WorldProgram) (notes : List Note) → FollowsAlone w notes program.old → ended_as program.old ≡ None
         → IfOk result (λ value. (entry : ℕ) × TellsNext w notes (returned entry (Some (V.I32 value))) program.new) }
 {
-    match program.advance()? {
+    match program.advance_alone()? {
         Event::Returned { value, .. } => number_of(value),
         _ => Err(AllocError),
     }
@@ -120,10 +120,10 @@ fn number_in(value: Value) -> Result<u32, AllocError>
 
 // All entries have returned.
 fn hear_end(program: &mut Program<'_>) -> Result<(), AllocError>
-    ensures { (w : WorldProgram) (notes : List Note) → Follows w notes program.old → ended_as program.old ≡ None
+    ensures { (w : WorldProgram) (notes : List Note) → FollowsAlone w notes program.old → ended_as program.old ≡ None
         → OnOk result (TellsNext w notes (ended Done) program.new) }
 {
-    match program.advance()? {
+    match program.advance_alone()? {
         Event::Ended(end) => done(&end),
         _ => Err(AllocError),
     }

@@ -9,13 +9,13 @@ ghost use Rattle.wa_types.specs.Validity.{Valid as IsValid};
 ghost use Rattle.wa_types.specs.View.{module_of};
 ghost use Rattle.asyncify_runtime.specs.Reserved.{reserved_at};
 ghost use Rattle.gen_module.specs.Generated.{generated, sleep};
-ghost use Rattle.pause_host.specs.Programs.{Follows};
+ghost use Rattle.pause_host.specs.Programs.{FollowsAlone};
 ghost use Rattle.generated_runs.specs.Plans.{PlansRun, run_entry};
 ghost use Rattle.generated_runs.specs.Playing.{all_listed, run_program, sleep_answer};
 
 use call_graph::{Choice, Policy, Settings};
 use module_rewrite::{RewriteFault, asyncify_module};
-use pause_host::{Entry, Plan, Program};
+use pause_host::{Entry, Plan, Program, unbound};
 use std::alloc::{AllocError, Global};
 use wa_model::{Answer, AnswerLine, Area};
 use wa_types::{Module, Name, Value};
@@ -55,7 +55,7 @@ pub(crate) fn rewritten(alloc: Global, module: Module) -> Result<Valid, AllocErr
 /// The program over a generated module that was rewritten. What set-up refuses of no such module is answered as want of memory.
 pub(crate) fn program_of<'m>(alloc: Global, module: &'m Valid) -> Result<Program<'m>, AllocError>
     requires { (module_of «module».now).imports ≡ sleep ∷ [] }
-    ensures { (n : ℕ) → Rewrites (generated n) all_listed (module_of «module».now) → IfOk result (Follows (run_program n (module_of «module».now)) []) }
+    ensures { (n : ℕ) → Rewrites (generated n) all_listed (module_of «module».now) → IfOk result (FollowsAlone (run_program n (module_of «module».now)) []) }
 {
     let plan = plan_of(alloc, module)?;
     match Program::new(alloc, plan) {
@@ -71,6 +71,7 @@ fn plan_of<'m>(alloc: Global, module: &'m Valid) -> Result<Plan<'m>, AllocError>
     Ok(Plan {
         module,
         listed: Some(vec![in alloc; true]?),
+        binds: unbound(alloc, module.module())?,
         area: AREA,
         steps: STEPS,
         globals: Vec::new(alloc),

@@ -1,5 +1,7 @@
 -- A program that is set up begins the story of the program that it is in a world.
 use Rattle.std.proofs.Common.{◌≡◌, ◌≤◌, ℕ, List, [], length, map, All, Bool, Result, Ok, arith, sym, ap, ◌∙◌, subst}
+use Rattle.std.specs.Prelude.{slice_get, None}
+use Rattle.std.specs.Option.{unwrap_or}
 use Rattle.wa_types.specs.declared.values.Value.{Value}
 use Rattle.std.proofs.lemmas.List.{length-map}
 use Rattle.wa_types.specs.Syntax.{Module}
@@ -15,8 +17,10 @@ use Rattle.host_setup.specs.Views.{entry_of as named_entry_of}
 use Rattle.host_moves.specs.Moves.{HasShortPokes}
 use Rattle.pause_host.specs.declared.plan.Plan.{Plan}
 use Rattle.pause_host.specs.declared.program.Program.{Program}
-use Rattle.pause_host.specs.Programs.{Follows, IsPlan, SetsUp, named_entries, source_of, world_program}
+use Rattle.pause_host.specs.Programs.{FollowsAlone, IsPlan, SetsUp, none_bound, named_entries, source_of, world_program}
 use Rattle.pause_host.specs.Settings.{calls_of}
+use Rattle.pause_host.proofs.Advancing.{starts_alone}
+use Rattle.pause_host.proofs.Binds.{none_at, none_for_each}
 use Rattle.script_setup.specs.declared.setting.SetUp.{SetUp as SetUpValue}
 use Rattle.script_setup.specs.SetUpRules.{named_entry, set_up_rules}
 use Rattle.script_setup.specs.Views.{set_up_of}
@@ -38,6 +42,7 @@ pub record IsPlanOf (t : ProgramText) (made : SetUpValue) (x : Plan) : Type 0 wh
   pub area : x.area ≡ t.area
   pub steps : x.steps ≡ t.steps
   pub answers : map answer_line_of x.answers.items ≡ t.answers
+  pub binds : x.binds.items ≡ none_bound (source_of x)
 
 module _ (t : ProgramText) (made : SetUpValue) (x : Plan) (of : IsPlanOf t made x) (suits : Suits (source_of x) t made) where
   same_entries : named_entries x ≡ map named_entry t.entries
@@ -51,6 +56,7 @@ module _ (t : ProgramText) (made : SetUpValue) (x : Plan) (of : IsPlanOf t made 
       let below = fits.entries in
       record {
         listed = listed;
+        binds = ap length of.binds ∙ none_for_each (source_of x);
         globals = ap (λ (v : _). types_of v.items) of.globals ∙ suits.globals;
         some_steps = subst (λ (n : ℕ). 1 ≤ n) (sym of.steps) fits.some_steps;
         few_steps = subst (λ (n : ℕ). n ≤ 1000000000) (sym of.steps) fits.few_steps;
@@ -75,7 +81,7 @@ module _ (t : ProgramText) (made : SetUpValue) (x : Plan) (of : IsPlanOf t made 
     looks = map look_at t.shows;
   }
 
-  same_world : (funcs : List ℕ) → funcs ≡ made.funcs.items → world_program x funcs (map look_at t.shows) ≡ hosted_program (source_of x) (listing x.listed) t (set_up_of made)
+  same_world : (funcs : List ℕ) → funcs ≡ made.funcs.items → world_program x funcs (map look_at t.shows) [] ≡ hosted_program (source_of x) (listing x.listed) t (set_up_of made)
   same_world funcs e =
       ap (λ (v : _). world_of v.items (calls_of (named_entries x) funcs) x.area x.steps (map answer_line_of x.answers.items)) of.globals
       ∙ ap (λ (es : List NamedEntry). world_of made.globals.items (calls_of es funcs) x.area x.steps (map answer_line_of x.answers.items)) same_entries
@@ -84,5 +90,8 @@ module _ (t : ProgramText) (made : SetUpValue) (x : Plan) (of : IsPlanOf t made 
       ∙ ap (λ (n : ℕ). world_of made.globals.items (calls_of (map named_entry t.entries) made.funcs.items) t.area n (map answer_line_of x.answers.items)) of.steps
       ∙ ap (world_of made.globals.items (calls_of (map named_entry t.entries) made.funcs.items) t.area t.steps) of.answers
 
-  pub begins : (program : Program) → SetsUp x (Ok program) → Follows (hosted_program (source_of x) (listing x.listed) t (set_up_of made)) [] program
-  begins program up = subst (λ (w : W.Program). Follows w [] program) (same_world up.0 (same_funcs up.0 up.1)) (up.2 (map look_at t.shows))
+  pub begins : (program : Program) → SetsUp x (Ok program) → FollowsAlone (hosted_program (source_of x) (listing x.listed) t (set_up_of made)) [] program
+  begins program up =
+      let w : W.Program = world_program x up.0 (map look_at t.shows) [] in
+      subst (λ (z : W.Program). FollowsAlone z [] program) (same_world up.0 (same_funcs up.0 up.1))
+      (starts_alone w program (up.2 (map look_at t.shows) [] (λ import. sym (ap (λ bs. unwrap_or (slice_get bs import) None) of.binds ∙ none_at (source_of x) import))) up.3)
