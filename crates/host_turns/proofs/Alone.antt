@@ -146,7 +146,7 @@ module _ (w : Program) where
       record { last = more.last; over = more.over; events = an_event plays more.events (lines_split notes due) }
 
 pub story_is_world : StoryIsWorld
-story_is_world w notes free story =
+story_is_world w notes story =
     let a : Actor = record { due = 0; notes = notes; outcomes = story.outcomes; answers = w.answers } in
     let p : Played w 1 0 notes story.outcomes w.answers [] [] = played w (length notes) 1 0 notes story.outcomes w.answers story.lines [] [] (omega arith) story.meets in
     record {

@@ -1,5 +1,7 @@
 -- What a program has told begins its story, and is all of it at its end.
 use Rattle.std.proofs.Common.{◌≡◌, ◌≤◌, ℕ, ◌+◌, ◌-◌, ◌++◌, List, [], ◌∷◌, Option, Some, None, false, refl, sym, ap, ◌∙◌, subst, append_assoc, append-nil, arith}
+use Rattle.wa_types.specs.declared.values.Value.{Value}
+use Rattle.wa_types.specs.Syntax.{Module}
 use Rattle.wa_model.specs.declared.events.End.TheVariants.{StepsSpent}
 use Rattle.wa_model.specs.Machine.{Ran, still, run}
 use Rattle.wa_model.specs.Outside.{Call, AnswerLine, ended}
@@ -9,9 +11,10 @@ use Rattle.wa_model.specs.Protocol.{Held, free, starting, busy, calling, aside, 
 use Rattle.wa_model.specs.Behaves.{IsPrefix}
 use Rattle.wa_model.specs.World.{Program, Device, MeetsBound, call_in, NoteMeets, CallsMeet, unless_over, protocol_story}
 use Rattle.host_turns.specs.Stretch.{meeting, Stretch, is_over}
-use Rattle.host_turns.specs.Places.{Place, stands, has_ended, nowhere, Takes, Lands, goes_on, ends, spends}
-use Rattle.host_turns.specs.Stories.{opened, Unbound, Made, IsAt}
-use Rattle.host_turns.specs.Laws.{NothingToldYet, OneMoreTold, ToldBegins, ToldWhole}
+use Rattle.host_turns.specs.Places.{Place, stands, has_ended, nowhere, Lands, goes_on, ends, spends}
+use Rattle.host_turns.specs.Supplies.{Supply, bound_to, Takes}
+use Rattle.host_turns.specs.Stories.{opened, Made, IsAt}
+use Rattle.host_turns.specs.Laws.{NothingToldYet, OneMoreTold, PlaceBegins, PlaceWhole, OneMoreMet, NothingToldAlone, OneMoreAlone, ToldBegins, ToldWhole}
 use Rattle.host_turns.proofs.Stretches.{compose, nowhere_on, whole_run, over_still, spent_still}
 
 -- ---- calls met one behind another
@@ -31,11 +34,26 @@ calls_longer w (y ∷ ys) x os os' lines lines1 lines2 ds ds1 ds2 h k =
     note_longer w (call_in y.event) os os' lines ds (λ o l d. CallsMeet w ys o l d [] lines1 ds1) (λ o l d. CallsMeet w (ys ++ x ∷ []) o l d [] lines2 ds2)
     (λ o l d g. calls_longer w ys x o os' l lines1 lines2 d ds1 ds2 g k) h
 
-one_met : (w : Program) (c : Option Call) (os : List Outcome) (lines lines' : List AnswerLine) → Unbound w → Takes w.source c lines os lines'
-    → NoteMeets w c os lines [] (λ o l d. CallsMeet w [] o l d [] lines' [])
-one_met w None os lines lines' loose t = (sym t.0, t.1, refl)
-one_met w (Some c) os lines lines' loose t =
-    (t.0, [], lines', [], t.1, subst (λ b. MeetsBound w.source c.import c.args b lines [] t.0 lines' []) (sym (loose c.import)) (t.2, refl), (refl, refl, refl))
+one_met : (w : Program) (c : Option Call) (met : List Outcome) (old new : Supply) → Takes w c old met new
+    → NoteMeets w c met old.lines old.devices (λ o l d. CallsMeet w [] o l d [] new.lines new.devices)
+one_met w None met old new t = (sym t.0, ap (λ (z : Supply). z.lines) t.1, ap (λ (z : Supply). z.devices) t.1)
+one_met w (Some c) met old new t = (t.0, [], new.lines, new.devices, t.1, t.2.meets, (refl, refl, refl))
+
+pub one_more_met : OneMoreMet
+one_more_met w notes os met lines ds x old new chain takes =
+    calls_longer w notes x os met lines old.lines new.lines ds old.devices new.devices chain (one_met w (call_in x.event) met old new takes)
+
+-- ---- without devices
+
+none_left : (m : Module) (import : ℕ) (args : List Value) (bound : Option (List ℕ)) (lines lines' : List AnswerLine) (o : Outcome) (ds : List Device) → MeetsBound m import args bound lines [] o lines' ds → ds ≡ []
+none_left m import args (Some name) lines lines' o ds h = h.0.1
+none_left m import args None lines lines' o ds h = h.1
+
+still_none : (w : Program) (c : Option Call) (met : List Outcome) (old new : Supply) → Takes w c old met new → old.devices ≡ [] → new.devices ≡ []
+still_none w None met old new t none = ap (λ (z : Supply). z.devices) t.1 ∙ none
+still_none w (Some c) met old new t none =
+    none_left w.source c.import c.args (bound_to w c.import) old.lines new.lines t.0 new.devices
+    (subst (λ ds. MeetsBound w.source c.import c.args (bound_to w c.import) old.lines ds t.0 new.lines new.devices) none t.2.meets)
 
 -- ---- stories
 
@@ -135,28 +153,43 @@ module _ (w : Program) where
       })
 
 pub nothing_told_yet : NothingToldYet
-nothing_told_yet w = record {
-  outcomes = [];
-  meets = (refl, refl, refl);
-  at = record { behind = []; made = sym (append-nil (opened w.source w.plan).events); used = 0; steps = omega arith; stretch = nowhere_on w.source w.plan (opened w.source w.plan).last };
-}
+nothing_told_yet w =
+    record { behind = []; made = sym (append-nil (opened w.source w.plan).events); used = 0; steps = omega arith; stretch = nowhere_on w.source w.plan (opened w.source w.plan).last }
 
 pub one_more_told : OneMoreTold
-one_more_told w notes left lines (stands ready h) x used lines' place' loose told tells = record {
-  outcomes = told.outcomes ++ tells.outcomes;
-  meets = calls_longer w notes x told.outcomes tells.outcomes w.answers lines lines' [] [] [] told.meets (one_met w (call_in x.event) tells.outcomes lines lines' loose tells.takes);
-  at = landed w notes ready told.outcomes tells.outcomes left used h x place' told.at tells.within tells.lands;
-}
-one_more_told w notes left lines (has_ended how) x used lines' place' loose told tells = absurd tells
-one_more_told w notes left lines nowhere x used lines' place' loose told tells = absurd tells
+one_more_told w notes os left (stands ready h) old x used new place' at tells = (tells.outcomes, tells.takes, landed w notes ready os tells.outcomes left used h x place' at tells.within tells.lands)
+one_more_told w notes os left (has_ended how) old x used new place' at tells = absurd tells
+one_more_told w notes os left nowhere old x used new place' at tells = absurd tells
+
+pub place_begins : PlaceBegins
+place_begins w notes os left (stands ready h) m more = begun_prefix w notes ready os left h m more
+place_begins w notes os left (has_ended how) m more = ([], sym (m.whole more) ∙ sym (append-nil notes))
+place_begins w notes os left nowhere m more = absurd m
+
+pub place_whole : PlaceWhole
+place_whole w notes os left how at = at.whole [] ∙ ap (protocol_story w) (append-nil os)
+
+-- ---- alone
+
+pub nothing_told_alone : NothingToldAlone
+nothing_told_alone w = record { outcomes = []; meets = (refl, refl, refl); at = nothing_told_yet w }
+
+pub one_more_alone : OneMoreAlone
+one_more_alone w notes left place old x used new place' none told tells =
+    let more = one_more_told w notes told.outcomes left place old x used new place' told.at tells in
+    let left_none : new.devices ≡ [] = still_none w (call_in x.event) more.0 old new more.1 none in
+    let before : CallsMeet w notes told.outcomes w.answers [] [] old.lines old.devices = subst (λ ds. CallsMeet w notes told.outcomes w.answers [] [] old.lines ds) (sym none) told.meets in
+    let meets = one_more_met w notes told.outcomes more.0 w.answers [] x old new before more.1 in (
+      record {
+        outcomes = told.outcomes ++ more.0;
+        meets = subst (λ ds. CallsMeet w (notes ++ x ∷ []) (told.outcomes ++ more.0) w.answers [] [] new.lines ds) left_none meets;
+        at = more.2;
+      },
+      left_none,
+    )
 
 pub told_begins : ToldBegins
-told_begins w notes left lines place told = record { outcomes = told.outcomes; lines = lines; meets = told.meets; begins = by_place place told.at }
-  where
-    by_place : (at : Place) → IsAt w notes told.outcomes left at → (more : List Outcome) → IsPrefix notes (protocol_story w (told.outcomes ++ more))
-    by_place (stands ready h) m more = begun_prefix w notes ready told.outcomes left h m more
-    by_place (has_ended how) m more = ([], sym (m.whole more) ∙ sym (append-nil notes))
-    by_place nowhere m more = absurd m
+told_begins w notes left lines place told = record { outcomes = told.outcomes; lines = lines; meets = told.meets; begins = place_begins w notes told.outcomes left place told.at }
 
 pub told_whole : ToldWhole
-told_whole w notes left lines how told = record { outcomes = told.outcomes; lines = lines; meets = told.meets; story = told.at.whole [] ∙ ap (protocol_story w) (append-nil told.outcomes) }
+told_whole w notes left lines how told = record { outcomes = told.outcomes; lines = lines; meets = told.meets; story = place_whole w notes told.outcomes left how told.at }

@@ -1,6 +1,5 @@
 -- What a program has told, as the beginning of its story in the protocol world.
-use Rattle.std.specs.Prelude.{◌≡◌, ℕ, ◌+◌, ◌++◌, List, [], ◌∷◌, map, None, slice_get}
-use Rattle.std.specs.Option.{unwrap_or}
+use Rattle.std.specs.Prelude.{◌≡◌, ℕ, ◌+◌, ◌++◌, List, [], ◌∷◌, map}
 use Rattle.wa_types.specs.Syntax.{Module}
 use Rattle.wa_model.specs.declared.events.End.{End}
 use Rattle.wa_model.specs.Machine.{Ran}
@@ -18,10 +17,6 @@ use Rattle.host_turns.specs.Places.{Place, stands, has_ended, nowhere}
 abbrev pub opened : Module → Plan → Ran Held Note
 opened p plan = held_begun p.start (all_left plan []) (opening p plan.globals)
 
--- no import is bound to a device
-abbrev pub Unbound : Program → Type 0
-Unbound w = (import : ℕ) → unwrap_or (slice_get w.binds import) None ≡ None
-
 -- the run has made these notes, all of them told but those that are ready, and stands here, with so many steps left
 pub record Made (w : Program) (notes ready : List Note) (os : List Outcome) (left : ℕ) (h : Held) : Type 0 where
   pub behind : List Note
@@ -38,12 +33,14 @@ pub record IsWhole (w : Program) (notes : List Note) (os : List Outcome) (how : 
   pub end_is : last.event ≡ ended how
   pub whole : (more : List Outcome) → notes ≡ protocol_story w (os ++ more)
 
+-- The program has told these notes, its calls met these outcomes, so many steps are left, and it stands here.
 abbrev pub IsAt : Program → List Note → List Outcome → (left : ℕ) → Place → Type 0
 IsAt w notes os left (stands ready h) = Made w notes ready os left h
 IsAt w notes os left (has_ended how) = IsWhole w notes os how
 IsAt w notes os left nowhere = ⊥
 
--- A program has told these notes, where its calls met the answer lines in turn; these steps and lines are left, and it stands here.
+-- A program that is alone, without devices, has told these notes: its calls met its answer lines in turn; these steps and lines are
+-- left, and it stands here.
 pub record Told (w : Program) (notes : List Note) (left : ℕ) (lines : List AnswerLine) (place : Place) : Type 0 where
   pub outcomes : List Outcome
   pub meets : CallsMeet w notes outcomes w.answers [] [] lines []

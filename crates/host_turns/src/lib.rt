@@ -2,12 +2,15 @@
 //!
 //! A host doesn't know which outcomes a program's later calls will meet, so a stretch of its run is told for all of them
 //! (`specs/Stretch.antt`). Between two events a program stands at a place: notes that were made and not told yet, and where the
-//! run is behind them (`specs/Places.antt`). What it has told begins a story of the protocol world, and is the whole one once the
-//! end is told (`specs/Stories.antt`, `specs/Laws.antt`). Nothing here speaks of an interpreter.
+//! run is behind them (`specs/Places.antt`). A new call meets an answer line or a device, and a device's fault comes only with one more
+//! in its count (`specs/Supplies.antt`). What a program has told begins a story of the protocol world, and is the whole one once the
+//! end is told (`specs/Stories.antt`, `specs/Laws.antt`): nothing is known of what other programs ask of the devices between its
+//! events; of a program that is alone also its run as a world is. Nothing here speaks of an interpreter.
 #![tactic(auto)]
 
 mod laws;
 
 pub use laws::{
-    events_are_told_in_turn, stories_are_worlds, stretches_compose, told_events_are_a_story,
+    calls_meet_in_turn, events_are_told_alone, events_are_told_in_turn, places_are_on_a_story,
+    stories_are_worlds, stretches_compose, told_events_are_a_story,
 };
