@@ -11,7 +11,7 @@ use Rattle.wa_model.specs.Outside.{AnswerLine, Line}
 use Rattle.wa_model.specs.Plan.{Outcome}
 use Rattle.wa_model.specs.Blocking.{Note}
 use Rattle.wa_model.specs.World.{Device, Program, Actor, CallsMeet, Plays, IsNext, HasNotes, Starts, StartsHeld, IsOver, detached, turn_of, behind_turn, put_off, line_at, events_with_looks, protocol_story, ProtocolWorld}
-use Rattle.many_host.specs.Dues.{HaveEnded}
+use Rattle.event_order.specs.Dues.{HaveEnded}
 use Rattle.world_laws.specs.Played.{ProtocolWorldUpTo}
 use Rattle.world_laws.proofs.Played.{next_event, played_is_whole}
 use Rattle.told_worlds.specs.Turns.{Teller, starting, unless, due_of, having_told, TellsTurn, Tells, IsRest, HasStory}

@@ -5,7 +5,7 @@ use Rattle.wa_model.specs.declared.answers.Detach.{Detach}
 use Rattle.wa_model.specs.Outside.{Line}
 use Rattle.wa_model.specs.World.{Device, Program, ProtocolWorld}
 use Rattle.world_laws.specs.Played.{ProtocolWorldUpTo}
-use Rattle.many_host.specs.Dues.{HaveEnded}
+use Rattle.event_order.specs.Dues.{HaveEnded}
 use Rattle.told_worlds.specs.Turns.{Teller, due_of, Tells, HasStory}
 
 -- Turns that were told one after another are a world played up to that event, where what each program has told begins its story.

@@ -1,6 +1,0 @@
-use Rattle.std.proofs.Common.{◌≡◌, ◌≤◌, drop}
-use Rattle.many_host.specs.Looks.{looks_of}
-use Rattle.many_host.proofs.shows.next_show.Given as goal
-
-abbrev pub invariant-loop-place : goal.invariant-loop-place
-invariant-loop-place l = (l.fn.from ≤ l.place) × (looks_of l.fn.program (drop l.place l.fn.shows) ≡ looks_of l.fn.program (drop l.fn.from l.fn.shows))

@@ -1,0 +1,4 @@
+pub mod Begun
+pub mod Further
+pub mod Notes
+pub mod Worlds

@@ -1,0 +1,4 @@
+pub mod Beginning
+pub mod Going
+pub mod Places
+pub mod Showing

@@ -1,0 +1,58 @@
+-- What is shown behind a program's end.
+use Rattle.std.proofs.Common.{arith, ◌≡◌, ◌<◌, ◌+◌, ℕ, suc, List, [], ◌∷◌, ◌++◌, map, drop, Option, Some, None, Bool, slice_get, refl, sym, ap, ◌∙◌, subst, append_assoc, append-nil}
+use Rattle.std.proofs.lemmas.Option.{same_Some}
+use Rattle.wa_model.specs.declared.answers.Detach.{Detach}
+use Rattle.wa_model.specs.Outside.{AnswerLine, Event, Line, shown}
+use Rattle.wa_model.specs.Plan.{Outcome}
+use Rattle.wa_model.specs.Blocking.{Note}
+use Rattle.wa_model.specs.World.{Device, Look, Program, bytes_shown, line_at}
+use Rattle.event_order.specs.declared.shows.Show.{Show}
+use Rattle.event_order.specs.declared.turns.Turn.{Turn}
+use Rattle.event_order.specs.Looks.{look_of, looks_of, IsNextShow}
+use Rattle.told_worlds.specs.Turns.{Tells}
+use Rattle.turn_taking.specs.declared.turns.Stage.TheVariants.{Between, Showing}
+use Rattle.turn_taking.specs.Standing.{Held, Standing, looks_at}
+
+module _ {X : Type 0} (follows : X → Program → List Note → List Outcome → List AnswerLine → Type 0) (over : X → Bool) (memory : X → List ℕ)
+    (programs : List Program) (detaches : List Detach) (ds : List Device) (lines : List Line) (h : Held X) (ds' : List Device) (turn : Turn) (from : ℕ)
+    (s : Standing follows over memory programs detaches ds lines h ds' (Showing turn from)) where
+  abbrev line : Event → Line
+  line e = line_at turn.due turn.program e
+
+  -- once all looks are out the turn is whole
+  pub all_shown : looks_of turn.program (drop from h.shows) ≡ [] → Standing follows over memory programs detaches ds lines h ds' Between
+  all_shown none =
+      record {
+        tellers = s.tellers;
+        wide = s.wide;
+        as_many = s.as_many;
+        each = s.each;
+        dues = s.dues;
+        detaches_are = s.detaches_are;
+        at = subst (λ (ls : List Line). Tells programs detaches ds h.begun ls s.tellers ds')
+            (ap (λ (l : List Look). lines ++ map line (looks_at (memory s.at.0) l)) none ∙ append-nil lines) s.at.2;
+      }
+
+  -- one look more
+  pub shown_on : (x : X) (place next : ℕ) (look : Show) (e : Event) → slice_get h.programs turn.program ≡ Some x → next ≡ place + 1
+      → (is : IsNextShow turn.program h.shows from place) → slice_get h.shows place ≡ Some look → e ≡ shown look.at (bytes_shown (memory x) (record { at = look.at; len = look.len }))
+      → Standing follows over memory programs detaches ds (lines ++ line_at turn.due turn.program e ∷ []) h ds' (Showing turn next)
+  shown_on x place next look e there next_is is look_there e_is =
+      let look_is : look ≡ is.show = same_Some look is.show (sym look_there ∙ is.there) in
+      let x_is : s.at.0 ≡ x = same_Some s.at.0 x (sym s.at.1 ∙ there) in
+      let next_suc : suc place ≡ next = omega (arith, next_is) in
+      let first : map line (looks_at (memory s.at.0) (looks_of turn.program (drop from h.shows))) ≡ line e ∷ map line (looks_at (memory x) (looks_of turn.program (drop next h.shows))) =
+      ap (λ (l : List Look). map line (looks_at (memory s.at.0) l)) is.first
+      ∙ (λ k. line (shown (sym look_is k).at (bytes_shown (memory (x_is k)) (look_of (sym look_is k)))) ∷ map line (looks_at (memory (x_is k)) (looks_of turn.program (drop (next_suc k) h.shows))))
+      ∙ ap (λ (v : Event). line v ∷ map line (looks_at (memory x) (looks_of turn.program (drop next h.shows)))) (sym e_is) in
+      record {
+        tellers = s.tellers;
+        wide = s.wide;
+        as_many = s.as_many;
+        each = s.each;
+        dues = s.dues;
+        detaches_are = s.detaches_are;
+        at = (x, there,
+          subst (λ (ls : List Line). Tells programs detaches ds h.begun ls s.tellers ds')
+              (ap (λ (ls : List Line). lines ++ ls) first ∙ sym (append_assoc lines (line e ∷ []) (map line (looks_at (memory x) (looks_of turn.program (drop next h.shows)))))) s.at.2);
+      }

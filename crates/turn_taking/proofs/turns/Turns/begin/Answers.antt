@@ -1,0 +1,22 @@
+use Rattle.std.proofs.Common.{ap, ◌∙◌, subst, length, List, Option, ℕ}
+use Rattle.event_order.specs.Dues.{HaveEnded, IsLeast}
+use Rattle.turn_taking.specs.Standing.{held_of}
+use Rattle.turn_taking.proofs.Beginning.{begun_at, due_within}
+use Rattle.turn_taking.proofs.turns.Turns.begin.Goals as goal
+
+pub returns-in_default-clause-told : goal.returns-in_default-clause-told
+returns-in_default-clause-told g c = λ programs detaches ds lines s. record {
+  stands = s;
+  have_ended = subst (λ (l : List (Option ℕ)). HaveEnded l) c.deref.ensures.value c.in_default.ensures;
+}
+
+pub tell-requires-clause-place : goal.tell-requires-clause-place
+tell-requires-clause-place g c =
+    due_within c.deref.result.now _ c.in-Some.turn.program c.in-Some.turn.due (ap (λ (l : List (Option ℕ)). length l) c.deref.ensures.value ∙ c.requires.range.wide) c.in-Some.ensures
+
+pub returns-clause-told : goal.returns-clause-told
+returns-clause-told g c = λ programs detaches ds lines s.
+    c.in_ok-tell.ensures.told programs detaches ds lines
+    (begun_at g.T.Teller.follows g.T.Teller.has_ended g.T.Teller.memory programs detaches ds lines (held_of c.args.self.now) _ c.in-Some.turn s
+    (subst (λ (l : List (Option ℕ)). IsLeast l c.in-Some.turn.program c.in-Some.turn.due) c.deref.ensures.value c.in-Some.ensures)
+    c.in-Some-checked_add.begun c.deref-2.result.now _ c.in-Some-checked_add.ensures.1 c.deref-2.ensures.value c.detach_before.ensures.devices)

@@ -1,0 +1,18 @@
+use Rattle.turn_taking.specs.Standing.{held_of}
+use Rattle.turn_taking.proofs.Beginning.{standing}
+use Rattle.turn_taking.proofs.turns.Turns.next.Goals as goal
+
+pub returns-in-Between-clause-told : goal.returns-in-Between-clause-told
+returns-in-Between-clause-told g c = λ programs detaches ds lines s.
+    c.begin.ensures.told programs detaches ds lines
+    (standing g.T.Teller.follows g.T.Teller.has_ended g.T.Teller.memory programs detaches ds lines (held_of c.args.self.now) _ c.args.self.now.stage _ c.in-Between.is s)
+
+pub returns-in_ok-tell-in-Telling-clause-told : goal.returns-in_ok-tell-in-Telling-clause-told
+returns-in_ok-tell-in-Telling-clause-told g c = λ programs detaches ds lines s.
+    c.in_ok-tell-in-Telling.ensures.told programs detaches ds lines
+    (standing g.T.Teller.follows g.T.Teller.has_ended g.T.Teller.memory programs detaches ds lines (held_of c.args.self.now) _ c.args.self.now.stage _ c.in-Telling.is s)
+
+pub returns-in-Showing-clause-told : goal.returns-in-Showing-clause-told
+returns-in-Showing-clause-told g c = λ programs detaches ds lines s.
+    c.show.ensures.told programs detaches ds lines
+    (standing g.T.Teller.follows g.T.Teller.has_ended g.T.Teller.memory programs detaches ds lines (held_of c.args.self.now) _ c.args.self.now.stage _ c.in-Showing.is s)

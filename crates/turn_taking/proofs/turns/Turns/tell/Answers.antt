@@ -1,0 +1,12 @@
+use Rattle.std.proofs.Common.{sym}
+use Rattle.wa_model.specs.View.{event_of}
+use Rattle.turn_taking.specs.Standing.{held_of}
+use Rattle.turn_taking.proofs.Going.{runs, told_on}
+use Rattle.turn_taking.proofs.Places.{stands_at}
+use Rattle.turn_taking.proofs.turns.Turns.tell.Goals as goal
+
+pub returns-clause-told : goal.returns-clause-told
+returns-clause-told g c = λ programs detaches ds lines s.
+    let there = stands_at c.args.self.now.programs.items c.args.turn.program c.index_mut.result.now c.requires.place c.index_mut.ensures.value in
+    told_on g.T.Teller.follows g.T.Teller.has_ended g.T.Teller.memory programs detaches ds lines (held_of c.args.self.now) _ c.args.turn s c.index_mut.result.now there
+    c.advance.new.self (event_of c.in_ok-event.event) _ _ _ c.in_ok-event.ensures.told c.in_ok-next.next.due c.in_ok-next.next.stage c.in_ok-next.ensures.due c.in_ok-next.ensures.stage
