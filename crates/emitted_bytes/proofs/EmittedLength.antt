@@ -1,5 +1,5 @@
 -- How many bytes an emitted module is written as, at most.
-use Rattle.std.proofs.Common.{◌≡◌, ◌∙◌, ℕ, suc, ◌+◌, ◌*◌, ◌<◌, ◌≤◌, ◌^◌, List, [], ◌∷◌, ◌++◌, length, map, Some, Bool, true, false, All, refl, sym, ap, subst, arith, length-append}
+use Rattle.std.proofs.Common.{◌≡◌, ℕ, suc, ◌+◌, ◌*◌, ◌<◌, ◌≤◌, ◌^◌, List, [], ◌∷◌, ◌++◌, length, map, Some, Bool, true, false, All, refl, sym, ap, subst, arith, length-append}
 use Rattle.std.specs.Prelude.{slice_get, if◌then◌else◌, ◌==◌}
 use Rattle.std.specs.List.{flat_map, sum_by}
 use Rattle.std.proofs.lemmas.List.{length-map}
@@ -9,7 +9,7 @@ use Rattle.wa_types.specs.declared.syntax.Run.{Run}
 use Rattle.wa_types.specs.declared.values.ValType.{ValType}
 use Rattle.wa_types.specs.declared.values.Value.TheVariants as V
 use Rattle.wa_types.specs.Bounds.{code_weight}
-use Rattle.wa_types.specs.Encoding.{Enc, sections, type_byte, vector, sized, section, same_type, basic_bytes, plain_bytes, else_bytes, code_bytes, expression_bytes, run_onto, merged, run_bytes, body_bytes}
+use Rattle.wa_types.specs.Encoding.{Enc, sections, type_byte, vector, sized, same_type, basic_bytes, plain_bytes, else_bytes, code_bytes, expression_bytes, run_onto, merged, run_bytes, body_bytes}
 use Rattle.wa_types.specs.Frames.{Pair, SlotPairs, ResultPairs, Count}
 use Rattle.wa_types.specs.Leb.{shortest}
 use Rattle.wa_types.specs.Modules.{func_imports, locals_of}
@@ -22,8 +22,9 @@ use Rattle.wa_types.proofs.SizeBounds.{weight_fits}
 use Rattle.wa_model.specs.FlatFits.{one_run}
 use Rattle.wa_model.specs.Rewrites.{instructions_and_labels}
 use Rattle.flat_laws.specs.FlatModule.{extra_types}
-use Rattle.wasm_encode.specs.Locals.{local_count}
+use Rattle.wasm_entries.specs.Locals.{local_count}
 use Rattle.wasm_encode.specs.Modules.{FewLocals}
+use Rattle.wasm_encode.proofs.AroundLemmas.{same_sort_bytes}
 use Rattle.rewrite_form.specs.Emitted.{written_func, emitted_func, emitted_funcs, asyncified}
 use Rattle.rewrite_form.specs.Sizes.{FewWritten}
 use Rattle.rewrite_form.proofs.Emitted.{inner, told, not_told, same_sorts}
@@ -112,8 +113,8 @@ runs_length : (rs : List Run) → length (flat_map run_bytes rs) ≤ 11 * length
 runs_length [] = omega arith
 runs_length (r ∷ rs) = omega (arith, length-append (run_bytes r) (flat_map run_bytes rs), length-append (shortest r.count) (type_byte r.ty ∷ []), shortest_length r.count, runs_length rs)
 
--- a written body takes at most so many bytes
-abbrev most : ℕ
+-- a written function takes at most so many bytes
+abbrev pub most : ℕ
 most = 2 ^ 42
 
 bound : (all body runs code size w l locals : ℕ) → all ≤ 10 + body → body ≤ 10 + runs + (code + 1) → runs ≤ 11 * locals → locals ≤ 2 ^ 31 + 50003 → code ≤ 25 * size → size ≤ 25 * w + 6 * l + 45 → w + l < 2 ^ 31 → all ≤ most
@@ -140,46 +141,29 @@ sum_runs (r ∷ rs) ss =
     let k = sum_by-cons (λ (r : Run). r.count) r (rs ++ ss) in
     let l = sum_by-cons (λ (r : Run). r.count) r rs in omega (arith, e, k, l)
 
-abbrev pub sort_bytes : Func → List ℕ
-sort_bytes f = shortest f.sort
+module _ (m : Module) (s : Settings) (which : List Bool) (v : Valid m) (x i : ℕ) (f : Func) (e : slice_get m.funcs i ≡ Some f) (sizes : FuncSizes (2 ^ 31) (2 ^ 31) m f) (low : Count m f ≤ 50000) where
+  abbrev g : Func
+  g = written_func m s which x f
 
-sorts_flat : (fs : List Func) → flat_map sort_bytes fs ≡ flat_map shortest (map (λ (f : Func). f.sort) fs)
-sorts_flat [] = refl
-sorts_flat (f ∷ fs) = ap (λ bs. shortest f.sort ++ bs) (sorts_flat fs)
+  pub written_entry : length (entry (written_func m s which x f)) ≤ most
+  written_entry =
+      let runs = length-append f.locals (map one_run (extra_types m f ++ three)) in
+      let ones = length-map (extra_types m f ++ three) one_run in
+      let extra = extra_few m f low in
+      let own = sizes.runs in
+      let count = merged_length g.locals in
+      bound (length (entry g)) (length (body_bytes g)) (length (flat_map run_bytes (merged g.locals))) (length (code_bytes g.body)) (instructions_and_labels g.body)
+      (code_weight m (pruned f.body)) (length (locals_of m f)) (length (merged g.locals)) (sized_length (body_bytes g))
+      (omega (arith, length-append (vector run_bytes (merged g.locals)) (expression_bytes g.body), vector_length run_bytes (merged g.locals), length-append (code_bytes g.body) (0x0B ∷ [])))
+      (runs_length (merged g.locals)) (omega (arith, runs, ones, extra, own, count)) (code_length g.body) (written_size m s which x f v i e) (weight_fits (2 ^ 31) (2 ^ 31) m f sizes)
 
-sorts_section : (fs : List Func) → section 3 sort_bytes fs ≡ section 3 shortest (map (λ (f : Func). f.sort) fs)
-sorts_section [] = refl
-sorts_section (f ∷ fs) =
-    let n : length (f ∷ fs) ≡ length (map (λ (f : Func). f.sort) (f ∷ fs)) = sym (length-map (f ∷ fs) (λ (f : Func). f.sort)) in
-    ap (λ k. 3 ∷ sized (shortest k ++ flat_map sort_bytes (f ∷ fs))) n
-    ∙ ap (λ bs. 3 ∷ sized (shortest (length (map (λ (f : Func). f.sort) (f ∷ fs))) ++ bs)) (sorts_flat (f ∷ fs))
-
-same_sort_bytes : (fs gs : List Func) → map (λ (f : Func). f.sort) fs ≡ map (λ (f : Func). f.sort) gs → section 3 sort_bytes fs ≡ section 3 sort_bytes gs
-same_sort_bytes fs gs e = sorts_section fs ∙ ap (section 3 shortest) e ∙ sym (sorts_section gs)
+  pub written_locals_few : local_count (written_func m s which x f).locals < 2 ^ 32
+  written_locals_few =
+      let a = sum_runs f.locals (map one_run (extra_types m f ++ three)) in
+      let b = one_runs (extra_types m f ++ three) in
+      let c = extra_few m f low in omega (arith, a, b, c, sizes.total)
 
 module _ (m : Module) (s : Settings) (which : List Bool) (v : Valid m) (strict : StrictSizeRule m) (few : FewWritten m which) where
-  module _ (x i : ℕ) (f : Func) (e : slice_get m.funcs i ≡ Some f) (sizes : FuncSizes (2 ^ 31) (2 ^ 31) m f) (low : Count m f ≤ 50000) where
-    abbrev g : Func
-    g = written_func m s which x f
-
-    written_entry : length (entry g) ≤ most
-    written_entry =
-        let runs = length-append f.locals (map one_run (extra_types m f ++ three)) in
-        let ones = length-map (extra_types m f ++ three) one_run in
-        let extra = extra_few m f low in
-        let own = sizes.runs in
-        let count = merged_length g.locals in
-        bound (length (entry g)) (length (body_bytes g)) (length (flat_map run_bytes (merged g.locals))) (length (code_bytes g.body)) (instructions_and_labels g.body)
-        (code_weight m (pruned f.body)) (length (locals_of m f)) (length (merged g.locals)) (sized_length (body_bytes g))
-        (omega (arith, length-append (vector run_bytes (merged g.locals)) (expression_bytes g.body), vector_length run_bytes (merged g.locals), length-append (code_bytes g.body) (0x0B ∷ [])))
-        (runs_length (merged g.locals)) (omega (arith, runs, ones, extra, own, count)) (code_length g.body) (written_size m s which x f v i e) (weight_fits (2 ^ 31) (2 ^ 31) m f sizes)
-
-    written_locals_few : local_count g.locals < 2 ^ 32
-    written_locals_few =
-        let a = sum_runs f.locals (map one_run (extra_types m f ++ three)) in
-        let b = one_runs (extra_types m f ++ three) in
-        let c = extra_few m f low in omega (arith, a, b, c, sizes.total)
-
   -- ---- all functions
 
   entry_few : (i : ℕ) (f : Func) → slice_get m.funcs i ≡ Some f → length (entry (emitted_func m s which (func_imports m + i) f)) ≤ length (entry f) + most
@@ -188,7 +172,8 @@ module _ (m : Module) (s : Settings) (which : List Bool) (v : Valid m) (strict :
       by : (b : Bool) → is_told (slice_get which (func_imports m + i)) ≡ b → length (entry (emitted_func m s which (func_imports m + i) f)) ≤ length (entry f) + most
       by true b =
           let z = ap (λ (h : Func). length (entry h)) (told m s which (func_imports m + i) f b) in
-          let l = written_entry (func_imports m + i) i f e (one_of_all (FuncSizes (2 ^ 31) (2 ^ 31) m) m.funcs i f strict.each_func e) (few (func_imports m + i) f (defined_of m i f e) b) in
+          let sizes = one_of_all (FuncSizes (2 ^ 31) (2 ^ 31) m) m.funcs i f strict.each_func e in
+          let l = written_entry m s which v (func_imports m + i) i f e sizes (few (func_imports m + i) f (defined_of m i f e) b) in
           omega (arith, z, l)
       by false b = let z = ap (λ (h : Func). length (entry h)) (not_told m s which (func_imports m + i) f b) in omega (arith, z)
 
@@ -201,7 +186,7 @@ module _ (m : Module) (s : Settings) (which : List Bool) (v : Valid m) (strict :
       by : (b : Bool) → is_told (slice_get which (func_imports m + i)) ≡ b → local_count (emitted_func m s which (func_imports m + i) f).locals < 2 ^ 32
       by true b =
           subst (λ (h : Func). local_count h.locals < 2 ^ 32) (sym (told m s which (func_imports m + i) f b))
-          (written_locals_few (func_imports m + i) i f e sizes (few (func_imports m + i) f (defined_of m i f e) b))
+          (written_locals_few m s which v (func_imports m + i) i f e sizes (few (func_imports m + i) f (defined_of m i f e) b))
       by false b = subst (λ (h : Func). local_count h.locals < 2 ^ 32) (sym (not_told m s which (func_imports m + i) f b)) (let t = sizes.total in omega (arith, t))
 
   entries_few : (y : ℕ) (fs : List Func) → ((i : ℕ) (f : Func) → slice_get fs i ≡ Some f → length (entry (emitted_func m s which (y + i) f)) ≤ length (entry f) + most)

@@ -9,10 +9,7 @@
 
 mod calls;
 mod laws;
-mod passes;
 mod rows;
-mod sets;
-mod steps;
 
 pub use calls::live_at;
 pub use laws::countdown_keeps;

@@ -6,11 +6,11 @@ ghost use Rattle.wa_model.specs.FlatView.{stmt_in_front, stmts};
 ghost use Rattle.guard_form.specs.Grouping.{is_place};
 ghost use Rattle.flow_rewrite.specs.Emitting.{Rises};
 ghost use Rattle.live_locals.specs.Rows.{Countable, RowPut, RowsPut};
-ghost use Rattle.live_locals.specs.Sets.{Passed};
+ghost use Rattle.live_passes.specs.Sets.{Passed};
 
-use crate::passes::pass_stmt;
-use crate::sets::{copied, join, read_operand, read_slots, write_told};
-use crate::steps::{pass_simple, read_taken};
+use live_passes::{
+    copied, join, pass_simple, pass_stmt, read_operand, read_slots, read_taken, write_told,
+};
 use std::alloc::{AllocError, Global};
 use wa_model::Stmt;
 

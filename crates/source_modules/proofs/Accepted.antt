@@ -1,5 +1,5 @@
--- What an accepted source is: few locals, and not too many bytes when it is rewritten.
-use Rattle.std.proofs.Common.{◌≡◌, ℕ, zero, suc, ◌+◌, ◌-◌, ◌*◌, ◌≤◌, ◌<◌, ◌^◌, inl, inr, List, [], ◌∷◌, drop, length, Bool, true, false, Option, Some, None, refl, sym, ap, ◌∙◌, subst, arith}
+-- What an accepted source is: few functions and bytes, and what is refused of it when it is rewritten.
+use Rattle.std.proofs.Common.{◌≡◌, ℕ, zero, suc, ◌+◌, ◌-◌, ◌≤◌, ◌<◌, ◌^◌, inl, inr, List, [], ◌∷◌, drop, length, Bool, true, false, Option, Some, None, refl, sym, ap, ◌∙◌, subst, arith}
 use Rattle.std.specs.Prelude.{Err, slice_get, slice_index_or, nat_lt, if◌then◌else◌}
 use Rattle.std.proofs.lemmas.Bool.{le-ltb, lt-ltb, ltb-false}
 use Rattle.std.proofs.lemmas.List.Elements.{All-from_get_or}
@@ -8,10 +8,9 @@ use Rattle.wa_types.specs.Encoding.{Enc}
 use Rattle.wa_types.specs.Frames.{Count}
 use Rattle.wa_types.specs.Marks.{first_above}
 use Rattle.wa_types.specs.ModuleBounds.{source_bounds, prepared_bounds}
-use Rattle.wa_types.specs.Modules.{func_imports, defined_at}
+use Rattle.wa_types.specs.Modules.{func_imports}
 use Rattle.wa_types.specs.Norm.{Norm}
 use Rattle.wa_types.specs.Pausing.{Settings, is_told}
-use Rattle.wa_types.specs.Reading.{SpellsModule}
 use Rattle.wa_types.specs.Sizes.{StrictSizeRule, WellFormed}
 use Rattle.wa_types.specs.Syntax.{Func, Module}
 use Rattle.wa_types.specs.Validity.{Valid}
@@ -28,16 +27,19 @@ use Rattle.flatten.specs.Whole.{NonePasses, FirstPasses}
 use Rattle.rewrite_form.specs.Emitted.{asyncified}
 use Rattle.rewrite_form.specs.Sizes.{FewWritten}
 use Rattle.emitted_bytes.proofs.EmittedFits.{emitted_fits}
-use Rattle.emitted_bytes.proofs.EmittedLength.{emitted_few, emitted_short}
+use Rattle.emitted_bytes.proofs.EmittedLength.{emitted_few}
 use Rattle.prepared_modules.proofs.Numbers.{functions_counted}
 use Rattle.prepared_modules.proofs.Prepared.{emitted_prepared}
 use Rattle.asyncify_runtime.specs.Reserved.{reserved_at}
 use Rattle.module_rewrite.specs.declared.fault.RewriteFault.{RewriteFault}
 use Rattle.module_rewrite.specs.declared.fault.RewriteFault.TheVariants.{Memory as rewrite_memory, Locals as rewrite_locals, Reserved as rewrite_reserved}
 use Rattle.module_rewrite.specs.Whole.{Asyncifies}
+use Rattle.module_bytes.specs.declared.fault.EmitFault.{EmitFault}
+use Rattle.module_bytes.specs.declared.fault.EmitFault.TheVariants.{Memory as emit_memory, Locals as emit_locals, TooLong as emit_too_long}
+use Rattle.module_bytes.specs.Whole.{EmitsModule}
 use Rattle.source_modules.specs.declared.source.SourceFault.{SourceFault}
 use Rattle.source_modules.specs.Sources.{IsValidSource, told_counts, rewritten_counts}
-use Rattle.source_modules.specs.Refusals.{IsFaultOf, IsOfRead, IsOfRewrite, IsUnreserved}
+use Rattle.source_modules.specs.Refusals.{IsFaultOf, IsOfRead, IsOfEmit, IsOfRewrite, IsUnreserved}
 
 -- ---- locals
 
@@ -120,16 +122,18 @@ module _ (bytes : List ℕ) (m : Module) (src : IsValidSource bytes m) where
   pub well : ((i : ℕ) → slice_index_or bytes i 0 < 2 ^ 8) → WellFormed m
   well are_bytes = spelled_fits bytes m (All-from_get_or (λ b. b < 2 ^ 8) bytes 0 (λ i l. are_bytes i)) (accepted_spelled source_bounds bytes m read)
 
-  module _ (s : Settings) (which : List Bool) (few : first_above 50000 (rewritten_counts m which) ≡ None) where
-    pub source_few : FewLocals (asyncified m s which)
-    source_few = emitted_few m s which src.valid strict (few_written m which few)
+  pub few_functions : length m.funcs ≤ 100000
+  few_functions =
+      let n = functions_counted read.sections m read.is_module in omega (arith, n, read.within.before.before.before.before.functions)
 
-    pub source_short : length (Enc (asyncified m s which)) < 2 ^ 64
-    source_short =
-        let l = written_short bytes m (accepted_spelled source_bounds bytes m read) in
-        let n = functions_counted read.sections m read.is_module in
-        emitted_short m s which src.valid strict (few_written m which few) (omega (arith, n, read.within.before.before.before.before.functions))
-        (omega (arith, l, read.within.before.before.before.before.before.file.few))
+  pub few_bytes : length (Enc m) ≤ 2 ^ 60
+  few_bytes =
+      let l = written_short bytes m (accepted_spelled source_bounds bytes m read) in
+      omega (arith, l, read.within.before.before.before.before.before.file.few)
+
+  module _ (s : Settings) (which : List Bool) (few : first_above 50000 (rewritten_counts m which) ≡ None) where
+    source_few : FewLocals (asyncified m s which)
+    source_few = emitted_few m s which src.valid strict (few_written m which few)
 
     -- what is written, where it isn't long, is a prepared module
     pub source_prepared : ((i : ℕ) → slice_index_or bytes i 0 < 2 ^ 8) → length (Enc (asyncified m s which)) ≤ 67108864
@@ -161,3 +165,12 @@ pub none_reserved : (s : Settings) (bytes : List ℕ) (m : Module) (fault : Rewr
 none_reserved s bytes m rewrite_memory src h = tt
 none_reserved s bytes m (rewrite_locals func count) src h = tt
 none_reserved s bytes m (rewrite_reserved at) src h = let bad = sym src.unreserved.free ∙ h in cc
+
+-- what writing it refuses
+pub emit_refused : (s : Settings) (bytes : List ℕ) (m : Module) (fault : EmitFault) (r : SourceFault) → IsValidSource bytes m → EmitsModule m s (Err fault) → IsOfEmit fault r → IsFaultOf s bytes r
+emit_refused s bytes m emit_memory r src h e = subst (IsFaultOf s bytes) (sym e) tt
+emit_refused s bytes m (emit_locals func count) r src h e =
+    subst (IsFaultOf s bytes) (sym e) (m, h.which, src, h.tells, first_passes m func count (func_imports m) (drop (func_imports m) h.which) m.funcs h.first)
+emit_refused s bytes m (emit_too_long len) r src h e =
+    let few = none_passes m (drop (func_imports m) h.which) m.funcs h.can.few in
+    subst (IsFaultOf s bytes) (sym e) (m, h.which, record { accepted = src; tells = h.can.tells; few = few }, h.is, h.over)

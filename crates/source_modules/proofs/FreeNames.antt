@@ -1,6 +1,6 @@
 -- A module that isn't reserved has no export under a name of the runtime.
 use Rattle.std.proofs.Common.{◌≡◌, ℕ, zero, suc, ◌+◌, ◌<◌, ◌||◌, not, List, [], ◌∷◌, Option, Some, None, Bool, true, false, cond, refl, sym, ap, subst, ◌∙◌, length, arith, All, Contains}
-use Rattle.std.specs.Prelude.{slice_get, slice_index_or, nat_lt, position}
+use Rattle.std.specs.Prelude.{slice_index_or, nat_lt, position}
 use Rattle.std.specs.List.{list_any, position_or_len}
 use Rattle.std.specs.Str.{bytes_eq}
 use Rattle.std.proofs.lemmas.Bool.{or_parts, lt-ltb, le-ltb, ltb-true, ltb-false}

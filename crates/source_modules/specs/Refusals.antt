@@ -1,9 +1,11 @@
 -- What a refusal of a source says.
-use Rattle.std.specs.Prelude.{◌≡◌, List, ℕ, Option}
+use Rattle.std.specs.Prelude.{◌≡◌, List, ℕ}
 use Rattle.wasm_reader.specs.declared.read_fault.ReadFault.{ReadFault}
 use Rattle.wasm_reader.specs.declared.read_fault.ReadFault.TheVariants.{Memory as read_memory, Malformed as read_malformed, Float as read_float, Deep as read_deep, Limit as read_limit}
 use Rattle.module_rewrite.specs.declared.fault.RewriteFault.{RewriteFault}
 use Rattle.module_rewrite.specs.declared.fault.RewriteFault.TheVariants.{Memory as rewrite_memory, Locals as rewrite_locals, Reserved as rewrite_reserved}
+use Rattle.module_bytes.specs.declared.fault.EmitFault.{EmitFault}
+use Rattle.module_bytes.specs.declared.fault.EmitFault.TheVariants.{Memory as emit_memory, Locals as emit_locals, TooLong as emit_too_long}
 use Rattle.source_modules.specs.declared.refusals.Refusal.{Refusal}
 use Rattle.source_modules.specs.declared.refusals.Refusal.TheVariants.{Malformed, Float, Deep, Limit, Reserved, Invalid, RewrittenLocals, Output}
 use Rattle.source_modules.specs.declared.source.SourceFault.{SourceFault}
@@ -40,6 +42,12 @@ abbrev pub IsOfRewrite : RewriteFault → SourceFault → Type 0
 IsOfRewrite rewrite_memory fault = fault ≡ Memory
 IsOfRewrite (rewrite_locals func count) fault = fault ≡ Refused (RewrittenLocals count)
 IsOfRewrite (rewrite_reserved at) fault = ⊥
+
+-- the fault of a source whose rewritten module wasn't written
+abbrev pub IsOfEmit : EmitFault → SourceFault → Type 0
+IsOfEmit emit_memory fault = fault ≡ Memory
+IsOfEmit (emit_locals func count) fault = fault ≡ Refused (RewrittenLocals count)
+IsOfEmit (emit_too_long len) fault = fault ≡ Refused (Output len)
 
 -- no name is reserved
 abbrev pub IsUnreserved : RewriteFault → Type 0

@@ -7,18 +7,18 @@ ghost use Rattle.wa_types.specs.View.{module_of};
 ghost use Rattle.wasm_reader.specs.Answers.{IsAccepted};
 ghost use Rattle.asyncify_runtime.specs.Reserved.{reserved_at};
 ghost use Rattle.source_modules.specs.declared.source.SourceFault.TheVariants.{Memory};
-ghost use Rattle.source_modules.specs.Refusals.{IsFaultOf, IsOfRead, IsOfRewrite, IsUnreserved, IsUnwritten};
+ghost use Rattle.source_modules.specs.Refusals.{IsFaultOf, IsOfEmit, IsOfRead, IsOfRewrite, IsUnreserved, IsUnwritten};
 ghost use Rattle.source_modules.specs.Sources.{IsRewritten, IsValidSource, reserved_name};
 
 use crate::refusals::Refusal;
 use asyncify_runtime::{ReservedAt, reserved};
 use bytes::BytesMut;
 use call_graph::Settings;
-use module_rewrite::{RewriteFault, asyncify_module};
+use module_bytes::{EmitFault, emit_module};
+use module_rewrite::RewriteFault;
 use std::alloc::{AllocError, Global};
 use thiserror::Error;
 use wa_types::{Bounds, Module, Name};
-use wasm_encode::{EncodeFault, encode};
 use wasm_reader::{ReadFault, read};
 use wasm_validate::{Valid, ValidateFault, validate};
 
@@ -57,23 +57,17 @@ pub fn rewrite(alloc: Global, bytes: &[u8], settings: &Settings) -> Result<Writt
     ensures refused { IfErr result (λ fault. IsFaultOf (settings_of settings.now) bytes.now fault) }
 {
     let valid = source(alloc, bytes, settings)?;
-    let rewritten = match asyncify_module(alloc, &valid, settings) {
-        Ok(rewritten) => rewritten,
-        Err(fault) => return Err(rewrite_fault(fault)),
-    };
     let functions = valid.module().funcs.len();
-    let instrumented = told_count(&rewritten.instrumented);
-    match encode(alloc, rewritten.module.module()) {
-        Ok(text) => Ok(Written {
-            functions,
-            instrumented,
-            text,
-        }),
-        Err(EncodeFault::Memory) => Err(SourceFault::Memory),
-        Err(EncodeFault::TooLong { len }) => Err(SourceFault::Refused(Refusal::Output {
-            found: len,
-        })),
-    }
+    let emitted = match emit_module(alloc, valid, settings) {
+        Ok(emitted) => emitted,
+        Err(fault) => return Err(emit_fault(fault)),
+    };
+    let instrumented = told_count(&emitted.instrumented);
+    Ok(Written {
+        functions,
+        instrumented,
+        text: emitted.text,
+    })
 }
 
 /// The module that these bytes spell, where it is a valid source.
@@ -115,6 +109,19 @@ pub(crate) fn rewrite_fault(fault: RewriteFault) -> SourceFault
             SourceFault::Refused(Refusal::RewrittenLocals { found: count })
         }
         RewriteFault::Reserved(_) => unreachable!(),
+    }
+}
+
+// Why the rewritten module of a valid source isn't written.
+fn emit_fault(fault: EmitFault) -> SourceFault
+    ensures { IsOfEmit fault result }
+{
+    match fault {
+        EmitFault::Memory => SourceFault::Memory,
+        EmitFault::Locals { count, .. } => {
+            SourceFault::Refused(Refusal::RewrittenLocals { found: count })
+        }
+        EmitFault::TooLong { len } => SourceFault::Refused(Refusal::Output { found: len }),
     }
 }
 

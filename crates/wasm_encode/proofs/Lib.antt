@@ -1,5 +1,2 @@
-pub mod Codes
+pub mod AroundLemmas
 pub mod ModuleLemmas
-pub mod Runs
-pub mod SectionLemmas
-pub mod Vectors

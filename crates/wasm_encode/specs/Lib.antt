@@ -1,3 +1,2 @@
-pub mod Instrs
-pub mod Locals
+pub mod Around
 pub mod Modules

@@ -8,16 +8,13 @@
 //! bytes, or `Memory`. The length is computed first, without memory, so that nothing is written of a module
 //! that is too long, and every size stands in front of its content without a byte being moved. The work is
 //! linear in the module, and no recursion is deeper than its nesting.
+//!
+//! `encode_around` writes a module around the entries of its code section, which were written beforehand, so that its functions
+//! needn't be in memory together; the law is the same.
 #![tactic(auto)]
 
-mod code;
-mod entries;
-mod entry;
-mod locals;
+mod around;
 mod module;
-mod numbers;
-mod sections;
-mod types;
 
 ghost use Rattle.std.specs.Prelude.{◌≡◌, ◌<◌, ◌≤◌, ◌^◌, ◌↔◌, length, IfOk, ℕ, Err};
 ghost use Rattle.wa_types.specs.View.{module_of};
@@ -25,6 +22,7 @@ ghost use Rattle.wa_types.specs.Encoding.{Enc};
 ghost use Rattle.wasm_encode.specs.Modules.{FewLocals};
 
 use crate::module::{module_len, put_module};
+pub use around::encode_around;
 use bytes::BytesMut;
 use std::alloc::{AllocError, Global};
 use thiserror::Error;

@@ -3,17 +3,17 @@ ghost use Rattle.wa_types.specs.View.{module_of, custom_of};
 ghost use Rattle.wa_types.specs.Encoding.{Enc};
 ghost use Rattle.wasm_encode.specs.Modules.{known_section, FewLocals};
 
-use crate::entries::{CodeEntry, DataEntry, ElementEntry, FunctionEntry, GlobalEntry};
-use crate::sections::{
-    LAST_ID, customs_len, put_customs, put_section, put_start, section_len, start_len,
-};
-use crate::types::{ExportEntry, ImportEntry, MemoryEntry, TableEntry, TypeEntry};
 use bytes::BytesMut;
 use std::alloc::AllocError;
 use wa_types::Module;
+use wasm_entries::{
+    CodeEntry, DataEntry, ElementEntry, ExportEntry, FunctionEntry, GlobalEntry, ImportEntry,
+    LAST_ID, MemoryEntry, TableEntry, TypeEntry, customs_len, put_customs, put_section, put_start,
+    section_len, start_len,
+};
 
 /// The magic number and the version (standard, section 5.5.15).
-const PREAMBLE: [u8; 8] = [0x00, 0x61, 0x73, 0x6D, 0x01, 0x00, 0x00, 0x00];
+pub(crate) const PREAMBLE: [u8; 8] = [0x00, 0x61, 0x73, 0x6D, 0x01, 0x00, 0x00, 0x00];
 
 /// How many bytes a module is written as.
 #[tactic(auto, using(crate::proofs::ModuleLemmas::measuring))]
@@ -46,7 +46,7 @@ pub fn put_module(out: &mut BytesMut, module: &Module) -> Result<(), AllocError>
 
 /// How many bytes the known section of this id takes.
 #[tactic(auto, using(crate::proofs::ModuleLemmas::section_map), unfolding(crate::specs::Modules::known_section))]
-fn known_len(module: &Module, id: u8) -> u64
+pub(crate) fn known_len(module: &Module, id: u8) -> u64
     requires locals { FewLocals (module_of «module».now) }
     requires fits { length (known_section id (module_of «module».now)) < 2 ^ 64 }
     ensures { result ≡ length (known_section id (module_of «module».now)) }
@@ -69,7 +69,7 @@ fn known_len(module: &Module, id: u8) -> u64
 
 /// Appends the known section of this id.
 #[tactic(auto, using(crate::proofs::ModuleLemmas::section_map), unfolding(crate::specs::Modules::known_section))]
-fn put_known(out: &mut BytesMut, module: &Module, id: u8) -> Result<(), AllocError>
+pub(crate) fn put_known(out: &mut BytesMut, module: &Module, id: u8) -> Result<(), AllocError>
     requires locals { FewLocals (module_of «module».now) }
     requires fits { length (known_section id (module_of «module».now)) < 2 ^ 64 }
     ensures { OnOk result (out.new.items ≡ out.old.items ++ known_section id (module_of «module».now)) }

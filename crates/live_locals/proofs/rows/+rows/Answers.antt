@@ -4,10 +4,10 @@ use Rattle.wa_model.specs.Flat.{no_more, nests, decides, code_of}
 use Rattle.wa_model.specs.FlatView.{stmt_in_front, stmts}
 use Rattle.wa_model.specs.declared.flat.Stmt.{the_lemmas}
 use Rattle.flat_pieces.proofs.StmtLemmas.{block_is, loop_is, if_is}
-use Rattle.live_locals.specs.Sets.{TellsBefore}
-use Rattle.live_locals.proofs.SetLemmas.{put_back}
-use Rattle.live_locals.proofs.StepLemmas.{call_arm}
-use Rattle.live_locals.proofs.PassLemmas.{passed_first, passed_before, holds_none, block_passed, if_passed}
+use Rattle.live_passes.specs.Sets.{TellsBefore}
+use Rattle.live_passes.proofs.SetLemmas.{put_back}
+use Rattle.live_passes.proofs.StepLemmas.{call_arm}
+use Rattle.live_passes.proofs.PassLemmas.{passed_first, passed_before, holds_none, block_passed, if_passed}
 use Rattle.live_locals.proofs.RowLemmas.{rows_first, rows_before, countable_before, call_room, call_rows, block_rows, loop_rows, if_rows, nest_countable, else_countable, then_countable, simple_rows}
 use Rattle.live_locals.proofs.rows.+rows.Goals as goal
 

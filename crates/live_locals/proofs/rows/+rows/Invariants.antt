@@ -1,7 +1,7 @@
 use Rattle.std.proofs.Common.{◌≤◌, drop, length}
 use Rattle.wa_model.specs.Flat.{code_of}
 use Rattle.wa_model.specs.FlatView.{stmts}
-use Rattle.live_locals.specs.Sets.{Passed}
+use Rattle.live_passes.specs.Sets.{Passed}
 use Rattle.live_locals.specs.Rows.{RowsPut}
 use Rattle.live_locals.proofs.rows.+rows.Given as goal
 

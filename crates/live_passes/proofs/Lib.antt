@@ -1,0 +1,5 @@
+pub mod StmtViews
+pub mod SetLemmas
+pub mod CodeLemmas
+pub mod StepLemmas
+pub mod PassLemmas

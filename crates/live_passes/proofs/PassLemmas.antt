@@ -1,0 +1,131 @@
+-- Bodies and constructs, passed over backwards.
+use Rattle.std.proofs.Common.{◌≡◌, ◌∙◌, ℕ, zero, suc, ◌-◌, ◌+◌, ◌<◌, ◌≤◌, List, [], ◌∷◌, ◌++◌, length, take, drop, get_or, Option, Some, None, Bool, true, false, ◌||◌, refl, sym, ap, arith, subst, length-append}
+use Rattle.std.specs.Prelude.{Vec}
+use Rattle.std.specs.declared.alloc.Global.{Global}
+use Rattle.std.proofs.lemmas.List.{take_at}
+use Rattle.wa_types.specs.Syntax.{a_block, a_loop, Code, done, plain, nest, branch}
+use Rattle.wa_types.specs.Liveness.{live}
+use Rattle.wa_model.specs.declared.flat.Operand.{Operand}
+use Rattle.wa_model.specs.declared.flat.Stmt.{Stmt}
+use Rattle.wa_model.specs.declared.flat.Stmt.TheVariants.{Plain as PlainStmt, Move, Call as CallStmt, Br as BrStmt, BrIf as BrIfStmt, BrTable as BrTableStmt, Block, Loop, If, Unreachable as UnreachableStmt, Block', Loop', If', rolls-Block, rolls-Loop, rolls-If, outs-Block', outs-Loop', outs-If'}
+use Rattle.wa_model.specs.declared.flat.Stmt.{roll-Stmt, roll-out-Stmt}
+use Rattle.wa_model.specs.Flat.{Stmts, no_more, nests, decides, followed_by, got, code_of}
+use Rattle.wa_model.specs.FlatView.{stmt_in_front, stmts}
+use Rattle.live_passes.specs.Ops.{OpsFit, HoldsNone}
+use Rattle.live_passes.specs.Sets.{has, told_of, TellsBefore, TellsAnywhere, Passed}
+use Rattle.live_passes.proofs.SetLemmas.{tells_then, tells_as, tells_none, told_more}
+use Rattle.live_passes.proofs.CodeLemmas.{got_then, code_before, code_end, ops_at}
+
+-- ---- bodies
+
+pub passed_first : (tos : List (Vec Bool Global)) (set : List Bool) (xs : List Stmt) → Passed tos tos set set (code_of (stmts (drop (length xs) xs)))
+passed_first tos set xs = record { labels = refl; tells = tells_as tos set set done (code_of (stmts (drop (length xs) xs))) (sym (code_end xs)) (tells_none tos set) }
+
+pub passed_before : (tos mid new : List (Vec Bool Global)) (a b c : List Bool) (xs : List Stmt) (left : ℕ) (x : Stmt) → 0 < left → left ≤ length xs → x ≡ get_or xs (left - 1) x
+    → Passed tos mid a b (code_of (stmts (drop left xs))) → Passed mid new b c (code_of (stmt_in_front x no_more)) → Passed tos new a c (code_of (stmts (drop (left - 1) xs)))
+passed_before tos mid new a b c xs left x some within at f g = record {
+  labels = g.labels ∙ f.labels;
+  tells = tells_as tos a c (followed_by (code_of (stmt_in_front x no_more)) (code_of (stmts (drop left xs)))) (code_of (stmts (drop (left - 1) xs))) (code_before xs left x some within at)
+      (tells_then tos a b c (code_of (stmt_in_front x no_more)) (code_of (stmts (drop left xs))) f.tells
+      (subst (λ ts. TellsBefore ts b c (code_of (stmt_in_front x no_more))) f.labels g.tells));
+}
+
+pub passed_end : (tos new : List (Vec Bool Global)) (a b : List Bool) (xs : List Stmt) (left : ℕ) → left ≡ 0 → Passed tos new a b (code_of (stmts (drop left xs))) → Passed tos new a b (code_of (stmts xs))
+passed_end tos new a b xs left e h = subst (λ n. Passed tos new a b (code_of (stmts (drop n xs)))) e h
+
+-- ---- labels put and taken away
+
+pub popped : (tos : List (Vec Bool Global)) (v : Vec Bool Global) (old : Vec (Vec Bool Global) Global) (new : List (Vec Bool Global)) → old.items ≡ tos ++ v ∷ []
+    → new ≡ take (old.len - 1) old.items → new ≡ tos
+popped tos v old new e r =
+    let n = old.ok.0 in let m = ap length e in let k = length-append tos (v ∷ []) in
+    let z : old.len - 1 ≡ length tos = omega (arith, n, m, k) in
+    r ∙ ap (λ j. take j old.items) z ∙ ap (take (length tos)) e ∙ take_at tos (v ∷ []) (length tos) refl
+
+-- ---- constructs
+
+module _ (tos : List (Vec Bool Global)) (v : Vec Bool Global) (behind : List Bool) where
+  abbrev inner : List (Vec Bool Global)
+  inner = tos ++ v ∷ []
+
+  under_label : (x : ℕ) (b : Bool) (k : Code) → has v.items x ≡ b → live x (told_of x inner) (has behind x) k ≡ live x (b ∷ told_of x tos) (has behind x) k
+  under_label x b k e = ap (λ ts. live x ts (has behind x) k) (told_more x tos v ∙ ap (λ c. c ∷ told_of x tos) e)
+
+  pub block_tells : (before : List Bool) (body : Code) → v.items ≡ behind → TellsBefore inner behind before body → TellsBefore tos behind before (nest a_block None body done)
+  unfolding live
+  block_tells before body e h = record { size = h.size; each = λ x lt. h.each x lt ∙ under_label x (has behind x) body (ap (λ s. has s x) e) }
+
+  pub loop_tells : (before : List Bool) (body : Code) → v.items ≡ [] → TellsBefore inner behind before body → TellsBefore tos behind before (nest a_loop None body done)
+  unfolding live
+  loop_tells before body e h = record { size = h.size; each = λ x lt. h.each x lt ∙ under_label x false body (ap (λ s. has s x) e) }
+
+  pub arms_tell : (first second joined : List Bool) (a b : Code) → v.items ≡ behind → TellsBefore inner behind second b → TellsBefore inner behind first a → length joined ≡ length second
+      → ((x : ℕ) → x < length second → has joined x ≡ (has first x || has second x)) → TellsBefore tos behind joined (branch None a b done)
+  unfolding live
+  arms_tell first second joined a b e f g n h = record {
+    size = n ∙ f.size;
+    each = λ x lt. let m = f.size in
+        h x (omega (arith, m, lt)) ∙ (λ i. (g.each x lt ∙ under_label x (has behind x) a (ap (λ s. has s x) e)) i || (f.each x lt ∙ under_label x (has behind x) b (ap (λ s. has s x) e)) i);
+  }
+
+module _ (x : Stmt) (tos : List (Vec Bool Global)) where
+  abbrev one : Code
+  one = code_of (stmt_in_front x no_more)
+
+  pub block_passed : (body : Stmts) (v : Vec Bool Global) (mid : Vec (Vec Bool Global) Global) (inside new : List (Vec Bool Global)) (a b : List Bool) → stmt_in_front x no_more ≡ nests a_block body no_more
+      → v.items ≡ a → inside ≡ tos ++ v ∷ [] → Passed inside mid.items a b (code_of body) → new ≡ take (mid.len - 1) mid.items → Passed tos new a b one
+  unfolding code_of
+  block_passed body v mid inside new a b is e ei h r = record {
+    labels = popped tos v mid new (h.labels ∙ ei) r;
+    tells = tells_as tos a b (nest a_block None (code_of body) done) one (sym (ap code_of is))
+        (block_tells tos v a b (code_of body) e (subst (λ ts. TellsBefore ts a b (code_of body)) ei h.tells));
+  }
+
+  pub loop_passed : (body : Stmts) (v : Vec Bool Global) (mid : Vec (Vec Bool Global) Global) (inside new : List (Vec Bool Global)) (a b : List Bool) → stmt_in_front x no_more ≡ nests a_loop body no_more
+      → v.items ≡ [] → inside ≡ tos ++ v ∷ [] → Passed inside mid.items a b (code_of body) → new ≡ take (mid.len - 1) mid.items → Passed tos new a b one
+  unfolding code_of
+  loop_passed body v mid inside new a b is e ei h r = record {
+    labels = popped tos v mid new (h.labels ∙ ei) r;
+    tells = tells_as tos a b (nest a_loop None (code_of body) done) one (sym (ap code_of is))
+        (loop_tells tos v a b (code_of body) e (subst (λ ts. TellsBefore ts a b (code_of body)) ei h.tells));
+  }
+
+  -- `lent` is the set of the then arm as it is read again
+  pub if_passed : (o : Operand) (s t : Stmts) (v : Vec Bool Global) (mid : List (Vec Bool Global)) (last : Vec (Vec Bool Global) Global) (inside new : List (Vec Bool Global)) (a own first lent second joined b : List Bool)
+      → stmt_in_front x no_more ≡ decides o s t no_more → v.items ≡ a → own ≡ a → lent ≡ first → inside ≡ tos ++ v ∷ [] → Passed inside mid a second (code_of t) → Passed mid last.items own first (code_of s)
+      → new ≡ take (last.len - 1) last.items → length joined ≡ length second → ((y : ℕ) → y < length second → has joined y ≡ (has lent y || has second y))
+      → TellsAnywhere joined b (got o done) → Passed tos new a b one
+  unfolding code_of
+  if_passed o s t v mid last inside new a own first lent second joined b is e eo el ei h g r n j op =
+      let then_arm : Passed mid last.items a first (code_of s) = subst (λ u. Passed mid last.items u first (code_of s)) eo g in record {
+        labels = popped tos v last new (g.labels ∙ h.labels ∙ ei) r;
+        tells = tells_as tos a b (followed_by (got o done) (branch None (code_of s) (code_of t) done)) one
+            (sym (got_then o (branch None (code_of s) (code_of t) done)) ∙ sym (ap code_of is))
+            (tells_then tos a joined b (got o done) (branch None (code_of s) (code_of t) done)
+            (arms_tell tos v a first second joined (code_of s) (code_of t) e (subst (λ ts. TellsBefore ts a second (code_of t)) ei h.tells)
+            (subst (λ ts. TellsBefore ts a first (code_of s)) (h.labels ∙ ei) then_arm.tells) n (λ y l. j y l ∙ ap (λ u. has u y || has second y) el)) (op tos));
+      }
+
+  -- what is asked of what stands inside
+  pub nest_ops : (y : _) (body : Stmts) → stmt_in_front x no_more ≡ nests y body no_more → OpsFit (stmt_in_front x no_more) → OpsFit body
+  nest_ops y body is h = (subst OpsFit is h).0
+
+  pub then_ops : (o : Operand) (s t : Stmts) → stmt_in_front x no_more ≡ decides o s t no_more → OpsFit (stmt_in_front x no_more) → OpsFit s
+  then_ops o s t is h = (subst OpsFit is h).0
+
+  pub else_ops : (o : Operand) (s t : Stmts) → stmt_in_front x no_more ≡ decides o s t no_more → OpsFit (stmt_in_front x no_more) → OpsFit t
+  else_ops o s t is h = (subst OpsFit is h).1
+
+pub holds_none : (x : Stmt) → ((v : Vec Stmt Global) → x ≡ Block v → ⊥) → ((v : Vec Stmt Global) → x ≡ Loop v → ⊥) → ((o : Operand) (v w : Vec Stmt Global) → x ≡ If o v w → ⊥)
+    → HoldsNone (stmt_in_front x no_more)
+unfolding stmt_in_front
+holds_none (PlainStmt op args to) nb nl ni = tt
+holds_none (Move to from) nb nl ni = tt
+holds_none (CallStmt op stack args to) nb nl ni = tt
+holds_none (BrStmt l) nb nl ni = tt
+holds_none (BrIfStmt o l) nb nl ni = tt
+holds_none (BrTableStmt o v l) nb nl ni = tt
+holds_none (Block' a z) nb nl ni = absurd (nb _ (sym (roll-out-Stmt (Block' a z)) ∙ ap roll-Stmt (outs-Block' a z) ∙ rolls-Block _))
+holds_none (Loop' a z) nb nl ni = absurd (nl _ (sym (roll-out-Stmt (Loop' a z)) ∙ ap roll-Stmt (outs-Loop' a z) ∙ rolls-Loop _))
+holds_none (If' c a z e f) nb nl ni = absurd (ni c _ _ (sym (roll-out-Stmt (If' c a z e f)) ∙ ap roll-Stmt (outs-If' c a z e f) ∙ rolls-If c _ _))
+holds_none UnreachableStmt nb nl ni = tt

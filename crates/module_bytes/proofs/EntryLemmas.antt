@@ -1,0 +1,175 @@
+-- Functions put as entries, one after the other.
+use Rattle.std.proofs.Common.{◌≡◌, ◌∙◌, ℕ, zero, suc, ◌+◌, ◌-◌, ◌<◌, ◌≤◌, ◌^◌, List, [], ◌∷◌, ◌++◌, length, get_or, drop, Some, Bool, true, false, Ok, Err, refl, sym, ap, subst, arith, append_assoc, length-append}
+use Rattle.std.specs.Prelude.{slice_get}
+use Rattle.std.specs.List.{flat_map}
+use Rattle.std.specs.Vec.{vec_len}
+use Rattle.std.proofs.lemmas.List.{append-nil, drop_all, length-map}
+use Rattle.std.proofs.lemmas.Option.{slice_get-get_or}
+use Rattle.wa_types.specs.Encoding.{Enc}
+use Rattle.wa_types.specs.Frames.{Count}
+use Rattle.wa_types.specs.Modules.{func_imports, defined_at}
+use Rattle.wa_types.specs.Pausing.{Settings, is_told}
+use Rattle.wa_types.specs.Sizes.{FuncSizes, StrictSizeRule}
+use Rattle.wa_types.specs.Syntax.{Func, Module}
+use Rattle.wa_types.specs.View.{func_of, module_of}
+use Rattle.wa_types.specs.declared.syntax.Func.{Func as FuncValue}
+use Rattle.wa_types.specs.declared.syntax.Module.{Module as ModuleValue}
+use Rattle.wa_types.specs.Validity.{Valid}
+use Rattle.wa_model.specs.Flat.{FlatFunc}
+use Rattle.flat_laws.specs.Flatten.{flattened}
+use Rattle.flatten.specs.Whole.{NonePasses, FlatAnswer}
+use Rattle.flatten.specs.declared.whole.Flattened.{Flattened}
+use Rattle.flatten.specs.declared.fault.FlatFault.{FlatFault}
+use Rattle.flatten.specs.declared.fault.FlatFault.TheVariants as F
+use Rattle.flatten.proofs.ToldLemmas.{Sofar, sofar_first, sofar_done, go_skip, go_put, go_stop}
+use Rattle.func_rewrite.specs.Frames.{IsFlattened}
+use Rattle.rewrite_form.specs.Emitted.{written_func, emitted_func, emitted_funcs}
+use Rattle.rewrite_form.proofs.Emitted.{told, not_told}
+use Rattle.wasm_entries.specs.Locals.{local_count}
+use Rattle.wasm_validate.proofs.FuncLemmas.{func_at}
+use Rattle.wasm_encode.specs.Around.{code_entry}
+use Rattle.emitted_bytes.proofs.EmittedFits.{defined_of, one_of_all}
+use Rattle.emitted_bytes.proofs.EmittedLength.{written_entry, written_locals_few}
+use Rattle.emitted_bytes.proofs.Grown.{enc_length}
+use Rattle.emitted_bytes.proofs.Lengths.{entries_within}
+use Rattle.module_bytes.specs.Emitting.{emitted_entries, Emits}
+use Rattle.module_bytes.specs.Faults.{of_flat}
+
+-- ---- entries are no longer than all the bytes
+
+pub entries_short : (m : Module) → length (flat_map code_entry m.funcs) ≤ length (Enc m)
+entries_short m = omega (arith, enc_length m, entries_within 10 code_entry m.funcs)
+
+one_short : (fs : List Func) (i : ℕ) (f : Func) → slice_get fs i ≡ Some f → length (code_entry f) ≤ length (flat_map code_entry fs)
+one_short [] i f e = cc
+one_short (g ∷ fs) zero f e =
+    let z : g ≡ f = cc in
+    omega (arith, length-append (code_entry g) (flat_map code_entry fs), ap (λ (h : Func). length (code_entry h)) z)
+one_short (g ∷ fs) (suc i) f e = omega (arith, length-append (code_entry g) (flat_map code_entry fs), one_short fs i f e)
+
+pub entry_short : (m : Module) (i : ℕ) (f : Func) → slice_get m.funcs i ≡ Some f → length (Enc m) ≤ 2 ^ 60 → length (code_entry f) < 2 ^ 64
+entry_short m i f e l = omega (arith, one_short m.funcs i f e, entries_short m, l)
+
+pub locals_small : (m : Module) (i : ℕ) (f : Func) → slice_get m.funcs i ≡ Some f → StrictSizeRule m → local_count f.locals < 2 ^ 32
+locals_small m i f e strict =
+    let t = (one_of_all (FuncSizes (2 ^ 31) (2 ^ 31) m) m.funcs i f strict.each_func e).total in omega (arith, t)
+
+-- ---- entry by entry
+
+drop_at : {X : Type 0} (xs : List X) (i : ℕ) (x : X) → slice_get xs i ≡ Some x → drop i xs ≡ x ∷ drop (i + 1) xs
+drop_at [] i x e = cc
+drop_at (y ∷ ys) zero x e = let z : y ≡ x = cc in ap (λ w. w ∷ ys) z
+drop_at (y ∷ ys) (suc i) x e = let z : suc (i + 1) ≡ suc i + 1 = omega arith in drop_at ys i x e ∙ ap (λ k. x ∷ drop k (y ∷ ys)) z
+
+-- What the program knows of the function at a place: where its answer stands, and which it is.
+pub record Here (m : Module) (which : List Bool) (i at : ℕ) (f : Func) : Type 0 where
+  pub many : length which ≡ func_imports m + length m.funcs
+  pub within : i < length m.funcs
+  pub place : at ≡ func_imports m + i
+  pub is : slice_get m.funcs i ≡ Some f
+
+pub here : (v z : ModuleValue) (which : List Bool) (i own end : ℕ) (f : FuncValue) → z ≡ v → length which ≡ func_imports (module_of v) + length (module_of v).funcs
+    → own ≡ vec_len z.funcs → end ≡ vec_len z.funcs → i < end → f ≡ get_or z.funcs.items i f → Here (module_of v) which i (length which - own + i) (func_of f)
+here v z which i own end f same many eo ee lt ef =
+    let len = length-map v.funcs.items func_of in
+    let count = ap (λ (z : ModuleValue). length z.funcs.items) same in
+    let ok : vec_len z.funcs ≡ length z.funcs.items = let k = z.funcs.ok in omega arith in
+    record {
+      many = many;
+      within = omega (arith, lt, ee, ok, count, len);
+      place = omega (arith, eo, ok, many, count, len);
+      is = func_at v.funcs.items i f (omega (arith, lt, ee, ok, count)) (ef ∙ ap (λ (z : ModuleValue). get_or z.funcs.items i f) same);
+    }
+
+module _ (m : Module) (s : Settings) (which : List Bool) where
+  abbrev n : ℕ
+  n = func_imports m
+
+  abbrev ws : List Bool
+  ws = drop n which
+
+  -- the entries of the functions from this one on
+  abbrev left : ℕ → List ℕ
+  left i = flat_map code_entry (emitted_funcs m s which (n + i) (drop i m.funcs))
+
+  -- What is known where so many functions are done.
+  pub record Going (i : ℕ) (out : List ℕ) : Type 0 where
+    pub flats : List FlatFunc
+    pub sofar : Sofar m ws m.funcs n i flats
+    pub put : out ++ flat_map code_entry (emitted_funcs m s which (n + i) (drop i m.funcs)) ≡ emitted_entries m s which
+
+  pub going_first : (out : List ℕ) → out ≡ [] → Going 0 out
+  going_first out e =
+      let z : n + 0 ≡ n = omega arith in
+      record {
+        flats = [];
+        sofar = sofar_first m ws m.funcs n [] refl;
+        put = ap (λ bs. bs ++ flat_map code_entry (emitted_funcs m s which (n + 0) m.funcs)) e ∙ ap (λ k. flat_map code_entry (emitted_funcs m s which k m.funcs)) z;
+      }
+
+  pub going_end : (i : ℕ) (out : List ℕ) → Going i out → length m.funcs ≤ i → (out ≡ emitted_entries m s which) × NonePasses m (drop (func_imports m) which) m.funcs
+  going_end i out g le =
+      let none : drop i m.funcs ≡ [] = drop_all i m.funcs le in (
+        sym (append-nil out) ∙ ap (λ fs. out ++ flat_map code_entry (emitted_funcs m s which (n + i) fs)) (sym none) ∙ g.put,
+        (sofar_done m ws m.funcs n i g.flats g.sofar le).1,
+      )
+
+  module _ (i at : ℕ) (out : List ℕ) (g : Going i out) (f : Func) (p : Here m which i at f) where
+    bit : (b : Bool) → get_or which at false ≡ b → slice_get which (n + i) ≡ Some b
+    bit b e = ap (slice_get which) (sym p.place) ∙ slice_get-get_or which at false (omega (arith, p.many, p.within, p.place)) ∙ ap (λ c. Some c) e
+
+    next_x : suc (n + i) ≡ n + (i + 1)
+    next_x = omega arith
+
+    emitted_here : emitted_funcs m s which (n + i) (drop i m.funcs) ≡ emitted_func m s which (n + i) f ∷ emitted_funcs m s which (n + (i + 1)) (drop (i + 1) m.funcs)
+    emitted_here =
+        ap (emitted_funcs m s which (n + i)) (drop_at m.funcs i f p.is)
+        ∙ ap (λ k. emitted_func m s which (n + i) f ∷ emitted_funcs m s which k (drop (i + 1) m.funcs)) next_x
+
+    one_more : (new : List ℕ) (h : Func) → emitted_func m s which (n + i) f ≡ h → new ≡ out ++ code_entry h → new ++ left (i + 1) ≡ emitted_entries m s which
+    one_more new h eh en =
+        ap (λ bs. bs ++ left (i + 1)) en ∙ append_assoc out (code_entry h) (left (i + 1))
+        ∙ ap (λ k. out ++ (code_entry k ++ left (i + 1))) (sym eh) ∙ ap (λ fs. out ++ flat_map code_entry fs) (sym emitted_here) ∙ g.put
+
+    pub going_keep : (new : List ℕ) → get_or which at false ≡ false → new ≡ out ++ code_entry f → Going (i + 1) new
+    going_keep new e put = record {
+      flats = g.flats;
+      sofar = go_skip m which n i at g.flats g.sofar p.many p.within p.place e;
+      put = one_more new f (not_told m s which (n + i) f (ap is_told (bit false e))) put;
+    }
+
+    -- the flat function of this place
+    module _ (flat : Flattened) (y : ℕ) (ey : y ≡ n + i) (h : FlatAnswer m y f (Ok flat)) where
+      index_is : flat.func.func ≡ n + i
+      index_is = ap (λ (z : FlatFunc). z.func) h.0 ∙ ey
+
+      pub is_flattened : IsFlattened m f flat
+      is_flattened = record {
+        defined = ap (defined_at m) index_is ∙ defined_of m i f p.is;
+        flat = h.0 ∙ ap (λ k. flattened m k f) (ey ∙ sym index_is);
+        few = h.1;
+        first_slot = h.2;
+        first_result = h.3;
+      }
+
+      pub written_small : Valid m → StrictSizeRule m → local_count (written_func m s which flat.func.func f).locals < 2 ^ 32
+      written_small v strict = written_locals_few m s which v flat.func.func i f p.is (one_of_all (FuncSizes (2 ^ 31) (2 ^ 31) m) m.funcs i f strict.each_func p.is) h.1
+
+      pub written_short : Valid m → StrictSizeRule m → length (code_entry (written_func m s which flat.func.func f)) < 2 ^ 64
+      written_short v strict =
+          let l = written_entry m s which v flat.func.func i f p.is (one_of_all (FuncSizes (2 ^ 31) (2 ^ 31) m) m.funcs i f strict.each_func p.is) h.1 in omega (arith, l)
+
+      pub going_written : (new : List ℕ) → get_or which at false ≡ true → new ≡ out ++ code_entry (written_func m s which flat.func.func f) → Going (i + 1) new
+      going_written new e put =
+          let flats : List FlatFunc = g.flats ++ flattened m (n + i) f ∷ [] in
+          record {
+            flats = flats;
+            sofar = go_put m which n i at g.flats g.sofar p.many p.within p.place flats (flattened m (n + i) f) (n + i) e refl refl
+                (λ k ek. let z : Some f ≡ Some k = sym p.is ∙ ek in let q : f ≡ k = cc in (ap (flattened m (n + i)) q, subst (λ w. Count m w ≤ 50000) q h.1));
+            put = one_more new (written_func m s which flat.func.func f) (told m s which (n + i) f (ap is_told (bit true e)) ∙ ap (λ k. written_func m s which k f) (sym index_is)) put;
+          }
+
+  pub going_stop : (i at y : ℕ) (out : List ℕ) → Going i out → (f : Func) → Here m which i at f → get_or which at false ≡ true → y ≡ n + i → (fault : FlatFault)
+      → ((f : Func) → slice_get m.funcs i ≡ Some f → FlatAnswer m y f (Err fault)) → Emits m s which (Err (of_flat fault))
+  going_stop i at y out g f p e ey F.Memory h = tt
+  going_stop i at y out g f p e ey (F.Locals func count) h = go_stop m which n i at g.flats g.sofar p.many p.within p.place func count y e ey h

@@ -1,0 +1,108 @@
+-- The module with the runtime's parts stands around the entries; what is written is the emitted module.
+use Rattle.std.proofs.Common.{◌≡◌, ◌<◌, ◌^◌, ◌∙◌, Ok, Err, ap, arith, length, subst, sym}
+use Rattle.std.proofs.lemmas.List.{length-map}
+use Rattle.std.proofs.lemmas.Result.{err_from_is_err_and}
+use Rattle.wa_types.specs.declared.syntax.Module.{Module as ModuleValue}
+use Rattle.wa_types.specs.Runtime.{func_space, global_space, with_runtime}
+use Rattle.wa_types.specs.Validity.{Valid}
+use Rattle.wa_types.specs.View.{func_of, module_of}
+use Rattle.call_graph.specs.Settings.{settings_of}
+use Rattle.rewrite_form.specs.Emitted.{asyncified}
+use Rattle.module_rewrite.proofs.WholeLemmas.{globals_small, space_small}
+use Rattle.module_bytes.specs.Emitting.{Emits}
+use Rattle.module_bytes.specs.Whole.{EmitsModule}
+use Rattle.module_bytes.proofs.Parts.{parts_around, parts_locals, parts_short, text_fault}
+use Rattle.module_bytes.proofs.whole.emit_module.Goals as goal
+
+pub ids_behind-ids-requires-clause-funcs : goal.ids_behind-ids-requires-clause-funcs
+ids_behind-ids-requires-clause-funcs c =
+    subst (λ (z : ModuleValue). func_space (module_of z) < 2 ^ 31) (sym c.module.ensures.same) (space_small (module_of c.args.valid) c.requires.sizes)
+
+pub ids_behind-ids-requires-clause-globals : goal.ids_behind-ids-requires-clause-globals
+ids_behind-ids-requires-clause-globals c =
+    subst (λ (z : ModuleValue). global_space (module_of z) < 2 ^ 31) (sym c.module.ensures.same) (globals_small (module_of c.args.valid) c.requires.sizes)
+
+pub with_parts-requires-clause-funcs : goal.with_parts-requires-clause-funcs
+with_parts-requires-clause-funcs c =
+    subst (λ (z : ModuleValue). func_space (module_of z) < 2 ^ 31) (sym c.into_module-module.ensures.same) (space_small (module_of c.args.valid) c.requires.sizes)
+
+pub with_parts-requires-clause-globals : goal.with_parts-requires-clause-globals
+with_parts-requires-clause-globals c =
+    subst (λ (z : ModuleValue). global_space (module_of z) < 2 ^ 31) (sym c.into_module-module.ensures.same) (globals_small (module_of c.args.valid) c.requires.sizes)
+
+pub put_funcs-requires-clause-locals : goal.put_funcs-requires-clause-locals
+put_funcs-requires-clause-locals c =
+    let m = module_of c.args.valid in
+    let s = settings_of c.args.settings.now in
+    let which = c.in_ok-which.which.items in
+    let valid = subst (λ (z : ModuleValue). Valid (module_of z)) c.module.ensures.same c.module.ensures.valid in
+    let e = subst (λ w. Emits m s w (Ok c.in_ok-entries.entries)) c.deref.ensures.value c.in_ok-entries.ensures in
+    let with = c.in_ok-with.ensures.done ∙ ap (λ (z : ModuleValue). with_runtime (module_of z)) c.into_module-module.ensures.same in
+    let many = ap (λ (z : ModuleValue). length z.funcs.items) c.into_module-module.ensures.same in
+    let len = length-map c.args.valid.funcs.items func_of in
+    let own : c.len-own.result ≡ length m.funcs = omega (arith, c.len-own.ensures, many, len) in
+    parts_locals m s which valid c.requires.sizes e.1 c.requires.few c.requires.short c.in_ok-with.with with c.len-own.result own c.deref-3.result.now c.deref-3.ensures.value
+
+pub put_funcs-requires-clause-short : goal.put_funcs-requires-clause-short
+put_funcs-requires-clause-short c =
+    let m = module_of c.args.valid in
+    let s = settings_of c.args.settings.now in
+    let which = c.in_ok-which.which.items in
+    let valid = subst (λ (z : ModuleValue). Valid (module_of z)) c.module.ensures.same c.module.ensures.valid in
+    let e = subst (λ w. Emits m s w (Ok c.in_ok-entries.entries)) c.deref.ensures.value c.in_ok-entries.ensures in
+    let with = c.in_ok-with.ensures.done ∙ ap (λ (z : ModuleValue). with_runtime (module_of z)) c.into_module-module.ensures.same in
+    let many = ap (λ (z : ModuleValue). length z.funcs.items) c.into_module-module.ensures.same in
+    let len = length-map c.args.valid.funcs.items func_of in
+    let own : c.len-own.result ≡ length m.funcs = omega (arith, c.len-own.ensures, many, len) in
+    parts_short m s which valid c.requires.sizes e.1 c.requires.few c.requires.short c.in_ok-with.with with c.len-own.result own c.deref-3.result.now c.deref-3.ensures.value
+
+pub encode_around-requires : goal.encode_around-requires
+encode_around-requires c =
+    let m = module_of c.args.valid in
+    let s = settings_of c.args.settings.now in
+    let which = c.in_ok-which.which.items in
+    let valid = subst (λ (z : ModuleValue). Valid (module_of z)) c.module.ensures.same c.module.ensures.valid in
+    let e = subst (λ w. Emits m s w (Ok c.in_ok-entries.entries)) c.deref.ensures.value c.in_ok-entries.ensures in
+    let with = c.in_ok-with.ensures.done ∙ ap (λ (z : ModuleValue). with_runtime (module_of z)) c.into_module-module.ensures.same in
+    let many = ap (λ (z : ModuleValue). length z.funcs.items) c.into_module-module.ensures.same in
+    let len = length-map c.args.valid.funcs.items func_of in
+    let own : c.len-own.result ≡ length m.funcs = omega (arith, c.len-own.ensures, many, len) in
+    let a = parts_around m s which valid c.requires.sizes e.1 c.requires.few c.requires.short c.in_ok-with.with with c.len-own.result own c.deref-3.result.now c.deref-3.ensures.value
+    c.in_ok-entries.entries.bytes.items c.as_slice.result.now e.0 (c.as_slice.ensures ∙ c.in_ok-put_funcs.ensures) in
+    (asyncified m s which, a)
+
+pub returns-in_err-text : goal.returns-in_err-text
+returns-in_err-text c =
+    let m = module_of c.args.valid in
+    let s = settings_of c.args.settings.now in
+    let which = c.in_ok-which.which.items in
+    let valid = subst (λ (z : ModuleValue). Valid (module_of z)) c.module.ensures.same c.module.ensures.valid in
+    let e = subst (λ w. Emits m s w (Ok c.in_ok-entries.entries)) c.deref.ensures.value c.in_ok-entries.ensures in
+    let with = c.in_ok-with.ensures.done ∙ ap (λ (z : ModuleValue). with_runtime (module_of z)) c.into_module-module.ensures.same in
+    let many = ap (λ (z : ModuleValue). length z.funcs.items) c.into_module-module.ensures.same in
+    let len = length-map c.args.valid.funcs.items func_of in
+    let own : c.len-own.result ≡ length m.funcs = omega (arith, c.len-own.ensures, many, len) in
+    let a = parts_around m s which valid c.requires.sizes e.1 c.requires.few c.requires.short c.in_ok-with.with with c.len-own.result own c.deref-3.result.now c.deref-3.ensures.value
+    c.in_ok-entries.entries.bytes.items c.as_slice.result.now e.0 (c.as_slice.ensures ∙ c.in_ok-put_funcs.ensures) in
+    let r = err_from_is_err_and c.from_residual-in_err-text.result c.from_residual-in_err-text.ensures.1 in
+    subst (EmitsModule m s) (sym r.1) (subst (λ z. EmitsModule m s (Err z)) (sym r.2)
+    (text_fault m s which c.in_err-text.field-0.0 (record { tells = c.in_ok-which.ensures; few = e.1 }) (c.in_err-text.ensures.fault (asyncified m s which) a)))
+
+pub returns : goal.returns
+returns c =
+    let m = module_of c.args.valid in
+    let s = settings_of c.args.settings.now in
+    let which = c.in_ok-which.which.items in
+    let valid = subst (λ (z : ModuleValue). Valid (module_of z)) c.module.ensures.same c.module.ensures.valid in
+    let e = subst (λ w. Emits m s w (Ok c.in_ok-entries.entries)) c.deref.ensures.value c.in_ok-entries.ensures in
+    let with = c.in_ok-with.ensures.done ∙ ap (λ (z : ModuleValue). with_runtime (module_of z)) c.into_module-module.ensures.same in
+    let many = ap (λ (z : ModuleValue). length z.funcs.items) c.into_module-module.ensures.same in
+    let len = length-map c.args.valid.funcs.items func_of in
+    let own : c.len-own.result ≡ length m.funcs = omega (arith, c.len-own.ensures, many, len) in
+    let a = parts_around m s which valid c.requires.sizes e.1 c.requires.few c.requires.short c.in_ok-with.with with c.len-own.result own c.deref-3.result.now c.deref-3.ensures.value
+    c.in_ok-entries.entries.bytes.items c.as_slice.result.now e.0 (c.as_slice.ensures ∙ c.in_ok-put_funcs.ensures) in
+    record {
+      can = record { tells = c.in_ok-which.ensures; few = e.1 };
+      text = c.in_ok-text.ensures.ok (asyncified m s which) a;
+      short = c.in_ok-text.ensures.short (asyncified m s which) a;
+    }

@@ -1,0 +1,15 @@
+-- Faults of flattening and of writing, as those of emitting.
+use Rattle.flatten.specs.declared.fault.FlatFault.{FlatFault}
+use Rattle.flatten.specs.declared.fault.FlatFault.TheVariants as F
+use Rattle.wasm_encode.specs.declared.EncodeFault.{EncodeFault}
+use Rattle.wasm_encode.specs.declared.EncodeFault.TheVariants as E
+use Rattle.module_bytes.specs.declared.fault.EmitFault.{EmitFault}
+use Rattle.module_bytes.specs.declared.fault.EmitFault.TheVariants.{Memory, Locals, TooLong}
+
+abbrev pub of_flat : FlatFault → EmitFault
+of_flat F.Memory = Memory
+of_flat (F.Locals func count) = Locals func count
+
+abbrev pub of_encode : EncodeFault → EmitFault
+of_encode E.Memory = Memory
+of_encode (E.TooLong len) = TooLong len

@@ -1,0 +1,3 @@
+pub mod Emitting
+pub mod Faults
+pub mod Whole

@@ -1,0 +1,103 @@
+ghost use Rattle.std.specs.Prelude.{◌≡◌, ◌+◌, ◌<◌, ◌≤◌, ◌^◌, ◌++◌, drop, length, All, OnOk};
+ghost use Rattle.wa_types.specs.Encoding.{Enc};
+ghost use Rattle.wa_types.specs.Modules.{func_imports};
+ghost use Rattle.wa_types.specs.Pausing.{Listed};
+ghost use Rattle.wa_types.specs.Sizes.{StrictSizeRule};
+ghost use Rattle.wa_types.specs.Validity.{Valid as IsValid};
+ghost use Rattle.wa_types.specs.View.{func_of, module_of};
+ghost use Rattle.wa_types.specs.declared.syntax.Func.{Func as FuncValue};
+ghost use Rattle.call_graph.specs.Settings.{settings_of};
+ghost use Rattle.asyncify_runtime.specs.Ids.{ids_behind};
+ghost use Rattle.func_rewrite.specs.Frames.{IsFlattened};
+ghost use Rattle.rewrite_form.specs.Emitted.{written_func};
+ghost use Rattle.wasm_entries.specs.Locals.{local_count};
+ghost use Rattle.wasm_encode.specs.Around.{code_entry};
+ghost use Rattle.module_bytes.specs.Emitting.{value_entries, Emits};
+
+use crate::fault::EmitFault;
+use bytes::BytesMut;
+use call_graph::Settings;
+use flatten::{Flattened, flatten_func};
+use func_rewrite::emit_func;
+use local_spill::RuntimeIds;
+use std::alloc::{AllocError, Global};
+use wa_types::{Func, Module};
+use wasm_entries::put_func;
+use wasm_validate::Valid;
+
+/// Entries of the code section, one behind the other.
+#[derive(Drop)]
+pub(crate) struct Entries {
+    pub(crate) bytes: BytesMut,
+}
+
+/// Appends a function as it is written, as an entry of the code section.
+fn put_written(
+    alloc: Global,
+    out: &mut BytesMut,
+    module: &Module,
+    settings: &Settings,
+    which: &[bool],
+    listed: &[bool],
+    source: &Func,
+    flat: &Flattened,
+    ids: &RuntimeIds,
+) -> Result<(), AllocError>
+    requires valid { IsValid (module_of «module».now) }
+    requires sizes { StrictSizeRule (module_of «module».now) }
+    requires listed { listed.now ≡ Listed (module_of «module».now) (settings_of settings.now) }
+    requires ids { ids.now ≡ ids_behind (module_of «module».now) }
+    requires flat { IsFlattened (module_of «module».now) (func_of source.now) flat.now }
+    requires locals { local_count (written_func (module_of «module».now) (settings_of settings.now) which.now flat.now.func.func (func_of source.now)).locals < 2 ^ 32 }
+    requires short { length (code_entry (written_func (module_of «module».now) (settings_of settings.now) which.now flat.now.func.func (func_of source.now))) < 2 ^ 64 }
+    ensures { OnOk result (out.new.items ≡ out.old.items ++ code_entry (written_func (module_of «module».now) (settings_of settings.now) which.now flat.now.func.func (func_of source.now))) }
+{
+    let written = emit_func(alloc, module, settings, which, listed, source, flat, ids)?;
+    put_func(out, &written)
+}
+
+/// Appends the functions from this place on as entries of the code section.
+pub(crate) fn put_funcs(out: &mut BytesMut, funcs: &[Func], from: usize) -> Result<(), AllocError>
+    requires locals { All (λ (f : FuncValue). local_count f.locals.items < 2 ^ 32) funcs.now }
+    requires short { length (value_entries (drop from funcs.now)) < 2 ^ 64 }
+    ensures { OnOk result (out.new.items ≡ out.old.items ++ value_entries (drop from funcs.now)) }
+{
+    for index in from..funcs.len() {
+        put_func(out, &funcs[index])?;
+    }
+    Ok(())
+}
+
+/// The entries of all functions as they are emitted, where `which` tells the functions that may pause, and `listed` the
+/// imports that may. Each is dropped before the next is written.
+pub(crate) fn emit_funcs(
+    alloc: Global,
+    valid: &Valid,
+    settings: &Settings,
+    which: &[bool],
+    listed: &[bool],
+    ids: &RuntimeIds,
+) -> Result<Entries, EmitFault>
+    requires sizes { StrictSizeRule (module_of valid.now) }
+    requires short { length (Enc (module_of valid.now)) ≤ 2 ^ 60 }
+    requires which { length which.now ≡ func_imports (module_of valid.now) + length (module_of valid.now).funcs }
+    requires listed { listed.now ≡ Listed (module_of valid.now) (settings_of settings.now) }
+    requires ids { ids.now ≡ ids_behind (module_of valid.now) }
+    ensures { Emits (module_of valid.now) (settings_of settings.now) which.now result }
+{
+    let module = valid.module();
+    let imports = which.len() - module.funcs.len();
+    let mut out = BytesMut::new(alloc);
+    for index in 0..module.funcs.len() {
+        let source = &module.funcs[index];
+        if !which[imports + index] {
+            put_func(&mut out, source)?;
+            continue;
+        }
+        let flat = flatten_func(alloc, valid, imports, index)?;
+        put_written(
+            alloc, &mut out, module, settings, which, listed, source, &flat, ids,
+        )?;
+    }
+    Ok(Entries { bytes: out })
+}

@@ -1,0 +1,13 @@
+//! The bytes of the module that rewriting emits, without the module.
+//!
+//! `emit_module` writes each function as it is rewritten, puts it as an entry of the code section, and drops it, so that no two
+//! rewritten functions are in memory together; the other sections are written around the entries. The answer is exactly the
+//! bytes of `asyncified` of `rewrite_form`.
+#![tactic(auto)]
+
+mod emitting;
+mod fault;
+mod whole;
+
+pub use fault::EmitFault;
+pub use whole::{Emitted, emit_module};

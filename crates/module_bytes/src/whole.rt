@@ -1,0 +1,72 @@
+ghost use Rattle.std.specs.Prelude.{◌≡◌, ◌<◌, ◌≤◌, ◌^◌, None, length, IfOk, IfErr};
+ghost use Rattle.wa_types.specs.Encoding.{Enc};
+ghost use Rattle.wa_types.specs.Runtime.{func_space, global_space, with_runtime};
+ghost use Rattle.wa_types.specs.Sizes.{StrictSizeRule};
+ghost use Rattle.wa_types.specs.View.{module_of};
+ghost use Rattle.asyncify_runtime.specs.Reserved.{reserved_at};
+ghost use Rattle.call_graph.specs.Settings.{settings_of};
+ghost use Rattle.call_graph.specs.declared.settings.Policy.TheVariants.{All};
+ghost use Rattle.module_bytes.specs.declared.fault.EmitFault.TheVariants.{Memory};
+ghost use Rattle.module_bytes.specs.Whole.{EmitsModule};
+
+use crate::emitting::{emit_funcs, put_funcs};
+use crate::fault::EmitFault;
+use asyncify_runtime::{RuntimeFault, add_runtime, ids_behind};
+use bytes::BytesMut;
+use call_graph::{Settings, listed_imports, may_pause};
+use std::alloc::Global;
+use wa_types::Module;
+use wasm_encode::encode_around;
+use wasm_validate::Valid;
+
+/// The bytes of a module as it is rewritten, and which functions may pause, by one answer a function, imports first.
+#[derive(Debug, Drop)]
+pub struct Emitted {
+    pub text: BytesMut,
+    pub instrumented: Vec<bool>,
+}
+
+/// The module with the runtime's parts behind.
+fn with_parts(alloc: Global, module: Module) -> Result<Module, EmitFault>
+    requires types { length «module».types.items < 2 ^ 31 }
+    requires imports { length «module».imports.items < 2 ^ 31 }
+    requires funcs { func_space (module_of «module») < 2 ^ 31 }
+    requires globals { global_space (module_of «module») < 2 ^ 31 }
+    requires exports { length «module».exports.items < 2 ^ 31 }
+    requires free { reserved_at (module_of «module») ≡ None }
+    ensures done { IfOk result (λ p. module_of p ≡ with_runtime (module_of «module»)) }
+    ensures fault { IfErr result (λ e. e ≡ Memory) }
+{
+    match add_runtime(alloc, module) {
+        Ok(with) => Ok(with.module),
+        Err(RuntimeFault::Memory) => Err(EmitFault::Memory),
+        Err(RuntimeFault::Reserved(_)) => unreachable!(),
+    }
+}
+
+/// The bytes of the module rewritten so that it can stop in the middle of a call of a listed import and go on later, and without
+/// another tree in memory: that of one function at a time. `Locals` comes exactly where a function that may pause would have more
+/// than 50,000 parameters and locals, for the first; else `TooLong` exactly where there are more than 67,108,864 bytes. Takes
+/// time linear in the module and in what is answered.
+pub fn emit_module(alloc: Global, valid: Valid, settings: &Settings) -> Result<Emitted, EmitFault>
+    requires sizes { StrictSizeRule (module_of valid) }
+    requires free { reserved_at (module_of valid) ≡ None }
+    requires few { length (module_of valid).funcs ≤ 100000 }
+    requires short { length (Enc (module_of valid)) ≤ 2 ^ 60 }
+    requires policy { settings.now.policy ≡ All }
+    ensures { EmitsModule (module_of valid) (settings_of settings.now) result }
+{
+    let which = may_pause(alloc, &valid, settings)?;
+    let listed = listed_imports(alloc, &valid, settings)?;
+    let ids = ids_behind(valid.module());
+    let mut entries = emit_funcs(alloc, &valid, settings, &which, &listed, &ids)?;
+    let module = valid.into_module();
+    let own = module.funcs.len();
+    let with = with_parts(alloc, module)?;
+    put_funcs(&mut entries.bytes, &with.funcs, own)?;
+    let text = encode_around(alloc, &with, entries.bytes.as_slice())?;
+    Ok(Emitted {
+        text,
+        instrumented: which,
+    })
+}

@@ -1,0 +1,41 @@
+-- The bytes of one instruction.
+use Rattle.std.specs.Prelude.{◌≡◌, ℕ, List, [], ◌∷◌, ◌++◌, Option}
+use Rattle.std.specs.declared.vec.Vec.{Vec}
+use Rattle.std.specs.declared.alloc.Global.{Global}
+use Rattle.wa_types.specs.declared.values.ValType.{ValType}
+use Rattle.wa_types.specs.declared.instrs.Instr.{Instr}
+use Rattle.wa_types.specs.declared.instrs.Instr.TheVariants.{BrTable, Block, Loop, If}
+use Rattle.wa_types.specs.Leb.{shortest, shortest_signed}
+use Rattle.wa_types.specs.Syntax.{Code, done, plain, nest, branch}
+use Rattle.wa_types.specs.View.{in_front}
+use Rattle.wa_types.specs.Encoding.{plain_bytes, shape_byte, block_type_byte, code_bytes, else_bytes}
+use Rattle.wasm_entries.specs.declared.code.Operands.{Operands}
+use Rattle.wasm_entries.specs.declared.code.Operands.TheVariants.{Nothing, Zero, Index, IndexAndZero, Memory, Signed32, Signed64}
+
+-- the first instruction of a sequence
+unfoldable pub first_bytes : Code → List ℕ
+first_bytes done = []
+first_bytes (plain p rest) = plain_bytes p
+first_bytes (nest s r body rest) = shape_byte s ∷ block_type_byte r ∷ (code_bytes body ++ 0x0B ∷ [])
+first_bytes (branch r a b rest) = 0x04 ∷ block_type_byte r ∷ (code_bytes a ++ else_bytes b (code_bytes b) ++ 0x0B ∷ [])
+
+-- an instruction (standard, section 5.4)
+unfoldable pub instr_bytes : Instr → List ℕ
+instr_bytes i = first_bytes (in_front i done)
+
+-- what follows an opcode
+abbrev pub operand_bytes : Operands → List ℕ
+operand_bytes Nothing = []
+operand_bytes Zero = 0x00 ∷ []
+operand_bytes (Index x) = shortest x
+operand_bytes (IndexAndZero x) = shortest x ++ 0x00 ∷ []
+operand_bytes (Memory align offset) = shortest align ++ shortest offset
+operand_bytes (Signed32 n) = shortest_signed 32 n
+operand_bytes (Signed64 n) = shortest_signed 64 n
+
+-- behind the opcode stand two numbers at most: the instruction is no br_table, block, loop or if
+pub record IsSimple (i : Instr) : Type 0 where
+  pub not_table : (ls : Vec ℕ Global) (l : ℕ) → i ≡ BrTable ls l → ⊥
+  pub not_block : (r : Option ValType) (body : Vec Instr Global) → i ≡ Block r body → ⊥
+  pub not_loop : (r : Option ValType) (body : Vec Instr Global) → i ≡ Loop r body → ⊥
+  pub not_if : (r : Option ValType) (a b : Vec Instr Global) → i ≡ If r a b → ⊥
