@@ -44,13 +44,19 @@ pub returns-in-Ok-Run-clause-status : goal.returns-in-Ok-Run-clause-status
 returns-in-Ok-Run-clause-status g c = script_status Run c.play_script-in-Ok-Run.result c.play_script-in-Ok-Run.ensures.status
 
 pub returns-in-Ok-Host-clause-usage : goal.returns-in-Ok-Host-clause-usage
-returns-in-Ok-Host-clause-usage g c = λ none. absurd (some_spelled _ (hosts c.in-Ok-Host.script.now) (c.in-Ok-Host.ensures.command ∙ ap (λ (x : Command). Some (spelled_of x)) c.in-Ok-Host.field-0-is) none)
+returns-in-Ok-Host-clause-usage g c =
+    let e = c.in-Ok-Host.ensures.command ∙ ap (λ (x : Command). Some (spelled_of x)) c.in-Ok-Host.field-0-is in
+    λ none. absurd (some_spelled _ (hosts c.in-Ok-Host.script.now) e none)
 
 pub returns-in-Ok-Host-clause-usage_files : goal.returns-in-Ok-Host-clause-usage_files
-returns-in-Ok-Host-clause-usage_files g c = λ none. absurd (some_spelled _ (hosts c.in-Ok-Host.script.now) (c.in-Ok-Host.ensures.command ∙ ap (λ (x : Command). Some (spelled_of x)) c.in-Ok-Host.field-0-is) none)
+returns-in-Ok-Host-clause-usage_files g c =
+    let e = c.in-Ok-Host.ensures.command ∙ ap (λ (x : Command). Some (spelled_of x)) c.in-Ok-Host.field-0-is in
+    λ none. absurd (some_spelled _ (hosts c.in-Ok-Host.script.now) e none)
 
 pub returns-in-Ok-Host-clause-prints_usage_memory : goal.returns-in-Ok-Host-clause-prints_usage_memory
-returns-in-Ok-Host-clause-prints_usage_memory g c = λ none nine. absurd (some_spelled _ (hosts c.in-Ok-Host.script.now) (c.in-Ok-Host.ensures.command ∙ ap (λ (x : Command). Some (spelled_of x)) c.in-Ok-Host.field-0-is) none)
+returns-in-Ok-Host-clause-prints_usage_memory g c =
+    let e = c.in-Ok-Host.ensures.command ∙ ap (λ (x : Command). Some (spelled_of x)) c.in-Ok-Host.field-0-is in
+    λ none nine. absurd (some_spelled _ (hosts c.in-Ok-Host.script.now) e none)
 
 pub returns-in-Ok-Host-clause-usage_alone : goal.returns-in-Ok-Host-clause-usage_alone
 returns-in-Ok-Host-clause-usage_alone g c = λ two. absurd (never_two Host c.play_script.result c.play_script.ensures.status two)
@@ -62,52 +68,84 @@ pub returns-in-Ok-Host-clause-write_fault : goal.returns-in-Ok-Host-clause-write
 returns-in-Ok-Host-clause-write_fault g c = λ eleven. absurd (never_eleven Host c.play_script.result c.play_script.ensures.status eleven)
 
 pub returns-in-Ok-Host-clause-one_end : goal.returns-in-Ok-Host-clause-one_end
-returns-in-Ok-Host-clause-one_end g c = spelled_ends _ c.play_script.result (Some (hosts c.in-Ok-Host.script.now)) (c.in-Ok-Host.ensures.command ∙ ap (λ (x : Command). Some (spelled_of x)) c.in-Ok-Host.field-0-is) c.play_script.ensures.one_end
+returns-in-Ok-Host-clause-one_end g c =
+    let e = c.in-Ok-Host.ensures.command ∙ ap (λ (x : Command). Some (spelled_of x)) c.in-Ok-Host.field-0-is in
+    spelled_ends _ c.play_script.result (Some (hosts c.in-Ok-Host.script.now)) e c.play_script.ensures.one_end
 
 pub returns-in-Ok-Host-clause-read_fault : goal.returns-in-Ok-Host-clause-read_fault
-returns-in-Ok-Host-clause-read_fault g c = no_transform _ (hosts c.in-Ok-Host.script.now) _ refl (c.in-Ok-Host.ensures.command ∙ ap (λ (x : Command). Some (spelled_of x)) c.in-Ok-Host.field-0-is)
+returns-in-Ok-Host-clause-read_fault g c =
+    let e = c.in-Ok-Host.ensures.command ∙ ap (λ (x : Command). Some (spelled_of x)) c.in-Ok-Host.field-0-is in
+    no_transform _ (hosts c.in-Ok-Host.script.now) _ refl e
 
 pub returns-in-Ok-Host-clause-refused : goal.returns-in-Ok-Host-clause-refused
-returns-in-Ok-Host-clause-refused g c = no_transform _ (hosts c.in-Ok-Host.script.now) _ refl (c.in-Ok-Host.ensures.command ∙ ap (λ (x : Command). Some (spelled_of x)) c.in-Ok-Host.field-0-is)
+returns-in-Ok-Host-clause-refused g c =
+    let e = c.in-Ok-Host.ensures.command ∙ ap (λ (x : Command). Some (spelled_of x)) c.in-Ok-Host.field-0-is in
+    no_transform _ (hosts c.in-Ok-Host.script.now) _ refl e
 
 pub returns-in-Ok-Host-clause-built : goal.returns-in-Ok-Host-clause-built
-returns-in-Ok-Host-clause-built g c = no_transform _ (hosts c.in-Ok-Host.script.now) _ refl (c.in-Ok-Host.ensures.command ∙ ap (λ (x : Command). Some (spelled_of x)) c.in-Ok-Host.field-0-is)
+returns-in-Ok-Host-clause-built g c =
+    let e = c.in-Ok-Host.ensures.command ∙ ap (λ (x : Command). Some (spelled_of x)) c.in-Ok-Host.field-0-is in
+    no_transform _ (hosts c.in-Ok-Host.script.now) _ refl e
 
 pub returns-in-Ok-Host-clause-there : goal.returns-in-Ok-Host-clause-there
-returns-in-Ok-Host-clause-there g c = no_transform _ (hosts c.in-Ok-Host.script.now) _ refl (c.in-Ok-Host.ensures.command ∙ ap (λ (x : Command). Some (spelled_of x)) c.in-Ok-Host.field-0-is)
+returns-in-Ok-Host-clause-there g c =
+    let e = c.in-Ok-Host.ensures.command ∙ ap (λ (x : Command). Some (spelled_of x)) c.in-Ok-Host.field-0-is in
+    no_transform _ (hosts c.in-Ok-Host.script.now) _ refl e
 
 pub returns-in-Ok-Host-clause-done : goal.returns-in-Ok-Host-clause-done
-returns-in-Ok-Host-clause-done g c = no_transform _ (hosts c.in-Ok-Host.script.now) _ refl (c.in-Ok-Host.ensures.command ∙ ap (λ (x : Command). Some (spelled_of x)) c.in-Ok-Host.field-0-is)
+returns-in-Ok-Host-clause-done g c =
+    let e = c.in-Ok-Host.ensures.command ∙ ap (λ (x : Command). Some (spelled_of x)) c.in-Ok-Host.field-0-is in
+    no_transform _ (hosts c.in-Ok-Host.script.now) _ refl e
 
 pub returns-in-Ok-Host-clause-cut : goal.returns-in-Ok-Host-clause-cut
-returns-in-Ok-Host-clause-cut g c = no_transform _ (hosts c.in-Ok-Host.script.now) _ refl (c.in-Ok-Host.ensures.command ∙ ap (λ (x : Command). Some (spelled_of x)) c.in-Ok-Host.field-0-is)
+returns-in-Ok-Host-clause-cut g c =
+    let e = c.in-Ok-Host.ensures.command ∙ ap (λ (x : Command). Some (spelled_of x)) c.in-Ok-Host.field-0-is in
+    no_transform _ (hosts c.in-Ok-Host.script.now) _ refl e
 
 pub returns-in-Ok-Host-clause-prints_done : goal.returns-in-Ok-Host-clause-prints_done
-returns-in-Ok-Host-clause-prints_done g c = no_transform _ (hosts c.in-Ok-Host.script.now) _ refl (c.in-Ok-Host.ensures.command ∙ ap (λ (x : Command). Some (spelled_of x)) c.in-Ok-Host.field-0-is)
+returns-in-Ok-Host-clause-prints_done g c =
+    let e = c.in-Ok-Host.ensures.command ∙ ap (λ (x : Command). Some (spelled_of x)) c.in-Ok-Host.field-0-is in
+    no_transform _ (hosts c.in-Ok-Host.script.now) _ refl e
 
 pub returns-in-Ok-Host-clause-prints_less : goal.returns-in-Ok-Host-clause-prints_less
-returns-in-Ok-Host-clause-prints_less g c = no_transform _ (hosts c.in-Ok-Host.script.now) _ refl (c.in-Ok-Host.ensures.command ∙ ap (λ (x : Command). Some (spelled_of x)) c.in-Ok-Host.field-0-is)
+returns-in-Ok-Host-clause-prints_less g c =
+    let e = c.in-Ok-Host.ensures.command ∙ ap (λ (x : Command). Some (spelled_of x)) c.in-Ok-Host.field-0-is in
+    no_transform _ (hosts c.in-Ok-Host.script.now) _ refl e
 
 pub returns-in-Ok-Host-clause-prints_memory : goal.returns-in-Ok-Host-clause-prints_memory
-returns-in-Ok-Host-clause-prints_memory g c = no_transform _ (hosts c.in-Ok-Host.script.now) _ refl (c.in-Ok-Host.ensures.command ∙ ap (λ (x : Command). Some (spelled_of x)) c.in-Ok-Host.field-0-is)
+returns-in-Ok-Host-clause-prints_memory g c =
+    let e = c.in-Ok-Host.ensures.command ∙ ap (λ (x : Command). Some (spelled_of x)) c.in-Ok-Host.field-0-is in
+    no_transform _ (hosts c.in-Ok-Host.script.now) _ refl e
 
 pub returns-in-Ok-Host-clause-prints_read : goal.returns-in-Ok-Host-clause-prints_read
-returns-in-Ok-Host-clause-prints_read g c = no_transform _ (hosts c.in-Ok-Host.script.now) _ refl (c.in-Ok-Host.ensures.command ∙ ap (λ (x : Command). Some (spelled_of x)) c.in-Ok-Host.field-0-is)
+returns-in-Ok-Host-clause-prints_read g c =
+    let e = c.in-Ok-Host.ensures.command ∙ ap (λ (x : Command). Some (spelled_of x)) c.in-Ok-Host.field-0-is in
+    no_transform _ (hosts c.in-Ok-Host.script.now) _ refl e
 
 pub returns-in-Ok-Host-clause-prints_write : goal.returns-in-Ok-Host-clause-prints_write
-returns-in-Ok-Host-clause-prints_write g c = no_transform _ (hosts c.in-Ok-Host.script.now) _ refl (c.in-Ok-Host.ensures.command ∙ ap (λ (x : Command). Some (spelled_of x)) c.in-Ok-Host.field-0-is)
+returns-in-Ok-Host-clause-prints_write g c =
+    let e = c.in-Ok-Host.ensures.command ∙ ap (λ (x : Command). Some (spelled_of x)) c.in-Ok-Host.field-0-is in
+    no_transform _ (hosts c.in-Ok-Host.script.now) _ refl e
 
 pub returns-in-Ok-Host-clause-prints_refusal : goal.returns-in-Ok-Host-clause-prints_refusal
-returns-in-Ok-Host-clause-prints_refusal g c = no_transform _ (hosts c.in-Ok-Host.script.now) _ refl (c.in-Ok-Host.ensures.command ∙ ap (λ (x : Command). Some (spelled_of x)) c.in-Ok-Host.field-0-is)
+returns-in-Ok-Host-clause-prints_refusal g c =
+    let e = c.in-Ok-Host.ensures.command ∙ ap (λ (x : Command). Some (spelled_of x)) c.in-Ok-Host.field-0-is in
+    no_transform _ (hosts c.in-Ok-Host.script.now) _ refl e
 
 pub returns-in-Ok-Run-clause-usage : goal.returns-in-Ok-Run-clause-usage
-returns-in-Ok-Run-clause-usage g c = λ none. absurd (some_spelled _ (runs c.in-Ok-Run.script.now) (c.in-Ok-Run.ensures.command ∙ ap (λ (x : Command). Some (spelled_of x)) c.in-Ok-Run.field-0-is) none)
+returns-in-Ok-Run-clause-usage g c =
+    let e = c.in-Ok-Run.ensures.command ∙ ap (λ (x : Command). Some (spelled_of x)) c.in-Ok-Run.field-0-is in
+    λ none. absurd (some_spelled _ (runs c.in-Ok-Run.script.now) e none)
 
 pub returns-in-Ok-Run-clause-usage_files : goal.returns-in-Ok-Run-clause-usage_files
-returns-in-Ok-Run-clause-usage_files g c = λ none. absurd (some_spelled _ (runs c.in-Ok-Run.script.now) (c.in-Ok-Run.ensures.command ∙ ap (λ (x : Command). Some (spelled_of x)) c.in-Ok-Run.field-0-is) none)
+returns-in-Ok-Run-clause-usage_files g c =
+    let e = c.in-Ok-Run.ensures.command ∙ ap (λ (x : Command). Some (spelled_of x)) c.in-Ok-Run.field-0-is in
+    λ none. absurd (some_spelled _ (runs c.in-Ok-Run.script.now) e none)
 
 pub returns-in-Ok-Run-clause-prints_usage_memory : goal.returns-in-Ok-Run-clause-prints_usage_memory
-returns-in-Ok-Run-clause-prints_usage_memory g c = λ none nine. absurd (some_spelled _ (runs c.in-Ok-Run.script.now) (c.in-Ok-Run.ensures.command ∙ ap (λ (x : Command). Some (spelled_of x)) c.in-Ok-Run.field-0-is) none)
+returns-in-Ok-Run-clause-prints_usage_memory g c =
+    let e = c.in-Ok-Run.ensures.command ∙ ap (λ (x : Command). Some (spelled_of x)) c.in-Ok-Run.field-0-is in
+    λ none nine. absurd (some_spelled _ (runs c.in-Ok-Run.script.now) e none)
 
 pub returns-in-Ok-Run-clause-usage_alone : goal.returns-in-Ok-Run-clause-usage_alone
 returns-in-Ok-Run-clause-usage_alone g c = λ two. absurd (never_two Run c.play_script-in-Ok-Run.result c.play_script-in-Ok-Run.ensures.status two)
@@ -119,40 +157,66 @@ pub returns-in-Ok-Run-clause-write_fault : goal.returns-in-Ok-Run-clause-write_f
 returns-in-Ok-Run-clause-write_fault g c = λ eleven. absurd (never_eleven Run c.play_script-in-Ok-Run.result c.play_script-in-Ok-Run.ensures.status eleven)
 
 pub returns-in-Ok-Run-clause-one_end : goal.returns-in-Ok-Run-clause-one_end
-returns-in-Ok-Run-clause-one_end g c = spelled_ends _ c.play_script-in-Ok-Run.result (Some (runs c.in-Ok-Run.script.now)) (c.in-Ok-Run.ensures.command ∙ ap (λ (x : Command). Some (spelled_of x)) c.in-Ok-Run.field-0-is) c.play_script-in-Ok-Run.ensures.one_end
+returns-in-Ok-Run-clause-one_end g c =
+    let e = c.in-Ok-Run.ensures.command ∙ ap (λ (x : Command). Some (spelled_of x)) c.in-Ok-Run.field-0-is in
+    spelled_ends _ c.play_script-in-Ok-Run.result (Some (runs c.in-Ok-Run.script.now)) e c.play_script-in-Ok-Run.ensures.one_end
 
 pub returns-in-Ok-Run-clause-read_fault : goal.returns-in-Ok-Run-clause-read_fault
-returns-in-Ok-Run-clause-read_fault g c = no_transform _ (runs c.in-Ok-Run.script.now) _ refl (c.in-Ok-Run.ensures.command ∙ ap (λ (x : Command). Some (spelled_of x)) c.in-Ok-Run.field-0-is)
+returns-in-Ok-Run-clause-read_fault g c =
+    let e = c.in-Ok-Run.ensures.command ∙ ap (λ (x : Command). Some (spelled_of x)) c.in-Ok-Run.field-0-is in
+    no_transform _ (runs c.in-Ok-Run.script.now) _ refl e
 
 pub returns-in-Ok-Run-clause-refused : goal.returns-in-Ok-Run-clause-refused
-returns-in-Ok-Run-clause-refused g c = no_transform _ (runs c.in-Ok-Run.script.now) _ refl (c.in-Ok-Run.ensures.command ∙ ap (λ (x : Command). Some (spelled_of x)) c.in-Ok-Run.field-0-is)
+returns-in-Ok-Run-clause-refused g c =
+    let e = c.in-Ok-Run.ensures.command ∙ ap (λ (x : Command). Some (spelled_of x)) c.in-Ok-Run.field-0-is in
+    no_transform _ (runs c.in-Ok-Run.script.now) _ refl e
 
 pub returns-in-Ok-Run-clause-built : goal.returns-in-Ok-Run-clause-built
-returns-in-Ok-Run-clause-built g c = no_transform _ (runs c.in-Ok-Run.script.now) _ refl (c.in-Ok-Run.ensures.command ∙ ap (λ (x : Command). Some (spelled_of x)) c.in-Ok-Run.field-0-is)
+returns-in-Ok-Run-clause-built g c =
+    let e = c.in-Ok-Run.ensures.command ∙ ap (λ (x : Command). Some (spelled_of x)) c.in-Ok-Run.field-0-is in
+    no_transform _ (runs c.in-Ok-Run.script.now) _ refl e
 
 pub returns-in-Ok-Run-clause-there : goal.returns-in-Ok-Run-clause-there
-returns-in-Ok-Run-clause-there g c = no_transform _ (runs c.in-Ok-Run.script.now) _ refl (c.in-Ok-Run.ensures.command ∙ ap (λ (x : Command). Some (spelled_of x)) c.in-Ok-Run.field-0-is)
+returns-in-Ok-Run-clause-there g c =
+    let e = c.in-Ok-Run.ensures.command ∙ ap (λ (x : Command). Some (spelled_of x)) c.in-Ok-Run.field-0-is in
+    no_transform _ (runs c.in-Ok-Run.script.now) _ refl e
 
 pub returns-in-Ok-Run-clause-done : goal.returns-in-Ok-Run-clause-done
-returns-in-Ok-Run-clause-done g c = no_transform _ (runs c.in-Ok-Run.script.now) _ refl (c.in-Ok-Run.ensures.command ∙ ap (λ (x : Command). Some (spelled_of x)) c.in-Ok-Run.field-0-is)
+returns-in-Ok-Run-clause-done g c =
+    let e = c.in-Ok-Run.ensures.command ∙ ap (λ (x : Command). Some (spelled_of x)) c.in-Ok-Run.field-0-is in
+    no_transform _ (runs c.in-Ok-Run.script.now) _ refl e
 
 pub returns-in-Ok-Run-clause-cut : goal.returns-in-Ok-Run-clause-cut
-returns-in-Ok-Run-clause-cut g c = no_transform _ (runs c.in-Ok-Run.script.now) _ refl (c.in-Ok-Run.ensures.command ∙ ap (λ (x : Command). Some (spelled_of x)) c.in-Ok-Run.field-0-is)
+returns-in-Ok-Run-clause-cut g c =
+    let e = c.in-Ok-Run.ensures.command ∙ ap (λ (x : Command). Some (spelled_of x)) c.in-Ok-Run.field-0-is in
+    no_transform _ (runs c.in-Ok-Run.script.now) _ refl e
 
 pub returns-in-Ok-Run-clause-prints_done : goal.returns-in-Ok-Run-clause-prints_done
-returns-in-Ok-Run-clause-prints_done g c = no_transform _ (runs c.in-Ok-Run.script.now) _ refl (c.in-Ok-Run.ensures.command ∙ ap (λ (x : Command). Some (spelled_of x)) c.in-Ok-Run.field-0-is)
+returns-in-Ok-Run-clause-prints_done g c =
+    let e = c.in-Ok-Run.ensures.command ∙ ap (λ (x : Command). Some (spelled_of x)) c.in-Ok-Run.field-0-is in
+    no_transform _ (runs c.in-Ok-Run.script.now) _ refl e
 
 pub returns-in-Ok-Run-clause-prints_less : goal.returns-in-Ok-Run-clause-prints_less
-returns-in-Ok-Run-clause-prints_less g c = no_transform _ (runs c.in-Ok-Run.script.now) _ refl (c.in-Ok-Run.ensures.command ∙ ap (λ (x : Command). Some (spelled_of x)) c.in-Ok-Run.field-0-is)
+returns-in-Ok-Run-clause-prints_less g c =
+    let e = c.in-Ok-Run.ensures.command ∙ ap (λ (x : Command). Some (spelled_of x)) c.in-Ok-Run.field-0-is in
+    no_transform _ (runs c.in-Ok-Run.script.now) _ refl e
 
 pub returns-in-Ok-Run-clause-prints_memory : goal.returns-in-Ok-Run-clause-prints_memory
-returns-in-Ok-Run-clause-prints_memory g c = no_transform _ (runs c.in-Ok-Run.script.now) _ refl (c.in-Ok-Run.ensures.command ∙ ap (λ (x : Command). Some (spelled_of x)) c.in-Ok-Run.field-0-is)
+returns-in-Ok-Run-clause-prints_memory g c =
+    let e = c.in-Ok-Run.ensures.command ∙ ap (λ (x : Command). Some (spelled_of x)) c.in-Ok-Run.field-0-is in
+    no_transform _ (runs c.in-Ok-Run.script.now) _ refl e
 
 pub returns-in-Ok-Run-clause-prints_read : goal.returns-in-Ok-Run-clause-prints_read
-returns-in-Ok-Run-clause-prints_read g c = no_transform _ (runs c.in-Ok-Run.script.now) _ refl (c.in-Ok-Run.ensures.command ∙ ap (λ (x : Command). Some (spelled_of x)) c.in-Ok-Run.field-0-is)
+returns-in-Ok-Run-clause-prints_read g c =
+    let e = c.in-Ok-Run.ensures.command ∙ ap (λ (x : Command). Some (spelled_of x)) c.in-Ok-Run.field-0-is in
+    no_transform _ (runs c.in-Ok-Run.script.now) _ refl e
 
 pub returns-in-Ok-Run-clause-prints_write : goal.returns-in-Ok-Run-clause-prints_write
-returns-in-Ok-Run-clause-prints_write g c = no_transform _ (runs c.in-Ok-Run.script.now) _ refl (c.in-Ok-Run.ensures.command ∙ ap (λ (x : Command). Some (spelled_of x)) c.in-Ok-Run.field-0-is)
+returns-in-Ok-Run-clause-prints_write g c =
+    let e = c.in-Ok-Run.ensures.command ∙ ap (λ (x : Command). Some (spelled_of x)) c.in-Ok-Run.field-0-is in
+    no_transform _ (runs c.in-Ok-Run.script.now) _ refl e
 
 pub returns-in-Ok-Run-clause-prints_refusal : goal.returns-in-Ok-Run-clause-prints_refusal
-returns-in-Ok-Run-clause-prints_refusal g c = no_transform _ (runs c.in-Ok-Run.script.now) _ refl (c.in-Ok-Run.ensures.command ∙ ap (λ (x : Command). Some (spelled_of x)) c.in-Ok-Run.field-0-is)
+returns-in-Ok-Run-clause-prints_refusal g c =
+    let e = c.in-Ok-Run.ensures.command ∙ ap (λ (x : Command). Some (spelled_of x)) c.in-Ok-Run.field-0-is in
+    no_transform _ (runs c.in-Ok-Run.script.now) _ refl e
