@@ -1,4 +1,2 @@
 pub mod OneEnd
-pub mod Printed
-pub mod Transforming
-pub mod Verdicts
+pub mod Statuses

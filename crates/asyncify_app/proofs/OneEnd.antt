@@ -1,171 +1,91 @@
--- A call's end, from what is known of its status.
-use Rattle.std.proofs.Common.{◌≡◌, ◌⊎◌, inl, inr, ℕ, List, Option, Some, None, sym, ◌∙◌, subst}
-use Rattle.std.specs.Prelude.{IsSome}
+-- A call's end, from that of its command.
+use Rattle.std.proofs.Common.{◌≡◌, ◌⊎◌, ◌≤◌, inl, inr, ℕ, List, Option, Some, None, refl, sym, subst}
 use Rattle.vault_port.specs.Counts.{HasRisen}
-use Rattle.vault_port.specs.Files.{Files, bytes_of, IsMissing}
-use Rattle.vault_port.specs.Told.{WhereTold, Becomes}
+use Rattle.vault_port.specs.Files.{Files, ChangesOnly, HoldsFrontAtMost}
+use Rattle.vault_port.specs.Told.{Becomes}
+use Rattle.wa_types.specs.Encoding.{Enc}
 use Rattle.wa_types.specs.Pausing.{Settings}
 use Rattle.wa_model.specs.Command.{Command, transform, OnTransform}
-use Rattle.source_modules.specs.Sources.{Cause, IsRefusedFor, refusal_for}
-use Rattle.printing.specs.Refused.{status_of}
-use Rattle.asyncify_app.specs.Transforms.{HasCause, HoldsSource, IsTransformed}
-use Rattle.asyncify_app.specs.Ends.{End, done, usage, memory, read_fault, write_fault, sink_fault, refused, Call, ForTransform, IsWhy, ToldThat, NothingFails, HasOneEnd, status_of_end, IsRefusal}
-use Rattle.asyncify_app.proofs.Verdicts.{one_status, source_passes}
+use Rattle.wa_model.specs.Spelled.{Spelled, rewrites, hosts, runs, generates}
+use Rattle.wa_model.specs.Transcript.{refusal_line, write_fault}
+use Rattle.printing.specs.Refused.{EndsInMemory, Prints, PrintsMemory}
+use Rattle.printing.proofs.Printed.{memory_alone}
+use Rattle.gen_module.specs.Generated.{generated}
+use Rattle.gen_command.specs.Printed as G
+use Rattle.script_command.specs.declared.way.Way.TheVariants.{Host, Run}
+use Rattle.script_command.proofs.Ending.{out_of_memory_alone}
+use Rattle.transform_command.specs.Ends as T
+use Rattle.transform_command.specs.Transforms.{RunsOutOfMemory}
+use Rattle.transform_command.proofs.OneEnd as TransformEnds
+use Rattle.transform_command.proofs.Printed.{memory_any}
+use Rattle.asyncify_app.specs.Ends.{Call, EndsBy, GeneratesOnce, HasOneEnd, rewriting, transform_call, script_call}
 
--- what is known of a `transform`'s status
-pub record Known (s : Settings) (input output : List ℕ) (c : Call) (status : ℕ) : Type 0 where
-  pub statuses : (status ≡ 0) ⊎ IsRefusal status ⊎ (status ≡ 9) ⊎ (status ≡ 10) ⊎ (status ≡ 11) ⊎ (status ≡ 12)
-  pub done : (status ≡ 0) ⊎ (status ≡ 12) → Becomes c.files c.files' (IsTransformed s input output)
-  pub read : status ≡ 10 → HasRisen c.fetch_faults c.fetch_faults' ⊎ IsMissing c.files input
-  pub refused : IsRefusal status → HasCause s c.files input status
-  pub held : status ≡ 11 → WhereTold c.files (λ all. HoldsSource s (bytes_of all input))
-  pub write : status ≡ 11 → HasRisen c.save_faults c.save_faults'
-  pub sink : status ≡ 12 → HasRisen c.sink_faults c.sink_faults'
+-- The words spell this.
+pub spelled_ends : (c : Call) (status : ℕ) (o : Option Spelled) → c.spelled ≡ o → EndsBy c o status → HasOneEnd c status
+spelled_ends c status o e h = subst (λ (x : Option Spelled). EndsBy c x status) (sym e) h
 
--- the source that a written module has
-source_held : (s : Settings) (input output : List ℕ) (old new : Option Files) → Becomes old new (IsTransformed s input output) → WhereTold old (λ all. HoldsSource s (bytes_of all input))
-unfolding HoldsSource
-source_held s input output None None h = tt
-source_held s input output None (Some b) h = tt
-source_held s input output (Some a) None h = absurd h
-source_held s input output (Some a) (Some b) h = (h.«module», h.which, h.source)
+becomes_by : (P Q : List ℕ → List ℕ → Type 0) → ((x y : List ℕ) → P x y → Q x y) → (old new : Option (List ℕ)) → Becomes old new P → Becomes old new Q
+becomes_by P Q f None None h = tt
+becomes_by P Q f (Some x) (Some y) h = f x y h
+becomes_by P Q f None (Some y) h = h
+becomes_by P Q f (Some x) None h = h
 
-refused_not_held : (s : Settings) (input : List ℕ) (files : Option Files) (cause : Cause)
-    → WhereTold files (λ all. HoldsSource s (bytes_of all input)) → ToldThat files (λ all. IsRefusedFor s (bytes_of all input) cause) → ⊥
-unfolding HoldsSource
-refused_not_held s input None cause h r = r
-refused_not_held s input (Some a) cause h r = source_passes s (bytes_of a input) h.0 h.1 cause h.2 r
+same_files : (R : Files → Files → Type 0) → ((a : Files) → R a a) → (old : Option Files) → Becomes old old R
+same_files R r None = tt
+same_files R r (Some a) = r a
 
-one_cause : (s : Settings) (input : List ℕ) (files : Option Files) (c d : Cause) → WhereTold files (λ all. IsRefusedFor s (bytes_of all input) c)
-    → ToldThat files (λ all. IsRefusedFor s (bytes_of all input) d) → status_of (refusal_for c) ≡ status_of (refusal_for d)
-one_cause s input None c d h k = absurd k
-one_cause s input (Some a) c d h k = one_status s (bytes_of a input) c d h k
+module _ (c : Call) (status : ℕ) (nine : status ≡ 9) (kept : c.files' ≡ c.files) (printed : Becomes c.taken c.taken' EndsInMemory) where
+  none_saved : (output bytes : List ℕ) → Becomes c.files c.files' (HoldsFrontAtMost output bytes)
+  none_saved output bytes =
+      subst (λ (new : Option Files). Becomes c.files new (HoldsFrontAtMost output bytes)) (sym kept)
+      (same_files (HoldsFrontAtMost output bytes) (λ a. record { changed = inr refl; others = λ other differs. refl }) c.files)
 
-held_not_refused : (s : Settings) (input : List ℕ) (files : Option Files) (cause : Cause)
-    → ToldThat files (λ all. IsSome (all input) × HoldsSource s (bytes_of all input))
-    → WhereTold files (λ all. IsRefusedFor s (bytes_of all input) cause) → ⊥
-unfolding HoldsSource
-held_not_refused s input None cause h r = h
-held_not_refused s input (Some a) cause h r = source_passes s (bytes_of a input) h.1.0 h.1.1 cause h.1.2 r
+  no_line : (n : ℕ) (output : List ℕ) → Becomes c.taken c.taken' (G.RunsOutOfMemory n output)
+  no_line n output =
+      let line = refusal_line None (write_fault output) in
+      becomes_by (PrintsMemory line) (G.RunsOutOfMemory n output) (λ x y h. (line, inr refl, h)) c.taken c.taken' (memory_alone line c.taken c.taken' printed)
 
-some_not_none : {X : Type 0} (o : Option X) → IsSome o → o ≡ None → ⊥
-some_not_none None h e = cc
-some_not_none (Some x) h e = cc
+  by_memory : (o : Option Spelled) → EndsBy c o status
+  by_memory None = inr nine
+  by_memory (Some (rewrites (transform s input output))) = TransformEnds.memory_ends (transform_call c s input output) status nine
+  by_memory (Some (hosts script)) = out_of_memory_alone (script_call c Host script) status nine printed
+  by_memory (Some (runs script)) = out_of_memory_alone (script_call c Run script) status nine printed
+  by_memory (Some (generates n output)) = inr (inl (nine, none_saved output (Enc (generated n)), no_line n output))
 
-held_not_missing : (s : Settings) (input : List ℕ) (files : Option Files) → ToldThat files (λ all. IsSome (all input) × HoldsSource s (bytes_of all input)) → IsMissing files input → ⊥
-held_not_missing s input None h m = h
-held_not_missing s input (Some a) h m = some_not_none (a input) h.0 m
+  -- Memory is wanting before the words are read.
+  pub memory_ends : HasOneEnd c status
+  memory_ends = by_memory c.spelled
 
--- the refusals of a `transform`
-refusals_of : (s : Settings) (input output : List ℕ) (c : Call) (status : ℕ) → Known s input output c status → (cause : Cause)
-    → ToldThat c.files (λ all. IsRefusedFor s (bytes_of all input) cause) → (status ≡ status_of (refusal_for cause)) ⊎ (status ≡ 9) ⊎ (status ≡ 10)
-refusals_of s input output c status k cause r = elim k.statuses [
-  | inl zero ↦ absurd (refused_not_held s input c.files cause (source_held s input output c.files c.files' (k.done (inl zero))) r)
-  | inr x ↦ elim x [
-    | inl h ↦ let why = k.refused h in inl (why.1 ∙ one_cause s input c.files why.0 cause why.2 r)
-    | inr y ↦ elim y [
-      | inl nine ↦ inr (inl nine)
-      | inr z ↦ elim z [
-        | inl ten ↦ inr (inr ten)
-        | inr w ↦ elim w [
-          | inl eleven ↦ absurd (refused_not_held s input c.files cause (k.held eleven) r)
-          | inr twelve ↦ absurd (refused_not_held s input c.files cause (source_held s input output c.files c.files' (k.done (inr twelve))) r)
-        ]
-      ]
-    ]
-  ]
-]
-
-accepted_of : (s : Settings) (input output : List ℕ) (c : Call) (status : ℕ) → Known s input output c status
-    → ToldThat c.files (λ all. IsSome (all input) × HoldsSource s (bytes_of all input)) → NothingFails c → (status ≡ 0) ⊎ (status ≡ 9)
-accepted_of s input output c status k h n = elim k.statuses [
-  | inl zero ↦ inl zero
-  | inr x ↦ elim x [
-    | inl r ↦ let why = k.refused r in absurd (held_not_refused s input c.files why.0 h why.2)
-    | inr y ↦ elim y [
-      | inl nine ↦ inr nine
-      | inr z ↦ elim z [
-        | inl ten ↦ elim (k.read ten) [
-          | inl risen ↦ absurd (n.fetches risen)
-          | inr missing ↦ absurd (held_not_missing s input c.files h missing)
-        ]
-        | inr w ↦ elim w [
-          | inl eleven ↦ absurd (n.saves (k.write eleven))
-          | inr twelve ↦ absurd (n.puts (k.sink twelve))
-        ]
-      ]
-    ]
-  ]
-]
-
--- the end of a `transform` and its reason
-pub record Which (s : Settings) (input output : List ℕ) (c : Call) (status : ℕ) : Type 0 where
-  pub which : End
-  pub by_status : status ≡ status_of_end which
-  pub why : IsWhy (record c { spelled = Some (transform s input output) }) which
-
-which_end : (s : Settings) (input output : List ℕ) (c : Call) (status : ℕ) → Known s input output c status → Which s input output c status
-which_end s input output c status k = elim k.statuses [
-  | inl zero ↦ record { which = done; by_status = zero; why = k.done (inl zero) }
-  | inr x ↦ elim x [
-    | inl h ↦ let why = k.refused h in record { which = refused why.0; by_status = why.1; why = why.2 }
-    | inr y ↦ elim y [
-      | inl nine ↦ record { which = memory; by_status = nine; why = tt }
-      | inr z ↦ elim z [
-        | inl ten ↦ record { which = read_fault; by_status = ten; why = k.read ten }
-        | inr w ↦ elim w [
-          | inl eleven ↦ record { which = write_fault; by_status = eleven; why = (k.write eleven, k.held eleven) }
-          | inr twelve ↦ record { which = sink_fault; by_status = twelve; why = (k.sink twelve, k.done (inr twelve)) }
-        ]
-      ]
-    ]
-  ]
-]
-
-transform_ends : (s : Settings) (input output : List ℕ) (c : Call) (status : ℕ) → c.spelled ≡ Some (transform s input output) → Known s input output c status → HasOneEnd c status
-transform_ends s input output c status e k =
-    let w = which_end s input output c status k in
-    let on : Call = record c { spelled = Some (transform s input output) } in
-    let ended : HasOneEnd on status = record {
-      which = w.which;
-      by_status = w.by_status;
-      why = w.why;
-      refusals = λ cause r. refusals_of s input output c status k cause r;
-      accepted = λ h n. accepted_of s input output c status k h (record { fetches = n.fetches; saves = n.saves; puts = n.puts });
-    } in
-    subst (λ (o : Option Command). HasOneEnd (record c { spelled = o }) status) (sym e) ended
-
--- The words spell a `transform`.
-pub transform_ends_on : (c : Call) (status : ℕ) (spelled : Command) → c.spelled ≡ Some spelled
-    → (status ≡ 0) ⊎ IsRefusal status ⊎ (status ≡ 9) ⊎ (status ≡ 10) ⊎ (status ≡ 11) ⊎ (status ≡ 12)
-    → OnTransform c.spelled (λ s input output. (status ≡ 0) ⊎ (status ≡ 12) → Becomes c.files c.files' (IsTransformed s input output))
-    → OnTransform c.spelled (λ s input output. status ≡ 10 → HasRisen c.fetch_faults c.fetch_faults' ⊎ IsMissing c.files input)
-    → OnTransform c.spelled (λ s input output. IsRefusal status → HasCause s c.files input status)
-    → OnTransform c.spelled (λ s input output. status ≡ 11 → WhereTold c.files (λ all. HoldsSource s (bytes_of all input)))
+-- A module was generated.
+pub generated_ends : (c : Call) (n : ℕ) (output : List ℕ) (status : ℕ) → (status ≡ 0) ⊎ (status ≡ 9) ⊎ (status ≡ 11) ⊎ (status ≡ 12)
     → (status ≡ 11 → HasRisen c.save_faults c.save_faults') → (status ≡ 12 → HasRisen c.sink_faults c.sink_faults')
-    → HasOneEnd c status
-transform_ends_on c status (transform s input output) e statuses whole read why held write sink =
-    transform_ends s input output c status e (record {
-      statuses = statuses;
-      done = subst (λ (o : Option Command). OnTransform o (λ s input output. (status ≡ 0) ⊎ (status ≡ 12) → Becomes c.files c.files' (IsTransformed s input output))) e whole;
-      read = subst (λ (o : Option Command). OnTransform o (λ s input output. status ≡ 10 → HasRisen c.fetch_faults c.fetch_faults' ⊎ IsMissing c.files input)) e read;
-      refused = subst (λ (o : Option Command). OnTransform o (λ s input output. IsRefusal status → HasCause s c.files input status)) e why;
-      held = subst (λ (o : Option Command). OnTransform o (λ s input output. status ≡ 11 → WhereTold c.files (λ all. HoldsSource s (bytes_of all input)))) e held;
-      write = write;
-      sink = sink;
-    })
-
--- Memory is wanting.
-pub memory_ends : (c : Call) (status : ℕ) → status ≡ 9 → HasOneEnd c status
-memory_ends c status nine = record { which = memory; by_status = nine; why = tt; refusals = λ cause r. inr (inl nine); accepted = λ r n. inr nine }
-
-nothing_spelled : (P : Settings → List ℕ → List ℕ → Type 0) (o : Option Command) → o ≡ None → ForTransform o P → ⊥
-nothing_spelled P None e h = h
-nothing_spelled P (Some x) e h = cc
-
--- The words spell nothing.
-pub usage_ends : (c : Call) (status : ℕ) → c.spelled ≡ None → (status ≡ 2) ⊎ (status ≡ 9) → HasOneEnd c status
-usage_ends c status e h = elim h [
-  | inl two ↦ record { which = usage; by_status = two; why = e; refusals = λ cause r. absurd (nothing_spelled _ c.spelled e r); accepted = λ r n. absurd (nothing_spelled _ c.spelled e r) }
-  | inr nine ↦ memory_ends c status nine
+    → ((status ≡ 0) ⊎ (status ≡ 12) → Becomes c.files c.files' (ChangesOnly output (Enc (generated n))))
+    → ((status ≡ 9) ⊎ (status ≡ 11) → Becomes c.files c.files' (HoldsFrontAtMost output (Enc (generated n))))
+    → (status ≡ 0 → Becomes c.taken c.taken' (G.PrintsGenerated n)) → (status ≡ 12 → Becomes c.taken c.taken' (G.PrintsLess n))
+    → (status ≡ 9 → Becomes c.taken c.taken' (G.RunsOutOfMemory n output))
+    → (status ≡ 11 → Becomes c.taken c.taken' (Prints (refusal_line None (write_fault output)) c.sink_faults c.sink_faults'))
+    → GeneratesOnce c n output status
+generated_ends c n output status by write sink done cut all less wanting refused = elim by [
+  | inl zero ↦ inl (zero, done (inl zero), all zero)
+  | inr x ↦ elim x [
+    | inl nine ↦ inr (inl (nine, cut (inl nine), wanting nine))
+    | inr y ↦ elim y [
+      | inl eleven ↦ inr (inr (inl (eleven, write eleven, cut (inr eleven), refused eleven)))
+      | inr twelve ↦ inr (inr (inr (twelve, sink twelve, done (inr twelve), less twelve)))
+    ]
+  ]
 ]
+
+-- the line on memory alone, whatever the words spell
+memory_unread : (o : Option Command) (files : Option Files) (status : ℕ) (old new : Option (List ℕ)) → Becomes old new EndsInMemory
+    → OnTransform o (λ s input output. status ≡ 9 → Becomes old new (RunsOutOfMemory s files input output))
+memory_unread None files status old new h = tt
+memory_unread (Some (transform s input output)) files status old new h = λ n. memory_any s files input output old new h
+
+pub memory_unread_words : (o : Option Spelled) (files : Option Files) (status : ℕ) (old new : Option (List ℕ)) → Becomes old new EndsInMemory
+    → OnTransform (rewriting o) (λ s input output. status ≡ 9 → Becomes old new (RunsOutOfMemory s files input output))
+memory_unread_words o files status old new h = memory_unread (rewriting o) files status old new h
+
+-- the words are no `transform`
+pub no_transform : (o : Option Spelled) (P : Settings → List ℕ → List ℕ → Type 0) → rewriting o ≡ None → OnTransform (rewriting o) P
+no_transform o P e = subst (λ (x : Option Command). OnTransform x P) (sym e) tt

@@ -1,30 +1,29 @@
--- How a call of the command ends, and why: in one piece.
-use Rattle.std.specs.Prelude.{◌≡◌, ◌⊎◌, ℕ, List, Option, Some, None, IsSome}
+-- How a call ends, by the command that its words spell.
+use Rattle.std.specs.Prelude.{◌≡◌, ◌⊎◌, ℕ, List, Option, Some, None}
 use Rattle.vault_port.specs.Counts.{HasRisen}
-use Rattle.vault_port.specs.Files.{Files, bytes_of, IsMissing}
-use Rattle.vault_port.specs.Told.{WhereTold, Becomes}
+use Rattle.vault_port.specs.Files.{Files, ChangesOnly, HoldsFrontAtMost}
+use Rattle.vault_port.specs.Told.{Becomes}
+use Rattle.wa_types.specs.Encoding.{Enc}
 use Rattle.wa_types.specs.Pausing.{Settings}
 use Rattle.wa_model.specs.Command.{Command, transform}
-use Rattle.printing.specs.Refused.{status_of}
-use Rattle.source_modules.specs.Sources.{Cause, IsRefusedFor, refusal_for}
-use Rattle.asyncify_app.specs.Transforms.{HoldsSource, IsTransformed}
+use Rattle.wa_model.specs.Spelled.{Spelled, rewrites, hosts, runs, generates}
+use Rattle.wa_model.specs.Transcript.{refusal_line, write_fault}
+use Rattle.printing.specs.Refused.{Prints}
+use Rattle.gen_module.specs.Generated.{generated}
+use Rattle.gen_command.specs.Printed as G
+use Rattle.script_command.specs.declared.way.Way.{Way}
+use Rattle.script_command.specs.declared.way.Way.TheVariants.{Host, Run}
+use Rattle.script_command.specs.Ends as P
+use Rattle.transform_command.specs.Ends as T
 
-pub data End : Type 0 where
-  done usage memory read_fault write_fault sink_fault : End
-  refused : (cause : Cause) → End
+-- the `transform` that words ask for
+abbrev pub rewriting : Option Spelled → Option Command
+rewriting (Some (rewrites command)) = Some command
+rewriting _ = None
 
-abbrev pub status_of_end : End → ℕ
-status_of_end done = 0
-status_of_end usage = 2
-status_of_end (refused cause) = status_of (refusal_for cause)
-status_of_end memory = 9
-status_of_end read_fault = 10
-status_of_end write_fault = 11
-status_of_end sink_fault = 12
-
--- a call: the command that its words spell, the files and the counts of faults before and after it
+-- A call: what its words spell; the files, the counts of faults and what the sink has taken, before and after it.
 pub record Call : Type 0 where
-  pub spelled : Option Command
+  pub spelled : Option Spelled
   pub files : Option Files
   pub files' : Option Files
   pub fetch_faults : ℕ
@@ -33,46 +32,45 @@ pub record Call : Type 0 where
   pub save_faults' : ℕ
   pub sink_faults : ℕ
   pub sink_faults' : ℕ
+  pub taken : Option (List ℕ)
+  pub taken' : Option (List ℕ)
 
--- the words are a `transform`, of which this holds
-abbrev pub ForTransform : Option Command → (Settings → List ℕ → List ℕ → Type 0) → Type 0
-ForTransform None P = ⊥
-ForTransform (Some (transform settings input output)) P = P settings input output
+abbrev pub transform_call : Call → Settings → (input output : List ℕ) → T.Call
+transform_call c s from to = record {
+  settings = s;
+  input = from;
+  output = to;
+  files = c.files;
+  files' = c.files';
+  fetch_faults = c.fetch_faults;
+  fetch_faults' = c.fetch_faults';
+  save_faults = c.save_faults;
+  save_faults' = c.save_faults';
+  sink_faults = c.sink_faults;
+  sink_faults' = c.sink_faults';
+}
 
--- why a call has this end
-abbrev pub IsWhy : Call → End → Type 0
-IsWhy c usage = c.spelled ≡ None
-IsWhy c memory = Unit {0}
-IsWhy c read_fault = ForTransform c.spelled (λ s input output. HasRisen c.fetch_faults c.fetch_faults' ⊎ IsMissing c.files input)
-IsWhy c (refused cause) = ForTransform c.spelled (λ s input output. WhereTold c.files (λ all. IsRefusedFor s (bytes_of all input) cause))
-IsWhy c write_fault = ForTransform c.spelled (λ s input output. HasRisen c.save_faults c.save_faults' × WhereTold c.files (λ all. HoldsSource s (bytes_of all input)))
-IsWhy c sink_fault = ForTransform c.spelled (λ s input output. HasRisen c.sink_faults c.sink_faults' × Becomes c.files c.files' (IsTransformed s input output))
-IsWhy c done = ForTransform c.spelled (λ s input output. Becomes c.files c.files' (IsTransformed s input output))
+abbrev pub script_call : Call → Way → (script : List ℕ) → P.Call
+script_call c way script = P.call way script c.files c.fetch_faults c.fetch_faults' c.sink_faults c.sink_faults' c.taken c.taken'
 
--- P of what is told, and it is told
-abbrev pub ToldThat : {A : Type 0} → Option A → (A → Type 0) → Type 0
-ToldThat None P = ⊥
-ToldThat (Some told) P = P told
+-- Of `gen`: the module is written and the lines on its run are printed; memory is wanting; the module could not be written; or
+-- the sink failed.
+abbrev pub GeneratesOnce : Call → (number : ℕ) → (output : List ℕ) → ℕ → Type 0
+GeneratesOnce c n output status =
+    ((status ≡ 0) × Becomes c.files c.files' (ChangesOnly output (Enc (generated n))) × Becomes c.taken c.taken' (G.PrintsGenerated n))
+    ⊎ ((status ≡ 9) × Becomes c.files c.files' (HoldsFrontAtMost output (Enc (generated n))) × Becomes c.taken c.taken' (G.RunsOutOfMemory n output))
+    ⊎ ((status ≡ 11) × HasRisen c.save_faults c.save_faults' × Becomes c.files c.files' (HoldsFrontAtMost output (Enc (generated n)))
+    × Becomes c.taken c.taken' (Prints (refusal_line None (write_fault output)) c.sink_faults c.sink_faults'))
+    ⊎ ((status ≡ 12) × HasRisen c.sink_faults c.sink_faults' × Becomes c.files c.files' (ChangesOnly output (Enc (generated n))) × Becomes c.taken c.taken' (G.PrintsLess n))
 
--- no count of faults has risen
-pub record NothingFails (c : Call) : Type 0 where
-  pub fetches : HasRisen c.fetch_faults c.fetch_faults' → ⊥
-  pub saves : HasRisen c.save_faults c.save_faults' → ⊥
-  pub puts : HasRisen c.sink_faults c.sink_faults' → ⊥
+-- The call has one end, by its status, with its reason and what it printed: words that spell nothing are refused, and each command
+-- has its ends. (What `transform` prints is told apart.)
+abbrev pub EndsBy : Call → Option Spelled → ℕ → Type 0
+EndsBy c None status = (status ≡ 2) ⊎ (status ≡ 9)
+EndsBy c (Some (rewrites (transform s input output))) status = T.HasOneEnd (transform_call c s input output) status
+EndsBy c (Some (hosts script)) status = P.HasEnd (script_call c Host script) status
+EndsBy c (Some (runs script)) status = P.HasEnd (script_call c Run script) status
+EndsBy c (Some (generates n output)) status = GeneratesOnce c n output status
 
--- The call has one end, by its status, and the reason for it. Where the content of IN is told, a cause for which it is
--- refused has that status, and a source that is accepted is written where nothing fails: all but for want of memory, and for a
--- fault of reading, which comes first.
-pub record HasOneEnd (c : Call) (status : ℕ) : Type 0 where
-  pub which : End
-  pub by_status : status ≡ status_of_end which
-  pub why : IsWhy c which
-  pub refusals : (cause : Cause)
-      → ForTransform c.spelled (λ s input output. ToldThat c.files (λ all. IsRefusedFor s (bytes_of all input) cause))
-      → (status ≡ status_of (refusal_for cause)) ⊎ (status ≡ 9) ⊎ (status ≡ 10)
-  pub accepted : ForTransform c.spelled (λ s input output. ToldThat c.files (λ all. IsSome (all input) × HoldsSource s (bytes_of all input)))
-      → NothingFails c → (status ≡ 0) ⊎ (status ≡ 9)
-
--- the status of a refusal of IN
-abbrev pub IsRefusal : ℕ → Type 0
-IsRefusal n = (cause : Cause) × (n ≡ status_of (refusal_for cause))
+abbrev pub HasOneEnd : Call → ℕ → Type 0
+HasOneEnd c status = EndsBy c c.spelled status

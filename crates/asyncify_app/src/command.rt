@@ -1,29 +1,29 @@
 // A command from its words to its status.
 ghost use Rattle.std.specs.Prelude.{◌≡◌, ◌⊎◌, ◌≤◌, map, None, IsSome};
 ghost use Rattle.std.specs.String.{string_bytes};
-ghost use Rattle.call_graph.specs.Settings.{settings_of};
-ghost use Rattle.call_graph.specs.declared.settings.Policy.TheVariants.{All};
 ghost use Rattle.vault_port.specs.Counts.{HasRisen};
 ghost use Rattle.vault_port.specs.Files.{bytes_of, IsMissing};
 ghost use Rattle.vault_port.specs.Told.{WhereTold, Becomes};
-ghost use Rattle.wa_model.specs.Command.{command, OnTransform};
+ghost use Rattle.wa_model.specs.Command.{OnTransform};
+ghost use Rattle.wa_model.specs.Spelled.{spelled};
 ghost use Rattle.wa_model.specs.Transcript.{read_fault, refusal_line, usage, write_fault};
 ghost use Rattle.printing.specs.Refused.{Prints, PrintsMemory};
-ghost use Rattle.asyncify_app.specs.Ends.{HasOneEnd, IsRefusal};
-ghost use Rattle.asyncify_app.specs.Transforms.{HasCause, HoldsSource, IsCutShort, IsTransformed, PrintsRefusal, PrintsDone, PrintsLess, RunsOutOfMemory};
+ghost use Rattle.transform_command.specs.Ends.{IsRefusal};
+ghost use Rattle.transform_command.specs.Transforms.{HasCause, HoldsSource, IsCutShort, IsTransformed, PrintsRefusal, PrintsDone, PrintsLess, RunsOutOfMemory};
+ghost use Rattle.asyncify_app.specs.Ends.{HasOneEnd, rewriting};
 
-use crate::report::{refusal_kind, report};
-use crate::transform::{TransformFault, transform};
-use call_graph::Settings;
 use command_words::{Command, WordsFault, read_words};
-use printing::{out_of_memory, refuse, refuse_read, refuse_write};
+use gen_command::run_generated;
+use printing::{out_of_memory, refuse};
+use script_command::{Way, play_script};
 use std::alloc::Global;
 use transcript::RefusalKind;
+use transform_command::run_transform;
 use vault_port::{Sink, Vault};
 
 /// Runs the command that the words spell, without the program's own name, over a vault of files and a sink for what
 /// it prints, and answers its status: 0 done, 2 no command, 3 bytes that spell no module, 4 a float, 5 a module that isn't
-/// valid, 6 a limit, 7 a reserved name, 9 want of memory, 10 a file that could not be read, 11 one that could not be
+/// valid, 6 a limit, 7 a reserved name, 8 a line of a script, 9 want of memory, 10 a file that could not be read, 11 one that could not be
 /// written, 12 a sink that failed. Each refusal prints a line. Want of memory may come in the place of any other answer.
 pub fn asyncify<V: Vault, S: Sink>(
     alloc: Global,
@@ -31,16 +31,16 @@ pub fn asyncify<V: Vault, S: Sink>(
     vault: &mut V,
     out: &mut S,
 ) -> u8
-    ensures usage { command (map string_bytes words.now) ≡ None → (result ≡ 2) ⊎ (result ≡ 9) }
-    ensures usage_alone { result ≡ 2 → command (map string_bytes words.now) ≡ None }
-    ensures usage_files { command (map string_bytes words.now) ≡ None → V.files vault.new ≡ V.files vault.old }
+    ensures usage { spelled (map string_bytes words.now) ≡ None → (result ≡ 2) ⊎ (result ≡ 9) }
+    ensures usage_alone { result ≡ 2 → spelled (map string_bytes words.now) ≡ None }
+    ensures usage_files { spelled (map string_bytes words.now) ≡ None → V.files vault.new ≡ V.files vault.old }
     ensures prints_usage { result ≡ 2 → Becomes (S.taken out.old) (S.taken out.new) (Prints (refusal_line None usage) (S.faults out.old) (S.faults out.new)) }
-    ensures prints_usage_memory { command (map string_bytes words.now) ≡ None → result ≡ 9 → Becomes (S.taken out.old) (S.taken out.new) (PrintsMemory (refusal_line None usage)) }
-    ensures status { (result ≡ 0) ⊎ (result ≡ 2) ⊎ IsRefusal result ⊎ (result ≡ 9) ⊎ (result ≡ 10) ⊎ (result ≡ 11) ⊎ (result ≡ 12) }
+    ensures prints_usage_memory { spelled (map string_bytes words.now) ≡ None → result ≡ 9 → Becomes (S.taken out.old) (S.taken out.new) (PrintsMemory (refusal_line None usage)) }
+    ensures status { (result ≡ 0) ⊎ (result ≡ 2) ⊎ IsRefusal result ⊎ (result ≡ 8) ⊎ (result ≡ 9) ⊎ (result ≡ 10) ⊎ (result ≡ 11) ⊎ (result ≡ 12) }
 
     // Exactly one end, with its cause.
     ensures one_end { HasOneEnd (record {
-      spelled = command (map string_bytes words.now);
+      spelled = spelled (map string_bytes words.now);
       files = V.files vault.old;
       files' = V.files vault.new;
       fetch_faults = V.fetch_faults vault.old;
@@ -49,39 +49,41 @@ pub fn asyncify<V: Vault, S: Sink>(
       save_faults' = V.save_faults vault.new;
       sink_faults = S.faults out.old;
       sink_faults' = S.faults out.new;
+      taken = S.taken out.old;
+      taken' = S.taken out.new;
     }) result }
 
     // The causes.
-    ensures read_fault { OnTransform (command (map string_bytes words.now)) (λ settings input output.
+    ensures read_fault { OnTransform (rewriting (spelled (map string_bytes words.now))) (λ settings input output.
         result ≡ 10 → HasRisen (V.fetch_faults vault.old) (V.fetch_faults vault.new) ⊎ IsMissing (V.files vault.old) input) }
-    ensures refused { OnTransform (command (map string_bytes words.now)) (λ settings input output.
+    ensures refused { OnTransform (rewriting (spelled (map string_bytes words.now))) (λ settings input output.
         IsRefusal result → HasCause settings (V.files vault.old) input result) }
-    ensures built { OnTransform (command (map string_bytes words.now)) (λ settings input output.
+    ensures built { OnTransform (rewriting (spelled (map string_bytes words.now))) (λ settings input output.
         result ≡ 11 → WhereTold (V.files vault.old) (λ all. HoldsSource settings (bytes_of all input))) }
-    ensures there { OnTransform (command (map string_bytes words.now)) (λ settings input output.
+    ensures there { OnTransform (rewriting (spelled (map string_bytes words.now))) (λ settings input output.
         (result ≡ 9) ⊎ (result ≡ 10) ⊎ WhereTold (V.files vault.old) (λ all. IsSome (all input))) }
     ensures write_fault { result ≡ 11 → HasRisen (V.save_faults vault.old) (V.save_faults vault.new) }
     ensures sink_fault { result ≡ 12 → HasRisen (S.faults out.old) (S.faults out.new) }
 
     // The files.
-    ensures done { OnTransform (command (map string_bytes words.now)) (λ settings input output.
+    ensures done { OnTransform (rewriting (spelled (map string_bytes words.now))) (λ settings input output.
         (result ≡ 0) ⊎ (result ≡ 12) → Becomes (V.files vault.old) (V.files vault.new) (IsTransformed settings input output)) }
     ensures kept { (result ≡ 10) ⊎ IsRefusal result → V.files vault.new ≡ V.files vault.old }
-    ensures cut { OnTransform (command (map string_bytes words.now)) (λ settings input output.
+    ensures cut { OnTransform (rewriting (spelled (map string_bytes words.now))) (λ settings input output.
         (result ≡ 9) ⊎ (result ≡ 11) → Becomes (V.files vault.old) (V.files vault.new) (IsCutShort settings input output)) }
 
     // What is printed.
-    ensures prints_done { OnTransform (command (map string_bytes words.now)) (λ settings input output.
+    ensures prints_done { OnTransform (rewriting (spelled (map string_bytes words.now))) (λ settings input output.
         result ≡ 0 → Becomes (S.taken out.old) (S.taken out.new) (PrintsDone settings (V.files vault.old) input)) }
-    ensures prints_less { OnTransform (command (map string_bytes words.now)) (λ settings input output.
+    ensures prints_less { OnTransform (rewriting (spelled (map string_bytes words.now))) (λ settings input output.
         result ≡ 12 → Becomes (S.taken out.old) (S.taken out.new) (PrintsLess settings (V.files vault.old) input)) }
-    ensures prints_memory { OnTransform (command (map string_bytes words.now)) (λ settings input output.
+    ensures prints_memory { OnTransform (rewriting (spelled (map string_bytes words.now))) (λ settings input output.
         result ≡ 9 → Becomes (S.taken out.old) (S.taken out.new) (RunsOutOfMemory settings (V.files vault.old) input output)) }
-    ensures prints_read { OnTransform (command (map string_bytes words.now)) (λ settings input output.
+    ensures prints_read { OnTransform (rewriting (spelled (map string_bytes words.now))) (λ settings input output.
         result ≡ 10 → Becomes (S.taken out.old) (S.taken out.new) (Prints (refusal_line None (read_fault input)) (S.faults out.old) (S.faults out.new))) }
-    ensures prints_write { OnTransform (command (map string_bytes words.now)) (λ settings input output.
+    ensures prints_write { OnTransform (rewriting (spelled (map string_bytes words.now))) (λ settings input output.
         result ≡ 11 → Becomes (S.taken out.old) (S.taken out.new) (Prints (refusal_line None (write_fault output)) (S.faults out.old) (S.faults out.new))) }
-    ensures prints_refusal { OnTransform (command (map string_bytes words.now)) (λ settings input output.
+    ensures prints_refusal { OnTransform (rewriting (spelled (map string_bytes words.now))) (λ settings input output.
         IsRefusal result → Becomes (S.taken out.old) (S.taken out.new) (PrintsRefusal settings (V.files vault.old) input result (S.faults out.old) (S.faults out.new))) }
 
     // No count falls.
@@ -99,53 +101,8 @@ pub fn asyncify<V: Vault, S: Sink>(
                 output,
             },
         ) => run_transform(alloc, vault, out, &settings, input, output),
-    }
-}
-
-/// `transform IN OUT`: rewrites the module in one file into another, prints a line and answers the status.
-fn run_transform<V: Vault, S: Sink>(
-    alloc: Global,
-    vault: &mut V,
-    out: &mut S,
-    settings: &Settings,
-    input: &str,
-    output: &str,
-) -> u8
-    requires { settings.now.policy ≡ All }
-    ensures status { (result ≡ 0) ⊎ IsRefusal result ⊎ (result ≡ 9) ⊎ (result ≡ 10) ⊎ (result ≡ 11) ⊎ (result ≡ 12) }
-
-    // The causes.
-    ensures read_fault { result ≡ 10 → HasRisen (V.fetch_faults vault.old) (V.fetch_faults vault.new)
-        ⊎ IsMissing (V.files vault.old) input.now }
-    ensures refused { IsRefusal result → HasCause (settings_of settings.now) (V.files vault.old) input.now result }
-    ensures built { result ≡ 11 → WhereTold (V.files vault.old) (λ all. HoldsSource (settings_of settings.now) (bytes_of all input.now)) }
-    ensures there { (result ≡ 9) ⊎ (result ≡ 10) ⊎ WhereTold (V.files vault.old) (λ all. IsSome (all input.now)) }
-    ensures write_fault { result ≡ 11 → HasRisen (V.save_faults vault.old) (V.save_faults vault.new) }
-    ensures sink_fault { result ≡ 12 → HasRisen (S.faults out.old) (S.faults out.new) }
-
-    // The files.
-    ensures done { (result ≡ 0) ⊎ (result ≡ 12) → Becomes (V.files vault.old) (V.files vault.new) (IsTransformed (settings_of settings.now) input.now output.now) }
-    ensures kept { (result ≡ 10) ⊎ IsRefusal result → V.files vault.new ≡ V.files vault.old }
-    ensures cut { (result ≡ 9) ⊎ (result ≡ 11) → Becomes (V.files vault.old) (V.files vault.new) (IsCutShort (settings_of settings.now) input.now output.now) }
-
-    // What is printed.
-    ensures prints_done { result ≡ 0 → Becomes (S.taken out.old) (S.taken out.new) (PrintsDone (settings_of settings.now) (V.files vault.old) input.now) }
-    ensures prints_less { result ≡ 12 → Becomes (S.taken out.old) (S.taken out.new) (PrintsLess (settings_of settings.now) (V.files vault.old) input.now) }
-    ensures prints_memory { result ≡ 9 → Becomes (S.taken out.old) (S.taken out.new) (RunsOutOfMemory (settings_of settings.now) (V.files vault.old) input.now output.now) }
-    ensures prints_read { result ≡ 10 → Becomes (S.taken out.old) (S.taken out.new) (Prints (refusal_line None (read_fault input.now)) (S.faults out.old) (S.faults out.new)) }
-    ensures prints_write { result ≡ 11 → Becomes (S.taken out.old) (S.taken out.new) (Prints (refusal_line None (write_fault output.now)) (S.faults out.old) (S.faults out.new)) }
-    ensures prints_refusal { IsRefusal result → Becomes (S.taken out.old) (S.taken out.new) (PrintsRefusal (settings_of settings.now) (V.files vault.old) input.now result (S.faults out.old) (S.faults out.new)) }
-
-    // No count falls.
-    ensures fetch_faults { V.fetch_faults vault.old ≤ V.fetch_faults vault.new }
-    ensures save_faults { V.save_faults vault.old ≤ V.save_faults vault.new }
-    ensures sink_faults { S.faults out.old ≤ S.faults out.new }
-{
-    match transform(alloc, vault, settings, input, output) {
-        Ok(done) => report(alloc, out, done),
-        Err(TransformFault::Memory) => out_of_memory(out),
-        Err(TransformFault::Read) => refuse_read(alloc, out, input),
-        Err(TransformFault::Refused(refusal)) => refuse(alloc, out, refusal_kind(refusal)),
-        Err(TransformFault::Write) => refuse_write(alloc, out, output),
+        Ok(Command::Host { script }) => play_script(alloc, vault, out, Way::Host, script),
+        Ok(Command::Run { script }) => play_script(alloc, vault, out, Way::Run, script),
+        Ok(Command::Gen { number, output }) => run_generated(alloc, vault, out, number, output),
     }
 }

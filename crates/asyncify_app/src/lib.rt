@@ -1,14 +1,11 @@
 //! The commands.
 //!
-//! `asyncify` runs the command that its words spell, over a vault of files and a sink for what it prints. For now
-//! that is `transform`: the functions that may pause are rewritten, every other stays, and the runtime's parts stand behind.
+//! `asyncify` runs the command that its words spell, over a vault of files and a sink for what it prints: `transform`, which
+//! rewrites a module; `host` and `run`, which play a script; and `gen`, which writes a generated module and runs it.
 //!
-//! A caller may rely on this: with status 0 the output file holds exactly the bytes of that module, and no other
-//! file changed; each refusal has its cause, its line and what it leaves (`specs/Transforms.antt`).
+//! A caller may rely on this: a call has one end, by its status, with its reason and what it printed (`specs/Ends.antt`).
 #![tactic(auto)]
 
 mod command;
-mod report;
-mod transform;
 
 pub use command::asyncify;

@@ -1,11 +1,10 @@
 -- What holds of the front of a file that was read holds of the file.
-use Rattle.std.proofs.Common.{◌≡◌, ◌⊎◌, inl, inr, ℕ, ◌≤◌, ◌<◌, List, Option, Some, None, refl, sym, subst, take, length, arith, Result, Ok, Err}
+use Rattle.std.proofs.Common.{◌≡◌, inl, inr, ℕ, ◌≤◌, List, Option, Some, None, refl, sym, subst, take, length, arith, Result, Ok, Err}
 use Rattle.std.specs.Result.{IfErr}
 use Rattle.std.proofs.lemmas.List.{take_all, length-take}
 use Rattle.vault_port.specs.Files.{Files, bytes_of}
 use Rattle.vault_port.specs.Told.{WhereTold}
 use Rattle.wa_types.specs.declared.bounds.LimitKind.TheVariants.{File, Functions, Parameters, Body, Locals, Output, Script, Programs}
-use Rattle.wa_types.specs.FirstFault.{FirstFault}
 use Rattle.wa_types.specs.ModuleBounds.{prepared_bounds}
 use Rattle.wa_types.specs.Syntax.{Module}
 use Rattle.wa_model.specs.Script as T
@@ -21,7 +20,7 @@ use Rattle.host_modules.specs.Prepared.{IsOfContent, IsPrepared, IsUnprepared}
 use Rattle.host_files.specs.declared.fault.FileFault.{FileFault}
 use Rattle.host_files.specs.declared.fault.FileFault.TheVariants.{Memory, Read, Refused}
 use Rattle.host_files.specs.Scripts.{IsScript, IsNoScript, HasFault}
-use Rattle.host_files.specs.Views.{IsContentFault, IsNoScriptFor, IsToldNoScript, IsToldUnprepared, file_fault}
+use Rattle.host_files.specs.Views.{Holds, IsContentFault, IsNoScriptFor, IsToldNoScript, IsToldUnprepared, file_fault}
 
 -- ---- modules
 
@@ -65,16 +64,16 @@ unprepared_whole bytes (write_fault name) h = absurd h
 
 -- the module that was read is the file's
 pub prepared_of : (name bytes : List ℕ) (files : Option Files) (m : Module) → WhereTold files (λ all. bytes ≡ take 67108865 (bytes_of all name)) → IsPrepared bytes m
-    → WhereTold files (λ all. IsPrepared (bytes_of all name) m)
-prepared_of name bytes None m read h = tt
+    → (whole : List ℕ) × Holds files name whole × IsPrepared whole m
+prepared_of name bytes None m read h = (bytes, tt, h)
 prepared_of name bytes (Some all) m read h =
     let at : IsPrepared (take 67108865 (bytes_of all name)) m = subst (λ b. IsPrepared b m) read h in
-    record { read = accepted_whole (bytes_of all name) m at.read; valid = at.valid }
+    (bytes_of all name, refl, record { read = accepted_whole (bytes_of all name) m at.read; valid = at.valid })
 
 pub unprepared_of : (name bytes : List ℕ) (files : Option Files) (r : Refusal) → WhereTold files (λ all. bytes ≡ take 67108865 (bytes_of all name)) → IsUnprepared bytes r
-    → WhereTold files (λ all. IsUnprepared (bytes_of all name) r)
-unprepared_of name bytes None r read h = tt
-unprepared_of name bytes (Some all) r read h = unprepared_whole (bytes_of all name) r (subst (λ b. IsUnprepared b r) read h)
+    → (whole : List ℕ) × Holds files name whole × IsUnprepared whole r
+unprepared_of name bytes None r read h = (bytes, tt, h)
+unprepared_of name bytes (Some all) r read h = (bytes_of all name, refl, unprepared_whole (bytes_of all name) r (subst (λ b. IsUnprepared b r) read h))
 
 -- ---- scripts
 
@@ -88,16 +87,16 @@ no_script_whole bytes r h = elim h [
 ]
 
 pub script_of_file : (name bytes : List ℕ) (files : Option Files) (s : T.Script) → WhereTold files (λ all. bytes ≡ take 1048577 (bytes_of all name)) → IsScript bytes s
-    → WhereTold files (λ all. IsScript (bytes_of all name) s)
-script_of_file name bytes None s read h = tt
-script_of_file name bytes (Some all) s read h = script_whole (bytes_of all name) s (subst (λ b. IsScript b s) read h)
+    → (whole : List ℕ) × Holds files name whole × IsScript whole s
+script_of_file name bytes None s read h = (bytes, tt, h)
+script_of_file name bytes (Some all) s read h = (bytes_of all name, refl, script_whole (bytes_of all name) s (subst (λ b. IsScript b s) read h))
 
 pub no_script_of : (name bytes : List ℕ) (files : Option Files) (fault : FileFault) → WhereTold files (λ all. bytes ≡ take 1048577 (bytes_of all name)) → IsNoScriptFor bytes fault
     → IsToldNoScript files name fault
 no_script_of name bytes files Memory read h = tt
 no_script_of name bytes files Read read h = absurd h
-no_script_of name bytes None (Refused kind) read h = tt
-no_script_of name bytes (Some all) (Refused kind) read h = no_script_whole (bytes_of all name) (refusal_of kind) (subst (λ b. IsNoScript b (refusal_of kind)) read h)
+no_script_of name bytes None (Refused kind) read h = (bytes, tt, h)
+no_script_of name bytes (Some all) (Refused kind) read h = (bytes_of all name, refl, no_script_whole (bytes_of all name) (refusal_of kind) (subst (λ b. IsNoScript b (refusal_of kind)) read h))
 
 -- ---- answers
 

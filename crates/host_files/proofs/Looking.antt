@@ -1,5 +1,5 @@
 -- The search for a line that no command can serve, one line more.
-use Rattle.std.proofs.Common.{◌≡◌, ℕ, suc, ◌+◌, List, [], ◌∷◌, Option, Some, None, Bool, false, Result, sym, ap, ◌∙◌, arith}
+use Rattle.std.proofs.Common.{◌≡◌, ℕ, suc, ◌+◌, List, ◌∷◌, Option, Bool, false, Result, sym, ap, ◌∙◌, arith}
 use Rattle.std.specs.Option.{option_map}
 use Rattle.wa_model.specs.ScriptLines.{line_says}
 use Rattle.host_files.specs.declared.serving.Unserved.{Unserved as UnservedValue}

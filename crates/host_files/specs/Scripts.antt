@@ -1,5 +1,5 @@
 -- Which scripts commands take, and why others are refused.
-use Rattle.std.specs.Prelude.{◌≡◌, ◌⊎◌, ℕ, suc, ◌<◌, ◌≤◌, nat_lt, nat_eq, not, ◌&&◌, ◌||◌, if◌then◌else◌, List, [], ◌∷◌, length, Option, Some, None, Bool, true, false, Result, Ok, Err}
+use Rattle.std.specs.Prelude.{◌≡◌, ◌⊎◌, ℕ, suc, ◌<◌, ◌≤◌, nat_lt, nat_eq, not, ◌&&◌, ◌||◌, if◌then◌else◌, List, [], ◌∷◌, length, Option, Some, None, Bool, false, Result, Ok, Err}
 use Rattle.std.specs.Str.Lines.{lines}
 use Rattle.wa_types.specs.declared.bounds.LimitKind.TheVariants.{Script as a_script, Programs as some_programs}
 use Rattle.wa_model.specs.Script.{Script, ScriptFault, breaks, too_many}

@@ -1,5 +1,5 @@
 -- What is answered, as plain data.
-use Rattle.std.specs.Prelude.{◌≡◌, ℕ, List, Option, Some, None, Bool, Result, Ok, Err}
+use Rattle.std.specs.Prelude.{◌≡◌, ℕ, List, Option, Bool, Result, Ok, Err}
 use Rattle.std.specs.Option.{option_map}
 use Rattle.vault_port.specs.Files.{Files, bytes_of}
 use Rattle.vault_port.specs.Told.{WhereTold}
@@ -46,14 +46,18 @@ IsNoScriptFor bytes Memory = Unit {0}
 IsNoScriptFor bytes Read = ⊥
 IsNoScriptFor bytes (Refused kind) = IsNoScript bytes (refusal_of kind)
 
--- a refusal, for which, where the files are told, the file's bytes are no script
+-- the file holds these bytes, where the files are told
+abbrev pub Holds : Option Files → (name bytes : List ℕ) → Type 0
+Holds files name bytes = WhereTold files (λ all. bytes ≡ bytes_of all name)
+
+-- a refusal, for which the file's bytes are no script
 abbrev pub IsToldNoScript : Option Files → List ℕ → FileFault → Type 0
-IsToldNoScript files name (Refused kind) = WhereTold files (λ all. IsNoScript (bytes_of all name) (refusal_of kind))
+IsToldNoScript files name (Refused kind) = (bytes : List ℕ) × Holds files name bytes × IsNoScript bytes (refusal_of kind)
 IsToldNoScript files name _ = Unit {0}
 
 -- .. no prepared module
 abbrev pub IsToldUnprepared : Option Files → List ℕ → FileFault → Type 0
-IsToldUnprepared files name (Refused kind) = WhereTold files (λ all. IsUnprepared (bytes_of all name) (refusal_of kind))
+IsToldUnprepared files name (Refused kind) = (bytes : List ℕ) × Holds files name bytes × IsUnprepared bytes (refusal_of kind)
 IsToldUnprepared files name _ = Unit {0}
 
 -- a refusal of what the file holds

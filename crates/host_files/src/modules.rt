@@ -1,12 +1,12 @@
 // The prepared module in a file.
-ghost use Rattle.std.specs.Prelude.{◌≡◌, ◌⊎◌, ◌≤◌, IfOk, IsErrOf, IsSome};
+ghost use Rattle.std.specs.Prelude.{◌≡◌, ◌⊎◌, ◌≤◌, ℕ, List, IfOk, IsErrOf, IsSome};
 ghost use Rattle.std.specs.Result.{IfErr};
 ghost use Rattle.vault_port.specs.Counts.{HasRisen};
-ghost use Rattle.vault_port.specs.Files.{bytes_of, IsMissing};
+ghost use Rattle.vault_port.specs.Files.{IsMissing};
 ghost use Rattle.vault_port.specs.Told.{WhereTold};
 ghost use Rattle.wa_types.specs.View.{module_of};
 ghost use Rattle.host_modules.specs.Prepared.{IsPrepared};
-ghost use Rattle.host_files.specs.Views.{IsContentFault, IsToldUnprepared, file_fault};
+ghost use Rattle.host_files.specs.Views.{Holds, IsContentFault, IsToldUnprepared, file_fault};
 
 use crate::fault::FileFault;
 use host_modules::{PreparedFault, prepare};
@@ -23,7 +23,7 @@ pub fn fetch_prepared<V: Vault>(
     vault: &mut V,
     name: &str,
 ) -> Result<Valid, FileFault>
-    ensures prepared { IfOk result (λ valid. WhereTold (V.files vault.old) (λ all. IsPrepared (bytes_of all name.now) (module_of valid))) }
+    ensures prepared { IfOk result (λ valid. (bytes : List ℕ) × Holds (V.files vault.old) name.now bytes × IsPrepared bytes (module_of valid)) }
     ensures refused { IfErr result (λ fault. IsToldUnprepared (V.files vault.old) name.now fault) }
     ensures content { IfErr result IsContentFault }
     ensures read { IsErrOf result FileFault.Read

@@ -1,14 +1,14 @@
 // The script in a file.
-ghost use Rattle.std.specs.Prelude.{◌≡◌, ◌⊎◌, ◌≤◌, IfOk, IsErrOf, IsSome, length};
+ghost use Rattle.std.specs.Prelude.{◌≡◌, ◌⊎◌, ◌≤◌, ℕ, List, IfOk, IsErrOf, IsSome};
 ghost use Rattle.std.specs.Result.{IfErr};
 ghost use Rattle.vault_port.specs.Counts.{HasRisen};
-ghost use Rattle.vault_port.specs.Files.{bytes_of, IsMissing};
+ghost use Rattle.vault_port.specs.Files.{IsMissing};
 ghost use Rattle.vault_port.specs.Told.{WhereTold};
 ghost use Rattle.transcript.specs.Printing.{refusal_of};
 ghost use Rattle.script_reader.specs.Views.{script_of};
 ghost use Rattle.host_modules.specs.Prepared.{IsOfContent};
 ghost use Rattle.host_files.specs.Scripts.{IsScript, refusal_for};
-ghost use Rattle.host_files.specs.Views.{IsContentFault, IsNoScriptFor, IsToldNoScript, fault_of};
+ghost use Rattle.host_files.specs.Views.{Holds, IsContentFault, IsNoScriptFor, IsToldNoScript, fault_of};
 
 use crate::fault::FileFault;
 use crate::serving::{ServeFault, Told, served_script};
@@ -26,7 +26,7 @@ const MOST_BYTES: usize = 1_048_576;
 
 /// The script in this file. No file changes.
 pub fn fetch_script<V: Vault>(alloc: Global, vault: &mut V, name: &str) -> Result<Script, FileFault>
-    ensures script { IfOk result (λ s. WhereTold (V.files vault.old) (λ all. IsScript (bytes_of all name.now) (script_of s))) }
+    ensures script { IfOk result (λ s. (bytes : List ℕ) × Holds (V.files vault.old) name.now bytes × IsScript bytes (script_of s)) }
     ensures refused { IfErr result (λ fault. IsToldNoScript (V.files vault.old) name.now fault) }
     ensures content { IfErr result IsContentFault }
     ensures read { IsErrOf result FileFault.Read

@@ -1,4 +1,4 @@
-use Rattle.std.proofs.Common.{◌∙◌, ap, subst, map}
+use Rattle.std.proofs.Common.{◌∙◌, ap, subst}
 use Rattle.std.specs.Option.{option_map}
 use Rattle.script_reader.specs.Views.{Blames}
 use Rattle.script_reader.specs.declared.faults.ScriptFault.{ScriptFault}

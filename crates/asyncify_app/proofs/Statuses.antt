@@ -1,0 +1,72 @@
+-- The statuses of the commands are those of a call.
+use Rattle.std.proofs.Common.{◌≡◌, ◌⊎◌, inl, inr, ℕ, [], None, arith}
+use Rattle.wa_types.specs.declared.bounds.LimitKind.TheVariants.{File}
+use Rattle.source_modules.specs.Sources.{Cause, malformed, float, deep, limit, reserved, invalid, rewritten_locals, long_output, refusal_for}
+use Rattle.printing.specs.Refused.{status_of}
+use Rattle.transform_command.specs.Ends.{IsRefusal}
+use Rattle.script_command.specs.declared.way.Way.{Way}
+use Rattle.script_command.specs.Ends.{IsStatus}
+
+abbrev IsOne : ℕ → Type 0
+IsOne n = (n ≡ 0) ⊎ (n ≡ 2) ⊎ IsRefusal n ⊎ (n ≡ 8) ⊎ (n ≡ 9) ⊎ (n ≡ 10) ⊎ (n ≡ 11) ⊎ (n ≡ 12)
+
+refusal : (n : ℕ) → IsRefusal n → IsOne n
+refusal n h = inr (inr (inl h))
+
+-- of a script
+pub script_status : (way : Way) (n : ℕ) → IsStatus way n → (n ≡ 0) ⊎ (n ≡ 2) ⊎ IsRefusal n ⊎ (n ≡ 8) ⊎ (n ≡ 9) ⊎ (n ≡ 10) ⊎ (n ≡ 11) ⊎ (n ≡ 12)
+script_status way n h = elim h [
+  | inl zero ↦ inl zero
+  | inr a ↦ elim a [
+    | inl three ↦ refusal n (malformed 0, three)
+    | inr b ↦ elim b [
+      | inl four ↦ refusal n (float 0, four)
+      | inr c ↦ elim c [
+        | inl five ↦ refusal n (invalid None 0 0, five)
+        | inr d ↦ elim d [
+          | inl six ↦ refusal n (deep 0, six)
+          | inr e ↦ elim e [
+            | inl seven ↦ refusal n (reserved [], seven.0)
+            | inr f ↦ elim f [
+              | inl eight ↦ inr (inr (inr (inl eight)))
+              | inr g ↦ elim g [
+                | inl nine ↦ inr (inr (inr (inr (inl nine))))
+                | inr k ↦ elim k [
+                  | inl ten ↦ inr (inr (inr (inr (inr (inl ten)))))
+                  | inr twelve ↦ inr (inr (inr (inr (inr (inr (inr twelve))))))
+                ]
+              ]
+            ]
+          ]
+        ]
+      ]
+    ]
+  ]
+]
+
+pub never_two : (way : Way) (n : ℕ) → IsStatus way n → n ≡ 2 → ⊥
+never_two way n h e = elim h [
+  | inl a ↦ absurd (omega (arith, a, e))
+  | inr h ↦ elim h [
+    | inl a ↦ absurd (omega (arith, a, e))
+    | inr h ↦ elim h [
+      | inl a ↦ absurd (omega (arith, a, e))
+      | inr h ↦ elim h [
+        | inl a ↦ absurd (omega (arith, a, e))
+        | inr h ↦ elim h [
+          | inl a ↦ absurd (omega (arith, a, e))
+          | inr h ↦ elim h [
+            | inl a ↦ absurd (omega (arith, a.0, e))
+            | inr h ↦ elim h [
+              | inl a ↦ absurd (omega (arith, a, e))
+              | inr h ↦ elim h [
+                | inl a ↦ absurd (omega (arith, a, e))
+                | inr h ↦ elim h [ inl a ↦ absurd (omega (arith, a, e)) | inr a ↦ absurd (omega (arith, a, e)) ]
+              ]
+            ]
+          ]
+        ]
+      ]
+    ]
+  ]
+]

@@ -1,0 +1,69 @@
+-- A program that is set up begins the story of the program that it is in a world.
+use Rattle.std.proofs.Common.{◌≡◌, ℕ, List, [], map, Bool, Result, Ok, sym, ap, ◌∙◌, subst}
+use Rattle.wa_types.specs.declared.values.Value.{Value}
+use Rattle.wa_types.specs.Syntax.{Module}
+use Rattle.wa_model.specs.declared.answers.Area.{Area}
+use Rattle.wa_model.specs.Outside.{AnswerLine}
+use Rattle.wa_model.specs.Plan.{Entry}
+use Rattle.wa_model.specs.Script.{ProgramText}
+use Rattle.wa_model.specs.View.{answer_line_of}
+use Rattle.wa_model.specs.World as W
+use Rattle.host_setup.specs.SetUp.{NamedEntry, Fault, set_up}
+use Rattle.host_setup.specs.Views.{entry_of as named_entry_of}
+use Rattle.pause_host.specs.declared.plan.Plan.{Plan}
+use Rattle.pause_host.specs.declared.program.Program.{Program}
+use Rattle.pause_host.specs.Programs.{Follows, SetsUp, named_entries, source_of, world_program}
+use Rattle.pause_host.specs.Settings.{calls_of}
+use Rattle.script_setup.specs.declared.setting.SetUp.{SetUp as SetUpValue}
+use Rattle.script_setup.specs.SetUpRules.{named_entry, set_up_rules}
+use Rattle.script_setup.specs.Views.{set_up_of}
+use Rattle.script_setup.proofs.GlobalTypes.{given_by_rules}
+use Rattle.hosting.specs.Hosted.{hosted_program, look_at}
+use Rattle.hosting.specs.Views.{Suits, listing}
+
+-- what is made by the rules suits
+pub suits_by_rules : (runs : Bool) (p : Module) (t : ProgramText) (made : SetUpValue) → set_up_rules runs p t ≡ Ok (set_up_of made) → map named_entry_of made.entries.items ≡ map named_entry t.entries → Suits p t made
+suits_by_rules runs p t made e entries =
+    let given = given_by_rules runs p t (set_up_of made) e in
+    record { entries = entries; funcs = given.funcs; globals = given.globals }
+
+-- The plan is made of the script's program and of what it is given.
+pub record IsPlanOf (t : ProgramText) (made : SetUpValue) (x : Plan) : Type 0 where
+  pub entries : x.entries ≡ made.entries
+  pub globals : x.globals ≡ made.globals
+  pub area : x.area ≡ t.area
+  pub steps : x.steps ≡ t.steps
+  pub answers : map answer_line_of x.answers.items ≡ t.answers
+
+module _ (t : ProgramText) (made : SetUpValue) (x : Plan) (of : IsPlanOf t made x) (suits : Suits (source_of x) t made) where
+  same_entries : named_entries x ≡ map named_entry t.entries
+  same_entries = ap (λ (v : _). map named_entry_of v.items) of.entries ∙ suits.entries
+
+  same_funcs : (funcs : List ℕ) → set_up (source_of x) x.area (named_entries x) ≡ Ok funcs → funcs ≡ made.funcs.items
+  same_funcs funcs e =
+      let told : set_up (source_of x) x.area (named_entries x) ≡ Ok made.funcs.items =
+      ap (λ (a : Area). set_up (source_of x) a (named_entries x)) of.area ∙ ap (set_up (source_of x) t.area) same_entries ∙ suits.funcs in
+      let both : ◌≡◌ {A = Result (List ℕ) Fault} (Ok funcs) (Ok made.funcs.items) = sym e ∙ told in
+      cc
+
+  abbrev world_of : List Value → List Entry → Area → ℕ → List AnswerLine → W.Program
+  world_of globals entries area steps answers = record {
+    source = source_of x;
+    plan = record { globals = globals; entries = entries; area = area; listed = listing x.listed };
+    steps = steps;
+    answers = answers;
+    binds = [];
+    looks = map look_at t.shows;
+  }
+
+  same_world : (funcs : List ℕ) → funcs ≡ made.funcs.items → world_program x funcs (map look_at t.shows) ≡ hosted_program (source_of x) (listing x.listed) t (set_up_of made)
+  same_world funcs e =
+      ap (λ (v : _). world_of v.items (calls_of (named_entries x) funcs) x.area x.steps (map answer_line_of x.answers.items)) of.globals
+      ∙ ap (λ (es : List NamedEntry). world_of made.globals.items (calls_of es funcs) x.area x.steps (map answer_line_of x.answers.items)) same_entries
+      ∙ ap (λ (fs : List ℕ). world_of made.globals.items (calls_of (map named_entry t.entries) fs) x.area x.steps (map answer_line_of x.answers.items)) e
+      ∙ ap (λ (a : Area). world_of made.globals.items (calls_of (map named_entry t.entries) made.funcs.items) a x.steps (map answer_line_of x.answers.items)) of.area
+      ∙ ap (λ (n : ℕ). world_of made.globals.items (calls_of (map named_entry t.entries) made.funcs.items) t.area n (map answer_line_of x.answers.items)) of.steps
+      ∙ ap (world_of made.globals.items (calls_of (map named_entry t.entries) made.funcs.items) t.area t.steps) of.answers
+
+  pub begins : (program : Program) → SetsUp x (Ok program) → Follows (hosted_program (source_of x) (listing x.listed) t (set_up_of made)) [] program
+  begins program up = subst (λ (w : W.Program). Follows w [] program) (same_world up.0 (same_funcs up.0 up.1)) (up.2 (map look_at t.shows))

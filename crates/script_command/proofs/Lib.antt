@@ -1,0 +1,4 @@
+pub mod Ending
+pub mod Opened
+pub mod Originals
+pub mod Statuses

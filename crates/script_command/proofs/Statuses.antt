@@ -1,0 +1,150 @@
+-- Which statuses ends have.
+use Rattle.std.proofs.Common.{◌≡◌, ◌≢◌, inl, inr, ℕ, List, Option, refl, sym, ◌∙◌, ap, subst, arith}
+use Rattle.vault_port.specs.Files.{Files}
+use Rattle.wa_model.specs.Script.{ProgramText, ScriptFault, breaks, too_many}
+use Rattle.wa_model.specs.Transcript.{Refusal, usage, out_of_memory, not_built, malformed, float, nesting, invalid, limit, reserved, script, read_fault, write_fault}
+use Rattle.host_modules.specs.Prepared.{IsOfContent, IsUnprepared}
+use Rattle.host_files.specs.Scripts as H
+use Rattle.host_files.specs.Scripts.{IsNoScript}
+use Rattle.printing.specs.Refused.{status_of}
+use Rattle.source_modules.specs.Sources as S
+use Rattle.source_modules.specs.Sources.{refusal_for}
+use Rattle.script_command.specs.declared.way.Way.{Way}
+use Rattle.script_command.specs.declared.way.Way.TheVariants.{Host, Run}
+use Rattle.script_command.specs.declared.opening.OpenFault.{OpenFault}
+use Rattle.script_command.specs.declared.opening.OpenFault.TheVariants.{Memory, Read, Script, Module}
+use Rattle.script_command.specs.Ends.{Call, End, done, memory, sink_fault, refused, read_fault_of, refusal_of_cause, status_of_end, HasEnd, IsWhy, IsStatus}
+use Rattle.script_command.specs.Playing.{Cause, bad_script, bad_module, bad_line, IsBadModule, IsRefused}
+use Rattle.script_command.specs.Views.{Blames, IsToldFault}
+
+-- ---- refusals of contents
+
+unprepared_content : (bytes : List ℕ) (r : Refusal) → IsUnprepared bytes r → IsOfContent r
+unprepared_content bytes (malformed at) h = tt
+unprepared_content bytes (float at) h = tt
+unprepared_content bytes (nesting at) h = tt
+unprepared_content bytes (limit what found) h = tt
+unprepared_content bytes (invalid func rule at) h = tt
+unprepared_content bytes (reserved name) h = tt
+unprepared_content bytes (script line rule) h = tt
+unprepared_content bytes usage h = h
+unprepared_content bytes out_of_memory h = h
+unprepared_content bytes not_built h = h
+unprepared_content bytes (read_fault name) h = h
+unprepared_content bytes (write_fault name) h = h
+
+cause_content : (c : S.Cause) → IsOfContent (refusal_for c)
+cause_content (S.malformed at) = tt
+cause_content (S.float at) = tt
+cause_content (S.deep at) = tt
+cause_content (S.limit what found) = tt
+cause_content (S.reserved name) = tt
+cause_content (S.invalid func rule at) = tt
+cause_content (S.rewritten_locals found) = tt
+cause_content (S.long_output found) = tt
+
+fault_content : (f : ScriptFault) → IsOfContent (H.refusal_for f)
+fault_content (breaks line rule) = tt
+fault_content (too_many found) = tt
+
+content_of : (r s : Refusal) → r ≡ s → IsOfContent s → IsOfContent r
+content_of r s e h = subst IsOfContent (sym e) h
+
+script_content : (bytes : List ℕ) (r : Refusal) → IsNoScript bytes r → IsOfContent r
+script_content bytes r h = elim h [
+  | inl long ↦ content_of r _ long.1 tt
+  | inr f ↦ content_of r (H.refusal_for f.0) f.2 (fault_content f.0)
+]
+
+module_content : (way : Way) (files : Option Files) (t : ProgramText) (r : Refusal) → IsBadModule way files t r → IsOfContent r
+module_content Host files t r h = unprepared_content h.0 r h.2
+module_content Run files t r h = content_of r (refusal_for h.2.1) h.2.4 (cause_content h.2.1)
+
+-- what is told of a fault
+pub told_fault : (way : Way) (files : Option Files) (faults faults' : ℕ) (name : List ℕ) (fault : OpenFault) → Blames way files faults faults' name fault → IsToldFault fault
+told_fault way files faults faults' name Memory h = tt
+told_fault way files faults faults' name (Read read) h = tt
+told_fault way files faults faults' name (Script kind) h = script_content h.0 _ h.2
+told_fault way files faults faults' name (Module kind) h = module_content way files h.0 _ h.2
+
+-- want of memory has a status of its own
+pub never_nine : (r : Refusal) → IsOfContent r → status_of r ≢ 9
+never_nine (malformed at) h e = absurd (omega (arith, e))
+never_nine (float at) h e = absurd (omega (arith, e))
+never_nine (nesting at) h e = absurd (omega (arith, e))
+never_nine (limit what found) h e = absurd (omega (arith, e))
+never_nine (invalid func rule at) h e = absurd (omega (arith, e))
+never_nine (reserved name) h e = absurd (omega (arith, e))
+never_nine (script line rule) h e = absurd (omega (arith, e))
+never_nine usage h e = absurd h
+never_nine out_of_memory h e = absurd h
+never_nine not_built h e = absurd h
+never_nine (read_fault name) h e = absurd h
+never_nine (write_fault name) h e = absurd h
+
+-- ---- statuses
+
+-- a reserved name isn't asked of prepared modules
+prepared_status : (n : ℕ) (bytes : List ℕ) (r : Refusal) → n ≡ status_of r → IsUnprepared bytes r → IsStatus Host n
+prepared_status n bytes (malformed at) e h = inr (inl e)
+prepared_status n bytes (float at) e h = inr (inr (inl e))
+prepared_status n bytes (invalid func rule at) e h = inr (inr (inr (inl e)))
+prepared_status n bytes (limit what found) e h = inr (inr (inr (inr (inl e))))
+prepared_status n bytes (nesting at) e h = inr (inr (inr (inr (inl e))))
+prepared_status n bytes (reserved name) e h = absurd h
+prepared_status n bytes (script line rule) e h = absurd h
+prepared_status n bytes usage e h = absurd h
+prepared_status n bytes out_of_memory e h = absurd h
+prepared_status n bytes not_built e h = absurd h
+prepared_status n bytes (read_fault name) e h = absurd h
+prepared_status n bytes (write_fault name) e h = absurd h
+
+content_status : (n : ℕ) (r : Refusal) → n ≡ status_of r → IsOfContent r → IsStatus Run n
+content_status n (malformed at) e h = inr (inl e)
+content_status n (float at) e h = inr (inr (inl e))
+content_status n (invalid func rule at) e h = inr (inr (inr (inl e)))
+content_status n (limit what found) e h = inr (inr (inr (inr (inl e))))
+content_status n (nesting at) e h = inr (inr (inr (inr (inl e))))
+content_status n (reserved name) e h = inr (inr (inr (inr (inr (inl (e, refl))))))
+content_status n (script line rule) e h = inr (inr (inr (inr (inr (inr (inl e))))))
+content_status n usage e h = absurd h
+content_status n out_of_memory e h = absurd h
+content_status n not_built e h = absurd h
+content_status n (read_fault name) e h = absurd h
+content_status n (write_fault name) e h = absurd h
+
+six : (way : Way) (n : ℕ) → n ≡ 6 → IsStatus way n
+six way n e = inr (inr (inr (inr (inl e))))
+
+eight : (way : Way) (n : ℕ) → n ≡ 8 → IsStatus way n
+eight way n e = inr (inr (inr (inr (inr (inr (inl e))))))
+
+fault_status : (way : Way) (n : ℕ) (f : ScriptFault) → n ≡ status_of (H.refusal_for f) → IsStatus way n
+fault_status way n (breaks line rule) e = eight way n e
+fault_status way n (too_many found) e = six way n e
+
+script_status : (way : Way) (n : ℕ) (bytes : List ℕ) (r : Refusal) → n ≡ status_of r → IsNoScript bytes r → IsStatus way n
+script_status way n bytes r e h = elim h [
+  | inl long ↦ six way n (e ∙ ap status_of long.1)
+  | inr f ↦ fault_status way n f.0 (e ∙ ap status_of f.2)
+]
+
+module_status : (way : Way) (n : ℕ) (files : Option Files) (t : ProgramText) (r : Refusal) → n ≡ status_of r → IsBadModule way files t r → IsStatus way n
+module_status Host n files t r e h = prepared_status n h.0 r e h.2
+module_status Run n files t r e h = content_status n r e (module_content Run files t r h)
+
+refused_status : (way : Way) (n : ℕ) (files : Option Files) (name : List ℕ) (c : Cause) → n ≡ status_of (refusal_of_cause c) → IsRefused way files name c → IsStatus way n
+refused_status way n files name (bad_script r) e h = script_status way n h.0 r e h.2
+refused_status way n files name (bad_module r) e h = module_status way n files h.0 r e h.2
+refused_status way n files name (bad_line line rule) e h = eight way n e
+
+by_end : (c : Call) (n : ℕ) (which : End) → n ≡ status_of_end which → IsWhy c which → IsStatus c.way n
+by_end c n done e h = inl e
+by_end c n (refused cause) e h = refused_status c.way n c.files c.name cause e h.0
+by_end c n memory e h = inr (inr (inr (inr (inr (inr (inr (inl e)))))))
+by_end c n (read_fault_of name) e h = inr (inr (inr (inr (inr (inr (inr (inr (inl e))))))))
+by_end c n sink_fault e h = inr (inr (inr (inr (inr (inr (inr (inr (inr e))))))))
+
+-- an end has one of the statuses
+pub end_status : (c : Call) (n : ℕ) → HasEnd c n → IsStatus c.way n
+end_status c n h = by_end c n h.which h.by_status h.why

@@ -1,0 +1,91 @@
+-- How a call of a command that plays a script ends, and why.
+use Rattle.std.specs.Prelude.{◌≡◌, ◌⊎◌, ℕ, List, Option, Some, None}
+use Rattle.vault_port.specs.Counts.{HasRisen}
+use Rattle.vault_port.specs.Files.{Files, IsMissing}
+use Rattle.vault_port.specs.Taken.{Appends, AppendsLess}
+use Rattle.vault_port.specs.Told.{Becomes}
+use Rattle.wa_model.specs.Transcript.{Refusal, script, read_fault, refusal_line}
+use Rattle.printing.specs.Refused.{status_of, Prints, PrintsMemory}
+use Rattle.script_command.specs.declared.way.Way.{Way}
+use Rattle.script_command.specs.declared.way.Way.TheVariants.{Run}
+use Rattle.script_command.specs.Playing.{Cause, bad_script, bad_module, bad_line, Play, IsTranscript, IsBeginning, IsRefused, IsRead}
+
+-- A call: its way and its script; the files; the counts of faults and what the sink has taken, before and after it. (The files
+-- stay as they are.)
+pub record Call : Type 0 where
+  pub way : Way
+  pub name : List ℕ
+  pub files : Option Files
+  pub fetch_faults : ℕ
+  pub fetch_faults' : ℕ
+  pub sink_faults : ℕ
+  pub sink_faults' : ℕ
+  pub taken : Option (List ℕ)
+  pub taken' : Option (List ℕ)
+
+abbrev pub call : Way → (script : List ℕ) → Option Files → (fetched fetched' put put' : ℕ) → (old new : Option (List ℕ)) → Call
+call way spelled all fetched fetched' put put' old new = record {
+  way = way;
+  name = spelled;
+  files = all;
+  fetch_faults = fetched;
+  fetch_faults' = fetched';
+  sink_faults = put;
+  sink_faults' = put';
+  taken = old;
+  taken' = new;
+}
+
+pub data End : Type 0 where
+  done memory sink_fault : End
+  refused : (cause : Cause) → End
+  read_fault_of : (name : List ℕ) → End
+
+-- what is told of a cause; a refusal of the first program's module names it
+abbrev pub refusal_of_cause : Cause → Refusal
+refusal_of_cause (bad_script r) = r
+refusal_of_cause (bad_module r) = r
+refusal_of_cause (bad_line line rule) = script line rule
+
+abbrev pub program_of_cause : Cause → Option ℕ
+program_of_cause (bad_module r) = Some 0
+program_of_cause _ = None
+
+abbrev pub cause_line : Cause → List ℕ
+cause_line cause = refusal_line (program_of_cause cause) (refusal_of_cause cause)
+
+abbrev pub status_of_end : End → ℕ
+status_of_end done = 0
+status_of_end (refused cause) = status_of (refusal_of_cause cause)
+status_of_end memory = 9
+status_of_end (read_fault_of name) = 10
+status_of_end sink_fault = 12
+
+-- a line that a call may have begun to print: of what is played, of a cause, or of a file that couldn't be read
+abbrev pub IsLine : Call → List ℕ → Type 0
+IsLine c line =
+    ((play : Play c.way c.files c.name) × IsBeginning play line)
+    ⊎ ((cause : Cause) × IsRefused c.way c.files c.name cause × (line ≡ cause_line cause))
+    ⊎ ((read : List ℕ) × IsRead c.files c.name read × (line ≡ refusal_line None (read_fault read)))
+
+-- Why a call has this end, and what was printed.
+abbrev pub IsWhy : Call → End → Type 0
+IsWhy c done = (play : Play c.way c.files c.name) × Becomes c.taken c.taken' (λ old new. (text : List ℕ) × IsTranscript play text × Appends text old new)
+IsWhy c (refused cause) = IsRefused c.way c.files c.name cause × Becomes c.taken c.taken' (Prints (cause_line cause) c.sink_faults c.sink_faults')
+IsWhy c memory = Becomes c.taken c.taken' (λ old new. (line : List ℕ) × IsLine c line × PrintsMemory line old new)
+IsWhy c (read_fault_of read) =
+    IsRead c.files c.name read × (HasRisen c.fetch_faults c.fetch_faults' ⊎ IsMissing c.files read)
+    × Becomes c.taken c.taken' (Prints (refusal_line None (read_fault read)) c.sink_faults c.sink_faults')
+IsWhy c sink_fault =
+    (play : Play c.way c.files c.name) × HasRisen c.sink_faults c.sink_faults'
+    × Becomes c.taken c.taken' (λ old new. (text : List ℕ) × IsBeginning play text × AppendsLess text old new)
+
+-- The call has one end, by its status, and the reason for it.
+pub record HasEnd (c : Call) (status : ℕ) : Type 0 where
+  pub which : End
+  pub by_status : status ≡ status_of_end which
+  pub why : IsWhy c which
+
+-- the statuses that there are: a reserved name is refused under `run` alone
+abbrev pub IsStatus : Way → ℕ → Type 0
+IsStatus way n = (n ≡ 0) ⊎ (n ≡ 3) ⊎ (n ≡ 4) ⊎ (n ≡ 5) ⊎ (n ≡ 6) ⊎ ((n ≡ 7) × (way ≡ Run)) ⊎ (n ≡ 8) ⊎ (n ≡ 9) ⊎ (n ≡ 10) ⊎ (n ≡ 12)

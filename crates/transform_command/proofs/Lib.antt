@@ -1,0 +1,4 @@
+pub mod OneEnd
+pub mod Printed
+pub mod Transforming
+pub mod Verdicts

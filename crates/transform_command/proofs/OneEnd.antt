@@ -1,0 +1,137 @@
+-- A call's end, from what is known of its status.
+use Rattle.std.proofs.Common.{◌≡◌, ◌⊎◌, inl, inr, ℕ, List, Option, Some, None, ◌∙◌}
+use Rattle.std.specs.Prelude.{IsSome}
+use Rattle.vault_port.specs.Counts.{HasRisen}
+use Rattle.vault_port.specs.Files.{Files, bytes_of, IsMissing}
+use Rattle.vault_port.specs.Told.{WhereTold, Becomes}
+use Rattle.wa_types.specs.Pausing.{Settings}
+use Rattle.source_modules.specs.Sources.{Cause, IsRefusedFor, refusal_for}
+use Rattle.printing.specs.Refused.{status_of}
+use Rattle.transform_command.specs.Transforms.{HasCause, HoldsSource, IsTransformed}
+use Rattle.transform_command.specs.Ends.{End, done, memory, read_fault, write_fault, sink_fault, refused, Call, IsWhy, ToldThat, NothingFails, HasOneEnd, status_of_end, IsRefusal}
+use Rattle.transform_command.proofs.Verdicts.{one_status, source_passes}
+
+-- what is known of a `transform`'s status
+pub record Known (s : Settings) (input output : List ℕ) (c : Call) (status : ℕ) : Type 0 where
+  pub statuses : (status ≡ 0) ⊎ IsRefusal status ⊎ (status ≡ 9) ⊎ (status ≡ 10) ⊎ (status ≡ 11) ⊎ (status ≡ 12)
+  pub done : (status ≡ 0) ⊎ (status ≡ 12) → Becomes c.files c.files' (IsTransformed s input output)
+  pub read : status ≡ 10 → HasRisen c.fetch_faults c.fetch_faults' ⊎ IsMissing c.files input
+  pub refused : IsRefusal status → HasCause s c.files input status
+  pub held : status ≡ 11 → WhereTold c.files (λ all. HoldsSource s (bytes_of all input))
+  pub write : status ≡ 11 → HasRisen c.save_faults c.save_faults'
+  pub sink : status ≡ 12 → HasRisen c.sink_faults c.sink_faults'
+
+-- the source that a written module has
+source_held : (s : Settings) (input output : List ℕ) (old new : Option Files) → Becomes old new (IsTransformed s input output) → WhereTold old (λ all. HoldsSource s (bytes_of all input))
+unfolding HoldsSource
+source_held s input output None None h = tt
+source_held s input output None (Some b) h = tt
+source_held s input output (Some a) None h = absurd h
+source_held s input output (Some a) (Some b) h = (h.«module», h.which, h.source)
+
+refused_not_held : (s : Settings) (input : List ℕ) (files : Option Files) (cause : Cause)
+    → WhereTold files (λ all. HoldsSource s (bytes_of all input)) → ToldThat files (λ all. IsRefusedFor s (bytes_of all input) cause) → ⊥
+unfolding HoldsSource
+refused_not_held s input None cause h r = r
+refused_not_held s input (Some a) cause h r = source_passes s (bytes_of a input) h.0 h.1 cause h.2 r
+
+one_cause : (s : Settings) (input : List ℕ) (files : Option Files) (c d : Cause) → WhereTold files (λ all. IsRefusedFor s (bytes_of all input) c)
+    → ToldThat files (λ all. IsRefusedFor s (bytes_of all input) d) → status_of (refusal_for c) ≡ status_of (refusal_for d)
+one_cause s input None c d h k = absurd k
+one_cause s input (Some a) c d h k = one_status s (bytes_of a input) c d h k
+
+held_not_refused : (s : Settings) (input : List ℕ) (files : Option Files) (cause : Cause)
+    → ToldThat files (λ all. IsSome (all input) × HoldsSource s (bytes_of all input))
+    → WhereTold files (λ all. IsRefusedFor s (bytes_of all input) cause) → ⊥
+unfolding HoldsSource
+held_not_refused s input None cause h r = h
+held_not_refused s input (Some a) cause h r = source_passes s (bytes_of a input) h.1.0 h.1.1 cause h.1.2 r
+
+some_not_none : {X : Type 0} (o : Option X) → IsSome o → o ≡ None → ⊥
+some_not_none None h e = cc
+some_not_none (Some x) h e = cc
+
+held_not_missing : (s : Settings) (input : List ℕ) (files : Option Files) → ToldThat files (λ all. IsSome (all input) × HoldsSource s (bytes_of all input)) → IsMissing files input → ⊥
+held_not_missing s input None h m = h
+held_not_missing s input (Some a) h m = some_not_none (a input) h.0 m
+
+-- the refusals of a `transform`
+refusals_of : (s : Settings) (input output : List ℕ) (c : Call) (status : ℕ) → Known s input output c status → (cause : Cause)
+    → ToldThat c.files (λ all. IsRefusedFor s (bytes_of all input) cause) → (status ≡ status_of (refusal_for cause)) ⊎ (status ≡ 9) ⊎ (status ≡ 10)
+refusals_of s input output c status k cause r = elim k.statuses [
+  | inl zero ↦ absurd (refused_not_held s input c.files cause (source_held s input output c.files c.files' (k.done (inl zero))) r)
+  | inr x ↦ elim x [
+    | inl h ↦ let why = k.refused h in inl (why.1 ∙ one_cause s input c.files why.0 cause why.2 r)
+    | inr y ↦ elim y [
+      | inl nine ↦ inr (inl nine)
+      | inr z ↦ elim z [
+        | inl ten ↦ inr (inr ten)
+        | inr w ↦ elim w [
+          | inl eleven ↦ absurd (refused_not_held s input c.files cause (k.held eleven) r)
+          | inr twelve ↦ absurd (refused_not_held s input c.files cause (source_held s input output c.files c.files' (k.done (inr twelve))) r)
+        ]
+      ]
+    ]
+  ]
+]
+
+accepted_of : (s : Settings) (input output : List ℕ) (c : Call) (status : ℕ) → Known s input output c status
+    → ToldThat c.files (λ all. IsSome (all input) × HoldsSource s (bytes_of all input)) → NothingFails c → (status ≡ 0) ⊎ (status ≡ 9)
+accepted_of s input output c status k h n = elim k.statuses [
+  | inl zero ↦ inl zero
+  | inr x ↦ elim x [
+    | inl r ↦ let why = k.refused r in absurd (held_not_refused s input c.files why.0 h why.2)
+    | inr y ↦ elim y [
+      | inl nine ↦ inr nine
+      | inr z ↦ elim z [
+        | inl ten ↦ elim (k.read ten) [
+          | inl risen ↦ absurd (n.fetches risen)
+          | inr missing ↦ absurd (held_not_missing s input c.files h missing)
+        ]
+        | inr w ↦ elim w [
+          | inl eleven ↦ absurd (n.saves (k.write eleven))
+          | inr twelve ↦ absurd (n.puts (k.sink twelve))
+        ]
+      ]
+    ]
+  ]
+]
+
+-- the end of a `transform` and its reason
+pub record Which (c : Call) (status : ℕ) : Type 0 where
+  pub which : End
+  pub by_status : status ≡ status_of_end which
+  pub why : IsWhy c which
+
+which_end : (c : Call) (status : ℕ) → Known c.settings c.input c.output c status → Which c status
+which_end c status k = elim k.statuses [
+  | inl zero ↦ record { which = done; by_status = zero; why = k.done (inl zero) }
+  | inr x ↦ elim x [
+    | inl h ↦ let why = k.refused h in record { which = refused why.0; by_status = why.1; why = why.2 }
+    | inr y ↦ elim y [
+      | inl nine ↦ record { which = memory; by_status = nine; why = tt }
+      | inr z ↦ elim z [
+        | inl ten ↦ record { which = read_fault; by_status = ten; why = k.read ten }
+        | inr w ↦ elim w [
+          | inl eleven ↦ record { which = write_fault; by_status = eleven; why = (k.write eleven, k.held eleven) }
+          | inr twelve ↦ record { which = sink_fault; by_status = twelve; why = (k.sink twelve, k.done (inr twelve)) }
+        ]
+      ]
+    ]
+  ]
+]
+
+pub transform_ends : (c : Call) (status : ℕ) → Known c.settings c.input c.output c status → HasOneEnd c status
+transform_ends c status k =
+    let w = which_end c status k in
+    record {
+      which = w.which;
+      by_status = w.by_status;
+      why = w.why;
+      refusals = λ cause r. refusals_of c.settings c.input c.output c status k cause r;
+      accepted = λ h n. accepted_of c.settings c.input c.output c status k h n;
+    }
+
+-- Memory is wanting.
+pub memory_ends : (c : Call) (status : ℕ) → status ≡ 9 → HasOneEnd c status
+memory_ends c status nine = record { which = memory; by_status = nine; why = tt; refusals = λ cause r. inr (inl nine); accepted = λ r n. inr nine }

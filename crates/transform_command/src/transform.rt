@@ -1,0 +1,94 @@
+// The command `transform`.
+ghost use Rattle.std.specs.Prelude.{◌≡◌, ◌⊎◌, ◌≤◌, IfOk, IsErrOf, OnOk, OnErr, IsSome};
+ghost use Rattle.call_graph.specs.Settings.{settings_of};
+ghost use Rattle.call_graph.specs.declared.settings.Policy.TheVariants.{All};
+ghost use Rattle.vault_port.specs.Counts.{HasRisen};
+ghost use Rattle.vault_port.specs.Files.{bytes_of, IsMissing};
+ghost use Rattle.vault_port.specs.Told.{WhereTold, Becomes};
+ghost use Rattle.transform_command.specs.Refusals.{IsOfSource, IsToldRefusal};
+ghost use Rattle.transform_command.specs.Transforms.{HoldsSource, IsCount, IsCutShort, IsTransformed};
+ghost use Rattle.std.specs.Result.{IfErr};
+
+use call_graph::Settings;
+use source_modules::{Refusal, SourceFault, rewrite};
+use std::alloc::Global;
+use thiserror::Error;
+use vault_port::{FetchFault, SaveFault, Vault, fetch_whole, save_whole};
+
+/// Why a module was not rewritten into a file.
+#[derive(Debug, Drop, Error)]
+pub enum TransformFault {
+    #[error("out of memory")]
+    Memory,
+    #[error("the module could not be read")]
+    Read,
+    #[error("the module is refused")]
+    Refused(Refusal),
+    #[error("the module could not be written")]
+    Write,
+}
+
+/// What was written: how many functions the source defines, how many of them may pause, and how many bytes the file holds.
+#[derive(Clone, Copy, Debug, PartialEq, Eq)]
+pub struct Done {
+    pub functions: usize,
+    pub instrumented: usize,
+    pub bytes: usize,
+}
+
+/// A source file is read until one byte past its limit.
+const FETCH_LIMIT: u64 = 8_388_609;
+
+/// Reads the module in `input`, and writes it, rewritten by these settings, into `output`. After `Read` and `Refused`
+/// no file is changed; after `Memory` and `Write` the output may hold a first part of what it would hold.
+pub fn transform<V: Vault>(
+    alloc: Global,
+    vault: &mut V,
+    settings: &Settings,
+    input: &str,
+    output: &str,
+) -> Result<Done, TransformFault>
+    requires { settings.now.policy ≡ All }
+    ensures done { OnOk result (Becomes (V.files vault.old) (V.files vault.new)
+        (IsTransformed (settings_of settings.now) input.now output.now)) }
+    ensures counts { IfOk result (λ d. WhereTold (V.files vault.old) (λ all.
+        IsCount (settings_of settings.now) (bytes_of all input.now) d.functions d.instrumented d.bytes)) }
+
+    ensures read { IsErrOf result TransformFault.Read
+        → HasRisen (V.fetch_faults vault.old) (V.fetch_faults vault.new)
+        ⊎ IsMissing (V.files vault.old) input.now }
+    ensures refused { IfErr result (λ fault. IsToldRefusal (settings_of settings.now) (V.files vault.old) input.now fault) }
+    ensures there { IsErrOf result TransformFault.Read ⊎ IsErrOf result TransformFault.Memory
+        ⊎ WhereTold (V.files vault.old) (λ all. IsSome (all input.now)) }
+    ensures source { IsErrOf result TransformFault.Write → WhereTold (V.files vault.old) (λ all.
+        HoldsSource (settings_of settings.now) (bytes_of all input.now)) }
+    ensures write { IsErrOf result TransformFault.Write
+        → HasRisen (V.save_faults vault.old) (V.save_faults vault.new) }
+    ensures kept { IsErrOf result TransformFault.Read → V.files vault.new ≡ V.files vault.old }
+    ensures refused_kept { IfErr result (λ fault. IsOfSource fault → V.files vault.new ≡ V.files vault.old) }
+    ensures cut { OnErr result (Becomes (V.files vault.old) (V.files vault.new)
+        (IsCutShort (settings_of settings.now) input.now output.now)) }
+
+    ensures fetch_faults { V.fetch_faults vault.old ≤ V.fetch_faults vault.new }
+    ensures save_faults { V.save_faults vault.old ≤ V.save_faults vault.new }
+{
+    let bytes = match fetch_whole(alloc, vault, input, FETCH_LIMIT) {
+        Ok(bytes) => bytes,
+        Err(FetchFault::Read) => return Err(TransformFault::Read),
+        Err(FetchFault::Memory) => return Err(TransformFault::Memory),
+    };
+    let written = match rewrite(alloc, &bytes, settings) {
+        Ok(written) => written,
+        Err(SourceFault::Refused(refusal)) => return Err(TransformFault::Refused(refusal)),
+        Err(SourceFault::Memory) => return Err(TransformFault::Memory),
+    };
+    match save_whole(vault, output, &written.text) {
+        Ok(()) => Ok(Done {
+            functions: written.functions,
+            instrumented: written.instrumented,
+            bytes: written.text.len(),
+        }),
+        Err(SaveFault::Write) => Err(TransformFault::Write),
+        Err(SaveFault::Memory) => Err(TransformFault::Memory),
+    }
+}
