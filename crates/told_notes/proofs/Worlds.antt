@@ -1,15 +1,14 @@
 -- The whole turns before one that has begun.
-use Rattle.std.proofs.Common.{arith, ◌≡◌, ◌<◌, ◌⊎◌, inl, inr, ℕ, suc, zero, List, [], ◌∷◌, ◌++◌, length, Option, Some, None, Bool, true, false, slice_get, slice_set, refl, sym, ap, ◌∙◌, subst, append_assoc, length-append}
+use Rattle.std.proofs.Common.{arith, ◌≡◌, ◌<◌, ℕ, suc, zero, List, [], ◌∷◌, ◌++◌, length, Some, Bool, true, false, slice_get, slice_set, sym, ap, ◌∙◌, subst, append_assoc, length-append}
 use Rattle.std.specs.List.{AllZip}
 use Rattle.std.proofs.lemmas.Option.{same_Some}
-use Rattle.wa_model.specs.declared.answers.Detach.{Detach}
-use Rattle.wa_model.specs.Outside.{AnswerLine, Line}
+use Rattle.wa_model.specs.Outside.{AnswerLine}
 use Rattle.wa_model.specs.Plan.{Outcome}
 use Rattle.wa_model.specs.Blocking.{Note}
-use Rattle.wa_model.specs.World.{Device, Program, protocol_story}
+use Rattle.wa_model.specs.World.{Program, protocol_story}
 use Rattle.told_worlds.specs.Turns.{Teller, having_told, IsRest, HasStory}
 use Rattle.told_worlds.proofs.Telling.{told_is_world}
-use Rattle.told_notes.specs.Notes.{GoesOn, TellsOn}
+use Rattle.told_notes.specs.Notes.{GoesOn}
 use Rattle.told_notes.specs.Laws.{BegunIsWorld}
 use Rattle.told_notes.proofs.Notes.{ends_none}
 
