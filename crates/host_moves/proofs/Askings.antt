@@ -1,8 +1,6 @@
 -- New calls of imports, and where their outcomes lead.
-use Rattle.std.proofs.Common.{◌≡◌, ◌≤◌, ℕ, zero, suc, ◌+◌, ◌-◌, ◌++◌, List, [], ◌∷◌, length, map, Option, Some, None, Bool, true, false, cond, refl, sym, ap, ◌∙◌, subst, arith}
-use Rattle.std.specs.Prelude.{slice_get}
+use Rattle.std.proofs.Common.{◌≡◌, ◌≤◌, ℕ, zero, suc, List, [], ◌∷◌, length, Option, Some, None, true, false, refl, sym, ap, ◌∙◌, subst}
 use Rattle.std.specs.Option.{option_to_list}
-use Rattle.wa_types.specs.declared.values.Value.{Value}
 use Rattle.wa_types.specs.declared.values.Value.TheVariants as V
 use Rattle.wa_types.specs.Syntax.{Module}
 use Rattle.wa_types.specs.Modules.{func_type_at}
@@ -10,23 +8,22 @@ use Rattle.wa_model.specs.declared.answers.Answer.{Answer as AnswerValue}
 use Rattle.wa_model.specs.declared.events.Call.{Call as CallValue}
 use Rattle.wa_model.specs.declared.events.End.{End}
 use Rattle.wa_model.specs.declared.events.Event.TheVariants as EV
-use Rattle.wa_model.specs.Outside.{Answer, AnswerLine, answered, called, ended}
+use Rattle.wa_model.specs.Outside.{Answer, answered, ended}
 use Rattle.wa_model.specs.View.{answer_of, call_of, event_of}
-use Rattle.wa_model.specs.Machine.{Turn, goes, Leads}
+use Rattle.wa_model.specs.Machine.{Turn, goes}
 use Rattle.wa_model.specs.Store.{Store}
-use Rattle.wa_model.specs.Configuration.{Activation, Configuration}
 use Rattle.wa_model.specs.Plan.{Outcome, given, refused}
-use Rattle.wa_model.specs.Blocking.{Note, note, call_note, Left, with_outcomes, Asker, inside, outermost, resumed, the_start, an_entry, store_at, stack_at, in_start, fault_of, pause_of, poked, done_notes}
+use Rattle.wa_model.specs.Blocking.{Note, note, call_note, Left, with_outcomes, Asker, resumed, the_start, an_entry, store_at, stack_at, in_start, fault_of, pause_of, poked, done_notes}
 use Rattle.wa_model.specs.Protocol.{Exports, exports_of, is_running, Held, busy, over, calling, unwinds, give_zero, with_words, held_on, held_given, held_pauses, held_asked, held_tested, protocol}
-use Rattle.wa_model.specs.World.{Program, import_names, name_at, MeetsLine}
+use Rattle.wa_model.specs.World.{Program}
 use Rattle.stack_laws.proofs.StandingPauses.{fault_outside}
 use Rattle.interp.specs.Instance as I
 use Rattle.interp.specs.Instance.{Waits}
-use Rattle.host_turns.specs.Stretch.{meeting, Stretch}
-use Rattle.host_turns.specs.Places.{Place, stands, nowhere, goes_on}
+use Rattle.host_turns.specs.Supplies.{Supply, Answers}
+use Rattle.host_turns.specs.Stretch.{meeting}
+use Rattle.host_turns.specs.Places.{stands, nowhere, goes_on}
 use Rattle.host_turns.proofs.Stretches.{on_last}
 use Rattle.host_moves.specs.declared.stages.Moved.{Moved}
-use Rattle.host_moves.specs.declared.stages.Stage.{Stage}
 use Rattle.host_moves.specs.declared.stages.Stage.TheVariants as S
 use Rattle.host_moves.specs.declared.stages.Task.{Task}
 use Rattle.host_moves.specs.declared.stages.Task.TheVariants as T
@@ -132,11 +129,11 @@ module _ (w : Program) (h : Held) (l : Left) (left used : ℕ) (call : CallValue
   told pause = call_note call.import call.args.items (store_at who) (stack_at p who) pause
 
   -- a call is told, and the rest of what it makes is ready
-  told_call : (m : Moved) (lines lines' : List AnswerLine) (o : Outcome) (pause : Option ℕ) (behind : List Note) (h' : Held) → m.event ≡ EV.Called call
-      → MeetsLine call.import (name_at (import_names p) call.import) lines o lines'
+  told_call : (m : Moved) (supply supply' : Supply) (o : Outcome) (pause : Option ℕ) (behind : List Note) (h' : Held) → m.event ≡ EV.Called call
+      → Answers w (call_of call) supply o supply'
       → ((more : List Outcome) → held_asked p x w.plan a0.k call.import call.args.items who (with_outcomes l (o ∷ more)) (o ∷ more) ≡ goes a0.k (told pause ∷ behind) (meeting more h'))
-      → place_in x w.plan.area l s waits m.stage ≡ stands behind h' → Comes w h left used m lines lines' l s waits
-  told_call m lines lines' o pause behind h' e meets mv place = record {
+      → place_in x w.plan.area l s waits m.stage ≡ stands behind h' → Comes w h left used m supply supply' l s waits
+  told_call m supply supply' o pause behind h' e meets mv place = record {
     note = told pause;
     event_is = ap event_of (sym e);
     store_is = asking_store task waits s who asking;
@@ -149,14 +146,14 @@ module _ (w : Program) (h : Held) (l : Left) (left used : ℕ) (call : CallValue
   }
 
   -- the outcome is the end
-  pub told_refused : (m : Moved) (lines lines' : List AnswerLine) (end : End) → m.event ≡ EV.Called call → m.stage ≡ S.Ending end
-      → MeetsLine call.import (name_at (import_names p) call.import) lines (refused end) lines' → Comes w h left used m lines lines' l s waits
-  told_refused m lines lines' end e st meets =
-      told_call m lines lines' (refused end) None (note (ended end) (store_at who) ∷ []) (over (store_at who)) e meets (λ more. refl)
+  pub told_refused : (m : Moved) (supply supply' : Supply) (end : End) → m.event ≡ EV.Called call → m.stage ≡ S.Ending end
+      → Answers w (call_of call) supply (refused end) supply' → Comes w h left used m supply supply' l s waits
+  told_refused m supply supply' end e st meets =
+      told_call m supply supply' (refused end) None (note (ended end) (store_at who) ∷ []) (over (store_at who)) e meets (λ more. refl)
       (ap (place_in x w.plan.area l s waits) st ∙ ap (λ z. stands (note (ended end) z ∷ []) (over z)) (sym (asking_store task waits s who asking)))
 
-  module _ (m : Moved) (lines lines' : List AnswerLine) (answer : AnswerValue) (e : m.event ≡ EV.Called call)
-      (meets : MeetsLine call.import (name_at (import_names p) call.import) lines (given (answer_of answer)) lines') where
+  module _ (m : Moved) (supply supply' : Supply) (answer : AnswerValue) (e : m.event ≡ EV.Called call)
+      (meets : Answers w (call_of call) supply (given (answer_of answer)) supply') where
     abbrev a : Answer
     a = answer_of answer
 
@@ -170,30 +167,30 @@ module _ (w : Program) (h : Held) (l : Left) (left used : ℕ) (call : CallValue
         ∙ ap (held_tested p x w.plan a0.k call.import call.args.items who (with_outcomes l more) a o) t
 
     -- it fails a test
-    told_fault : (end : End) → fault ≡ Some end → m.stage ≡ S.Ending end → Comes w h left used m lines lines' l s waits
+    told_fault : (end : End) → fault ≡ Some end → m.stage ≡ S.Ending end → Comes w h left used m supply supply' l s waits
     told_fault end f st =
-        told_call m lines lines' (given a) None (note (ended end) (store_at who) ∷ []) (over (store_at who)) e meets (λ more. tested_is more (Some end) (pause_of a.ticks) f refl)
+        told_call m supply supply' (given a) None (note (ended end) (store_at who) ∷ []) (over (store_at who)) e meets (λ more. tested_is more (Some end) (pause_of a.ticks) f refl)
         (ap (place_in x w.plan.area l s waits) st ∙ ap (λ z. stands (note (ended end) z ∷ []) (over z)) (sym (asking_store task waits s who asking)))
 
     -- it is told next
-    told_given : fault ≡ None → a.ticks ≡ 0 → m.stage ≡ S.Answering task answer → Comes w h left used m lines lines' l s waits
+    told_given : fault ≡ None → a.ticks ≡ 0 → m.stage ≡ S.Answering task answer → Comes w h left used m supply supply' l s waits
     told_given f t st =
         let g : GivenLeads w l a task waits s who = given_leads w l a task waits s who asking in
-        told_call m lines lines' (given a) None g.behind g.to e meets (λ more. tested_is more None None f (ap pause_of t) ∙ g.leads a0.k (told None) more)
+        told_call m supply supply' (given a) None g.behind g.to e meets (λ more. tested_is more None None f (ap pause_of t) ∙ g.leads a0.k (told None) more)
         (ap (place_in x w.plan.area l s waits) st ∙ g.place)
 
     -- it pauses the program
-    told_pause : (ticks : ℕ) → fault ≡ None → a.ticks ≡ suc ticks → m.stage ≡ stage_after None (suc ticks) task call.import answer → Comes w h left used m lines lines' l s waits
+    told_pause : (ticks : ℕ) → fault ≡ None → a.ticks ≡ suc ticks → m.stage ≡ stage_after None (suc ticks) task call.import answer → Comes w h left used m supply supply' l s waits
     told_pause ticks f t st =
         let out : in_start who ≡ false = fault_outside (func_type_at p call.import).results (length (store_at who).memory) w.plan (in_start who) call.import a ticks t f in
         let g : PauseLeads w l call.import ticks answer task waits s who = pause_leads w l call.import ticks answer task waits s who asking out in
-        told_call m lines lines' (given a) (Some (suc ticks)) [] g.to e meets (λ more. tested_is more None (Some (suc ticks)) f (ap pause_of t) ∙ g.leads a0.k (told (Some (suc ticks))) more)
+        told_call m supply supply' (given a) (Some (suc ticks)) [] g.to e meets (λ more. tested_is more None (Some (suc ticks)) f (ap pause_of t) ∙ g.leads a0.k (told (Some (suc ticks))) more)
         (ap (place_in x w.plan.area l s waits) st ∙ g.place)
 
-    pub told_answer : m.stage ≡ stage_after fault answer.ticks task call.import answer → Comes w h left used m lines lines' l s waits
+    pub told_answer : m.stage ≡ stage_after fault answer.ticks task call.import answer → Comes w h left used m supply supply' l s waits
     told_answer st = by_fault fault refl answer.ticks refl st
       where
-        by_fault : (o : Option End) → fault ≡ o → (n : ℕ) → a.ticks ≡ n → m.stage ≡ stage_after o n task call.import answer → Comes w h left used m lines lines' l s waits
+        by_fault : (o : Option End) → fault ≡ o → (n : ℕ) → a.ticks ≡ n → m.stage ≡ stage_after o n task call.import answer → Comes w h left used m supply supply' l s waits
         by_fault (Some end) f n t st = told_fault end f st
         by_fault None f zero t st = told_given f t st
         by_fault None f (suc ticks) t st = told_pause ticks f t st

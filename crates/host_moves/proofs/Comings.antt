@@ -1,11 +1,11 @@
 -- Events behind parts of the way to them.
-use Rattle.std.proofs.Common.{◌≡◌, ◌≤◌, ℕ, suc, ◌+◌, ◌-◌, ◌++◌, List, [], ◌∷◌, Option, Some, None, refl, sym, ap, ◌∙◌, subst, append-nil, append_assoc, arith}
+use Rattle.std.proofs.Common.{◌≡◌, ◌≤◌, ℕ, ◌+◌, ◌-◌, ◌++◌, List, [], ◌∷◌, refl, sym, ap, ◌∙◌, subst, arith}
 use Rattle.wa_types.specs.Syntax.{Module}
 use Rattle.wa_types.specs.Validity.{Valid}
 use Rattle.wa_model.specs.declared.events.End.{End}
 use Rattle.wa_model.specs.declared.events.End.TheVariants as E
 use Rattle.wa_model.specs.declared.events.Event.TheVariants as V
-use Rattle.wa_model.specs.Outside.{AnswerLine, ended}
+use Rattle.wa_model.specs.Outside.{ended}
 use Rattle.wa_model.specs.View.{event_of}
 use Rattle.wa_model.specs.Store.{Store}
 use Rattle.wa_model.specs.Plan.{Outcome, Plan}
@@ -15,20 +15,20 @@ use Rattle.wa_model.specs.World.{Program}
 use Rattle.interp.specs.Instance.{Waits}
 use Rattle.run_laws.specs.FittingStates.{HeldFits, ExportsTyped}
 use Rattle.run_laws.proofs.ProtocolStopping.{protocol_states_stay}
+use Rattle.host_turns.specs.Supplies.{Supply}
 use Rattle.host_turns.specs.Stretch.{meeting, Stretch, IsSpent}
-use Rattle.host_turns.specs.Places.{Place, stands, has_ended, nowhere, Lands, goes_on, ends, spends, Tells}
+use Rattle.host_turns.specs.Places.{Place, stands, has_ended, Lands, goes_on, ends, spends}
 use Rattle.host_turns.proofs.Stretches.{compose}
 use Rattle.host_moves.specs.declared.stages.Moved.{Moved}
-use Rattle.host_moves.specs.declared.stages.Stage.{Stage}
 use Rattle.host_moves.specs.declared.stages.Stage.TheVariants as S
 use Rattle.host_moves.specs.Views.{place_in}
 use Rattle.host_moves.specs.Moves.{Comes, ComesFrom, EndsAt, at_over, at_spent}
 
 module _ (w : Program) where
   -- the end is told
-  pub ends_come : (h : Held) (left used : ℕ) (how : End) (s : Store) (m : Moved) (lines : List AnswerLine) (l : Left) (waits : Waits) → EndsAt w h left used how s
-      → m.event ≡ V.Ended how → m.stage ≡ S.Ended how → Comes w h left used m lines lines l s waits
-  ends_come h left used how s m lines l waits (at_over stretch within) e st = record {
+  pub ends_come : (h : Held) (left used : ℕ) (how : End) (s : Store) (m : Moved) (supply : Supply) (l : Left) (waits : Waits) → EndsAt w h left used how s
+      → m.event ≡ V.Ended how → m.stage ≡ S.Ended how → Comes w h left used m supply supply l s waits
+  ends_come h left used how s m supply l waits (at_over stretch within) e st = record {
     note = note (ended how) s;
     event_is = ap event_of (sym e);
     store_is = refl;
@@ -39,7 +39,7 @@ module _ (w : Program) where
       lands = ends how (note (ended how) s ∷ []) s stretch refl refl (ap (place_in (exports_of w.source) w.plan.area l s waits) st);
     };
   }
-  ends_come h left used how s m lines l waits (at_spent h' stretch within same spent is) e st = record {
+  ends_come h left used how s m supply l waits (at_spent h' stretch within same spent is) e st = record {
     note = note (ended (E.StepsSpent w.steps)) (store_held h');
     event_is = ap ended (sym is) ∙ ap event_of (sym e);
     store_is = same;
@@ -65,9 +65,9 @@ module _ (w : Program) where
       (subst (λ xs. Stretch w.source w.plan h os (xs ++ []) (u + used1) h') none (compose w.source w.plan h h1 h' [] os ready [] u used1 first stretch)))
       refl (subst (λ n. IsSpent w.source w.plan n h') short spent) is_x to_is
 
-  pub comes_behind : (h h1 : Held) (ready : List Note) (u left0 left1 used1 used : ℕ) (m : Moved) (lines lines' : List AnswerLine) (l : Left) (s : Store) (waits : Waits) → Stretch w.source w.plan h [] ready u h1
-      → u ≤ left0 → left1 ≡ left0 - u → used ≡ u + used1 → ComesFrom w (stands ready h1) left1 used1 m lines lines' l s waits → Comes w h left0 used m lines lines' l s waits
-  comes_behind h h1 ready u left0 left1 used1 used m lines lines' l s waits first le l1 e c = record {
+  pub comes_behind : (h h1 : Held) (ready : List Note) (u left0 left1 used1 used : ℕ) (m : Moved) (supply supply' : Supply) (l : Left) (s : Store) (waits : Waits) → Stretch w.source w.plan h [] ready u h1
+      → u ≤ left0 → left1 ≡ left0 - u → used ≡ u + used1 → ComesFrom w (stands ready h1) left1 used1 m supply supply' l s waits → Comes w h left0 used m supply supply' l s waits
+  comes_behind h h1 ready u left0 left1 used1 used m supply supply' l s waits first le l1 e c = record {
     note = c.note;
     event_is = c.event_is;
     store_is = c.store_is;

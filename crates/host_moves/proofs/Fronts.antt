@@ -1,14 +1,14 @@
 -- What an interpreter's call needs of the place where a run stands.
-use Rattle.std.proofs.Common.{◌≡◌, ℕ, ◌++◌, List, [], ◌∷◌, map, refl, sym, ap, ◌∙◌, subst}
+use Rattle.std.proofs.Common.{List, subst}
 use Rattle.std.proofs.lemmas.List.{map-append}
 use Rattle.wa_types.specs.declared.values.ValType.{ValType}
 use Rattle.wa_types.specs.declared.values.Value.{Value}
 use Rattle.wa_types.specs.Syntax.{Module}
 use Rattle.wa_types.specs.Typing.{type_of}
 use Rattle.wa_model.specs.Store.{Store}
-use Rattle.wa_model.specs.Configuration.{Activation, Configuration}
+use Rattle.wa_model.specs.Configuration.{Activation}
 use Rattle.wa_model.specs.Blocking.{resumed}
-use Rattle.wa_model.specs.Fitting.{types_of, results_of, ActFits, StoreFits, CallersFit, Fits}
+use Rattle.wa_model.specs.Fitting.{types_of, ActFits, Fits}
 use Rattle.interp.specs.Instance.{inside, Awaits}
 
 -- what waits may be given values, where it fits with them

@@ -5,6 +5,7 @@ pub mod Outcomes
 pub mod Pauses
 pub mod Results
 pub mod Stagings
+pub mod Supplied
 pub mod Tables
 pub mod Tasks
 pub mod Ways

@@ -1,10 +1,10 @@
 -- What comes of a call of an export.
-use Rattle.std.proofs.Common.{◌≡◌, ◌≤◌, ℕ, suc, ◌+◌, ◌-◌, List, [], ◌∷◌, length, Option, Some, refl, sym, ap, ◌∙◌, subst, arith}
+use Rattle.std.proofs.Common.{◌≡◌, ℕ, suc, ◌+◌, ◌-◌, List, [], length, Option, sym, ap, ◌∙◌, subst, arith}
 use Rattle.std.specs.Option.{option_to_list}
 use Rattle.wa_types.specs.declared.values.Value.{Value}
 use Rattle.wa_types.specs.declared.values.Trap.{Trap}
-use Rattle.wa_types.specs.Syntax.{Func, Module}
-use Rattle.wa_types.specs.Modules.{defined_at, func_type_at}
+use Rattle.wa_types.specs.Syntax.{Module}
+use Rattle.wa_types.specs.Modules.{func_type_at}
 use Rattle.wa_model.specs.declared.events.Call.{Call as CallValue}
 use Rattle.wa_model.specs.declared.events.End.TheVariants as E
 use Rattle.wa_model.specs.Store.{Store}
@@ -18,7 +18,7 @@ use Rattle.interp.specs.declared.turns.Turn.{Turn}
 use Rattle.interp.specs.declared.turns.Turn.TheVariants.{Returned, Trapped, Waiting, StepsSpent}
 use Rattle.interp.specs.Host.{CallsAside}
 use Rattle.host_moves.specs.Moves.{EndsAt, Returns}
-use Rattle.host_moves.proofs.Ways.{Last, returns_by, export_trapped, export_asked, export_spent, export_dear}
+use Rattle.host_moves.proofs.Ways.{returns_by, export_trapped, export_asked, export_spent, export_dear}
 use Rattle.host_moves.proofs.Pauses.{CallsIn, calls_in, too_dear, it_enters}
 
 module _ (w : Program) (m : Module) (code : m ≡ w.source) (s : Store) (x : ℕ) (args : List Value) (left used : ℕ) (s' : Store) (callable : Callable w.source x (types_of args)) where

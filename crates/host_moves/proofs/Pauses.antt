@@ -1,5 +1,5 @@
 -- Unwinding and rewinding, by the turns of the interpreter.
-use Rattle.std.proofs.Common.{◌≡◌, ◌≤◌, ◌<◌, ℕ, suc, ◌+◌, ◌-◌, ◌++◌, List, [], ◌∷◌, length, Option, Some, None, Bool, true, false, cond, nat_le, refl, sym, ap, ◌∙◌, subst, arith}
+use Rattle.std.proofs.Common.{◌≡◌, ◌≤◌, ◌<◌, ℕ, suc, ◌+◌, ◌-◌, List, [], ◌∷◌, length, Option, Some, None, Bool, true, false, cond, nat_le, refl, sym, ap, ◌∙◌, subst, arith}
 use Rattle.std.proofs.lemmas.Bool.{leb-true, leb-false}
 use Rattle.std.specs.Prelude.{nat_eq}
 use Rattle.std.specs.Option.{option_to_list}
@@ -12,31 +12,30 @@ use Rattle.wa_model.specs.declared.events.Call.{Call as CallValue}
 use Rattle.wa_model.specs.declared.events.End.{End}
 use Rattle.wa_model.specs.declared.events.End.TheVariants as E
 use Rattle.wa_model.specs.declared.events.Event.TheVariants as EV
-use Rattle.wa_model.specs.Outside.{Answer, AnswerLine, answered, paused, ended}
+use Rattle.wa_model.specs.Outside.{Answer, paused, ended}
 use Rattle.wa_model.specs.View.{answer_of, event_of}
 use Rattle.wa_model.specs.Machine.{goes, stays, moves, CostsMore}
 use Rattle.wa_model.specs.Store.{Store}
 use Rattle.wa_model.specs.Configuration.{Activation, Configuration}
-use Rattle.wa_model.specs.Step.{asks, returns, traps, entered}
+use Rattle.wa_model.specs.Step.{asks, returns, entered}
 use Rattle.wa_model.specs.Plan.{Entry, Outcome}
-use Rattle.wa_model.specs.Alone.{it_returned, it_asks, EndsAs}
-use Rattle.wa_model.specs.Blocking.{Note, note, Left, with_outcomes, resumed, poked, an_entry}
-use Rattle.wa_model.specs.Protocol.{Exports, exports_of, Phase, is_running, unwinds, rewinds, Then, give_zero, test_unwound, pause_there, call_again, test_rewound, give_answer, Held, busy, calling, entering, over, trap_end, is_state, zeros_of, used_of, with_words, answer_note, busy_step, busy_enters, aside_back}
+use Rattle.wa_model.specs.Blocking.{note, Left, with_outcomes, resumed, poked, an_entry}
+use Rattle.wa_model.specs.Protocol.{Exports, exports_of, Phase, is_running, give_zero, test_unwound, pause_there, call_again, test_rewound, give_answer, Held, busy, calling, entering, over, trap_end, is_state, zeros_of, used_of, answer_note, busy_step, busy_enters}
 use Rattle.wa_model.specs.World.{Program}
 use Rattle.interp.specs.declared.turns.Turn.{Turn}
 use Rattle.interp.specs.declared.turns.Turn.TheVariants.{Returned, Trapped, Waiting, StepsSpent}
-use Rattle.interp.specs.Instance as I
-use Rattle.interp.specs.Instance.{Waits, inside, Turns, Calls, CallsAs, Enters, TooDear, Resumes}
-use Rattle.host_turns.specs.Stretch.{meeting, Stretch, IsSpent}
-use Rattle.host_turns.specs.Places.{stands, goes_on}
+use Rattle.interp.specs.Instance.{Waits, inside, Turns, Calls, CallsAs}
+use Rattle.host_turns.specs.Supplies.{Supply}
+use Rattle.host_turns.specs.Stretch.{Stretch, IsSpent}
+use Rattle.host_turns.specs.Places.{goes_on}
 use Rattle.host_turns.proofs.Stretches.{compose}
 use Rattle.host_moves.specs.declared.stages.Moved.{Moved}
 use Rattle.host_moves.specs.declared.stages.Pause.{Pause}
 use Rattle.host_moves.specs.declared.stages.Stage.TheVariants as S
 use Rattle.host_moves.specs.declared.stages.Task.TheVariants as T
 use Rattle.host_moves.specs.Views.{entry_of, unwinding, rewinding, place_in}
-use Rattle.host_moves.specs.Moves.{Comes, ComesFrom, EndsAt, at_over, at_spent, Returns}
-use Rattle.host_moves.proofs.Ways.{Last, returns_by, asks_by, one_behind, busy_last, busy_trapped, busy_spent, returned_by}
+use Rattle.host_moves.specs.Moves.{Comes, EndsAt, at_over, at_spent, Returns}
+use Rattle.host_moves.proofs.Ways.{returns_by, asks_by, busy_last, busy_trapped, busy_spent, returned_by}
 
 -- ---- calls from outside
 
@@ -199,9 +198,9 @@ module _ (w : Program) where
         r.within
 
     -- asyncify_stop_unwind: the program is paused
-    pub stopped_unwind : (f : ℕ) (args : List Value) (m : Moved) (used_now : ℕ) (lines : List AnswerLine) (waits : Waits) → used_now ≡ used_of s' w.plan.area → m.event ≡ EV.Paused pause.answer.ticks used_now → m.stage ≡ S.Paused pause
-        → Returns p s f args left used vs s' → Comes w (calling (unwinding pause) s f args pause_there l) left used m lines lines l s' waits
-    stopped_unwind f args m used_now lines waits is_used e st r = record {
+    pub stopped_unwind : (f : ℕ) (args : List Value) (m : Moved) (used_now : ℕ) (supply : Supply) (waits : Waits) → used_now ≡ used_of s' w.plan.area → m.event ≡ EV.Paused pause.answer.ticks used_now → m.stage ≡ S.Paused pause
+        → Returns p s f args left used vs s' → Comes w (calling (unwinding pause) s f args pause_there l) left used m supply supply l s' waits
+    stopped_unwind f args m used_now supply waits is_used e st r = record {
       note = note (paused pause.answer.ticks (used_of s' w.plan.area)) s';
       event_is = ap (λ n. paused pause.answer.ticks n) (sym is_used) ∙ ap event_of (sym e);
       store_is = refl;
@@ -239,14 +238,14 @@ module _ (w : Program) where
         r.within
 
     -- asyncify_stop_rewind: the answer is told
-    pub stopped_rewind : (since at now : Store) (here : Activation) (under : List Activation) (f : ℕ) (args : List Value) (m : Moved) (lines : List AnswerLine) (waits : Waits) → now ≡ poked s' (answer_of pause.answer).pokes
+    pub stopped_rewind : (since at now : Store) (here : Activation) (under : List Activation) (f : ℕ) (args : List Value) (m : Moved) (supply : Supply) (waits : Waits) → now ≡ poked s' (answer_of pause.answer).pokes
         → waits ≡ inside here under → m.event ≡ EV.Answered pause.answer.value → m.stage ≡ S.Giving (T.Entry pause.entry) pause.answer.value → Returns p s f args left used vs s'
-        → Comes w (calling (rewinding pause since) s f args (give_answer (record { store = at; here = here; under = under })) l) left used m lines lines l now waits
-    stopped_rewind since at now here under f args m lines waits is_now is_waits e st r =
+        → Comes w (calling (rewinding pause since) s f args (give_answer (record { store = at; here = here; under = under })) l) left used m supply supply l now waits
+    stopped_rewind since at now here under f args m supply waits is_now is_waits e st r =
         let a : Answer = answer_of pause.answer in
         let after : Store = poked s' a.pokes in
         let to : Held = busy (is_running (an_entry (entry_of pause.entry))) (resumed (record { store = after; here = here; under = under }) after (option_to_list a.value)) l in
-        subst (λ z. Comes w (calling (rewinding pause since) s f args (give_answer (record { store = at; here = here; under = under })) l) left used m lines lines l z waits) (sym is_now)
+        subst (λ z. Comes w (calling (rewinding pause since) s f args (give_answer (record { store = at; here = here; under = under })) l) left used m supply supply l z waits) (sym is_now)
         (record {
           note = answer_note a.value after since;
           event_is = ap event_of (sym e);

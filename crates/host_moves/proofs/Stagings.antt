@@ -1,30 +1,28 @@
 -- What the place of a stage says of what waits in the instance.
-use Rattle.std.proofs.Common.{◌≡◌, ◌≤◌, ℕ, zero, suc, ◌+◌, ◌-◌, ◌++◌, List, [], ◌∷◌, Option, Some, None, refl, sym, ap, ◌∙◌, subst, append-nil, arith}
+use Rattle.std.proofs.Common.{◌≡◌, ℕ, ◌-◌, List, [], ◌∷◌, Option, refl, sym, ap, subst, append-nil, arith}
 use Rattle.std.specs.Option.{option_to_list}
-use Rattle.wa_types.specs.declared.values.ValType.{ValType}
 use Rattle.wa_types.specs.declared.values.Value.{Value}
 use Rattle.wa_types.specs.declared.values.Value.TheVariants as V
 use Rattle.wa_types.specs.Syntax.{Module}
 use Rattle.wa_model.specs.declared.answers.Answer.{Answer as AnswerValue}
 use Rattle.wa_model.specs.declared.events.Event.TheVariants as EV
-use Rattle.wa_model.specs.Outside.{Answer, AnswerLine, answered}
+use Rattle.wa_model.specs.Outside.{Answer, answered}
 use Rattle.wa_model.specs.View.{answer_of, event_of}
 use Rattle.wa_model.specs.Store.{Store}
 use Rattle.wa_model.specs.Configuration.{Activation, Configuration}
-use Rattle.wa_model.specs.Fitting.{types_of, Fits, StoreFits}
-use Rattle.wa_model.specs.Blocking.{Note, note, Left, Task, resumed, poked, the_start, an_entry, done_notes}
+use Rattle.wa_model.specs.Fitting.{types_of, StoreFits}
+use Rattle.wa_model.specs.Blocking.{Note, note, Left, Task, resumed, the_start, an_entry, done_notes}
 use Rattle.wa_model.specs.Protocol.{exports_of, is_running, Held, busy, calling, give_zero, held_on, with_words}
 use Rattle.wa_model.specs.World.{Program}
 use Rattle.run_laws.specs.FittingStates.{HeldFits}
 use Rattle.interp.specs.declared.turns.Turn.{Turn}
 use Rattle.interp.specs.Instance as I
 use Rattle.interp.specs.Instance.{Waits, Awaits, Resumes, Turns}
-use Rattle.host_turns.specs.Places.{Place, stands, has_ended, nowhere, goes_on}
+use Rattle.host_turns.specs.Supplies.{Supply}
+use Rattle.host_turns.specs.Places.{Place, stands, nowhere, goes_on}
 use Rattle.host_turns.proofs.Stretches.{nowhere_on}
 use Rattle.host_moves.specs.declared.stages.Moved.{Moved}
 use Rattle.host_moves.specs.declared.stages.Pause.{Pause}
-use Rattle.host_moves.specs.declared.stages.Stage.{Stage}
-use Rattle.host_moves.specs.declared.stages.Stage.TheVariants as S
 use Rattle.host_moves.specs.declared.stages.Task as TV
 use Rattle.host_moves.specs.declared.stages.Task.TheVariants as T
 use Rattle.host_moves.specs.Views.{entry_of, stage_told, with_asker, answering, giving, pausing, unwinding, place_in}
@@ -40,10 +38,10 @@ module _ (w : Program) where
   abbrev Place_of : Store → TV.Task → Waits → Left → Answer → Store → Place
   Place_of s task waits l a s' = with_asker nowhere s task waits (answering l a s')
 
-  told_next : (from : Place) (left : ℕ) (m : Moved) (lines : List AnswerLine) (l : Left) (a : Answer) (s' : Store) (waits : Waits) (behind : List Note) (h : Held) → from ≡ stands (note (answered a.value) s' ∷ behind) h → m.event ≡ EV.Answered a.value
-      → place_in (exports_of p) w.plan.area l s' waits m.stage ≡ stands behind h → ComesFrom w from left 0 m lines lines l s' waits
-  told_next from left m lines l a s' waits behind h is ev place =
-      subst (λ z. ComesFrom w z left 0 m lines lines l s' waits) (sym is)
+  told_next : (from : Place) (left : ℕ) (m : Moved) (supply : Supply) (l : Left) (a : Answer) (s' : Store) (waits : Waits) (behind : List Note) (h : Held) → from ≡ stands (note (answered a.value) s' ∷ behind) h → m.event ≡ EV.Answered a.value
+      → place_in (exports_of p) w.plan.area l s' waits m.stage ≡ stands behind h → ComesFrom w from left 0 m supply supply l s' waits
+  told_next from left m supply l a s' waits behind h is ev place =
+      subst (λ z. ComesFrom w z left 0 m supply supply l s' waits) (sym is)
       (record {
         note = note (answered a.value) s';
         event_is = ap event_of (sym ev);
@@ -51,23 +49,23 @@ module _ (w : Program) where
         tells = record { outcomes = []; takes = (refl, refl); within = omega arith; lands = goes_on [] behind h (nowhere_on p w.plan h) (append-nil (note (answered a.value) s' ∷ behind)) refl place };
       })
 
-  pub tell_comes : (s : Store) (task : TV.Task) (waits : Waits) (left : ℕ) (m : Moved) (lines : List AnswerLine) (l : Left) (answer : AnswerValue) (s' : Store) → PlaceFits w (Place_of s task waits l (answer_of answer) s')
+  pub tell_comes : (s : Store) (task : TV.Task) (waits : Waits) (left : ℕ) (m : Moved) (supply : Supply) (l : Left) (answer : AnswerValue) (s' : Store) → PlaceFits w (Place_of s task waits l (answer_of answer) s')
       → m.event ≡ EV.Answered answer.value → m.stage ≡ stage_told task answer.value
-      → ComesFrom w (Place_of s task waits l (answer_of answer) s') left 0 m lines lines l s' waits
-  tell_comes s T.Outermost I.outermost left m lines l answer s' f ev st =
-      told_next (Place_of s T.Outermost I.outermost l (answer_of answer) s') left m lines l (answer_of answer) s' I.outermost (done_notes s' l.entries) (held_on s' l l.entries) refl ev (ap (place_in (exports_of p) w.plan.area l s' I.outermost) st)
-  tell_comes s T.Start (I.inside here under) left m lines l answer s' f ev st =
-      told_next (Place_of s T.Start (I.inside here under) l (answer_of answer) s') left m lines l (answer_of answer) s' (I.inside here under) []
+      → ComesFrom w (Place_of s task waits l (answer_of answer) s') left 0 m supply supply l s' waits
+  tell_comes s T.Outermost I.outermost left m supply l answer s' f ev st =
+      told_next (Place_of s T.Outermost I.outermost l (answer_of answer) s') left m supply l (answer_of answer) s' I.outermost (done_notes s' l.entries) (held_on s' l l.entries) refl ev (ap (place_in (exports_of p) w.plan.area l s' I.outermost) st)
+  tell_comes s T.Start (I.inside here under) left m supply l answer s' f ev st =
+      told_next (Place_of s T.Start (I.inside here under) l (answer_of answer) s') left m supply l (answer_of answer) s' (I.inside here under) []
       (busy (is_running the_start) (resumed (record { store = s'; here = here; under = under }) s' (option_to_list answer.value)) l) refl ev (ap (place_in (exports_of p) w.plan.area l s' (I.inside here under)) st)
-  tell_comes s (T.Entry e) (I.inside here under) left m lines l answer s' f ev st =
-      told_next (Place_of s (T.Entry e) (I.inside here under) l (answer_of answer) s') left m lines l (answer_of answer) s' (I.inside here under) []
+  tell_comes s (T.Entry e) (I.inside here under) left m supply l answer s' f ev st =
+      told_next (Place_of s (T.Entry e) (I.inside here under) l (answer_of answer) s') left m supply l (answer_of answer) s' (I.inside here under) []
       (busy (is_running (an_entry (entry_of e))) (resumed (record { store = s'; here = here; under = under }) s' (option_to_list answer.value)) l) refl ev (ap (place_in (exports_of p) w.plan.area l s' (I.inside here under)) st)
-  tell_comes s T.Outermost I.nothing left m lines l answer s' f ev st = absurd f
-  tell_comes s T.Outermost (I.inside here under) left m lines l answer s' f ev st = absurd f
-  tell_comes s T.Start I.nothing left m lines l answer s' f ev st = absurd f
-  tell_comes s T.Start I.outermost left m lines l answer s' f ev st = absurd f
-  tell_comes s (T.Entry e) I.nothing left m lines l answer s' f ev st = absurd f
-  tell_comes s (T.Entry e) I.outermost left m lines l answer s' f ev st = absurd f
+  tell_comes s T.Outermost I.nothing left m supply l answer s' f ev st = absurd f
+  tell_comes s T.Outermost (I.inside here under) left m supply l answer s' f ev st = absurd f
+  tell_comes s T.Start I.nothing left m supply l answer s' f ev st = absurd f
+  tell_comes s T.Start I.outermost left m supply l answer s' f ev st = absurd f
+  tell_comes s (T.Entry e) I.nothing left m supply l answer s' f ev st = absurd f
+  tell_comes s (T.Entry e) I.outermost left m supply l answer s' f ev st = absurd f
 
   -- ---- a value is given
 

@@ -20,7 +20,6 @@ use Rattle.wa_model.specs.Plan.{given, refused}
 use Rattle.interp.specs.Host.{memory_of}
 use Rattle.host_answers.specs.Answering.{IsShort}
 use Rattle.wa_types.specs.declared.values.ValType.{ValType}
-use Rattle.wa_types.specs.declared.values.Value.{Value}
 use Rattle.wa_model.specs.Step.{zero_of}
 use Rattle.wa_model.specs.Protocol.{zeros_of}
 use Rattle.wa_model.specs.World.{Program, import_names, name_at, MeetsLine}

@@ -1,26 +1,24 @@
 -- The start function and entries, by the turns of the interpreter.
-use Rattle.std.proofs.Common.{◌≡◌, ◌≤◌, ◌<◌, ℕ, zero, suc, ◌+◌, ◌-◌, ◌++◌, List, [], ◌∷◌, length, map, Option, Some, None, Bool, true, false, cond, nat_le, refl, sym, ap, ◌∙◌, subst, append-nil, arith}
+use Rattle.std.proofs.Common.{◌≡◌, ◌≤◌, ◌<◌, ℕ, suc, ◌+◌, ◌-◌, List, [], ◌∷◌, length, Option, Some, None, Bool, true, false, cond, nat_le, refl, sym, ap, ◌∙◌, subst, append-nil, arith}
 use Rattle.std.proofs.lemmas.Bool.{leb-true, leb-false, lt-ltb}
-use Rattle.std.specs.Prelude.{nat_lt, slice_get, if◌then◌else◌}
+use Rattle.std.specs.Prelude.{nat_lt, slice_get}
 use Rattle.std.specs.Option.{option_to_list}
 use Rattle.wa_types.specs.declared.values.Value.{Value}
 use Rattle.wa_types.specs.declared.values.Trap.{Trap}
 use Rattle.wa_types.specs.Syntax.{Func, Module}
 use Rattle.wa_types.specs.Modules.{defined_at, func_imports, func_sorts}
 use Rattle.wa_model.specs.declared.events.Call.{Call as CallValue}
-use Rattle.wa_model.specs.declared.events.End.{End}
 use Rattle.wa_model.specs.declared.events.End.TheVariants as E
 use Rattle.wa_model.specs.declared.events.Event.TheVariants as EV
-use Rattle.wa_model.specs.Outside.{AnswerLine, returned, ended}
+use Rattle.wa_model.specs.Outside.{returned, ended}
 use Rattle.wa_model.specs.View.{event_of}
 use Rattle.wa_model.specs.Machine.{Turn as Move, stops, goes, Leads, stays, moves, CostsMore}
 use Rattle.wa_model.specs.Store.{Store}
-use Rattle.wa_model.specs.Configuration.{Activation, Configuration}
-use Rattle.wa_model.specs.Step.{Next, asks, returns, traps, entered}
+use Rattle.wa_model.specs.Configuration.{Configuration}
+use Rattle.wa_model.specs.Step.{returns, entered}
 use Rattle.wa_model.specs.Plan.{Entry, Outcome}
-use Rattle.wa_model.specs.Alone.{it_returned, it_asks, EndsAs}
-use Rattle.wa_model.specs.Blocking.{Note, note, Left, with_outcomes, Asker, inside, outermost, Task, the_start, an_entry, done_notes, value_of_results, next_entry}
-use Rattle.wa_model.specs.Protocol.{Exports, exports_of, is_running, Held, free, starting, busy, over, held_on, held_asked, held_start, held_next, busy_enters, busy_step, trap_end, protocol}
+use Rattle.wa_model.specs.Blocking.{Note, note, Left, with_outcomes, inside, outermost, Task, the_start, an_entry, done_notes, value_of_results, next_entry}
+use Rattle.wa_model.specs.Protocol.{Exports, exports_of, is_running, Held, free, starting, busy, over, held_on, held_asked, held_start, held_next, busy_enters, busy_step, protocol}
 use Rattle.wa_model.specs.World.{Program}
 use Rattle.wa_model.proofs.Runs.{leads_on}
 use Rattle.wa_model.proofs.FittingNames.{not_defined}
@@ -28,18 +26,15 @@ use Rattle.interp.specs.declared.turns.Turn.{Turn}
 use Rattle.interp.specs.declared.turns.Turn.TheVariants.{Returned, Trapped, Waiting, StepsSpent}
 use Rattle.interp.specs.Instance as I
 use Rattle.interp.specs.Instance.{Waits, Turns, Calls, CallsAs}
-use Rattle.host_turns.specs.Stretch.{meeting, Stretch, IsSpent}
+use Rattle.host_turns.specs.Supplies.{Supply}
+use Rattle.host_turns.specs.Stretch.{meeting, Stretch}
 use Rattle.host_turns.specs.Places.{stands, goes_on, ends}
 use Rattle.host_turns.proofs.Stretches.{compose, on_last, nowhere_on}
-use Rattle.host_moves.specs.declared.stages.EntryCall.{EntryCall}
 use Rattle.host_moves.specs.declared.stages.Moved.{Moved}
 use Rattle.host_moves.specs.declared.stages.Stage.TheVariants as S
-use Rattle.host_moves.specs.declared.stages.Task as TV
-use Rattle.host_moves.specs.declared.stages.Task.TheVariants as T
-use Rattle.host_moves.specs.Views.{entry_of, place_in, free_place}
-use Rattle.host_moves.specs.Moves.{Comes, ComesFrom, EndsAt, at_over, at_spent, Asks, IsAsking, IsTask, TaskTurn, runs_on, too_dear}
-use Rattle.host_moves.proofs.Ways.{Last, returns_by, asks_by, busy_last, busy_trapped, busy_goes, asked_dear}
-use Rattle.host_moves.proofs.Comings.{ends_come, comes_behind}
+use Rattle.host_moves.specs.Views.{place_in, free_place}
+use Rattle.host_moves.specs.Moves.{Comes, ComesFrom, EndsAt, at_spent, Asks, TaskTurn, runs_on, too_dear}
+use Rattle.host_moves.proofs.Ways.{returns_by, asks_by, busy_last, busy_goes, asked_dear}
 use Rattle.host_moves.proofs.Pauses.{CallsIn, calls_in, ends_behind, turn_trapped, turn_spent}
 use Rattle.host_moves.proofs.Pauses as Q
 
@@ -94,10 +89,10 @@ module _ (w : Program) where
         )
 
   -- an entry returned
-  pub entry_returned : (h : Held) (l l' : Left) (e : Entry) (left used : ℕ) (v : Option Value) (s : Store) (waits : Waits) (m : Moved) (lines : List AnswerLine) → l' ≡ next_entry l → m.event ≡ EV.Returned l.number v → m.stage ≡ S.Free
-      → TaskTurn w h l (an_entry e) left used (Returned v) s waits → Comes w h left used m lines lines l' s waits
-  entry_returned h l l' e left used v s waits m lines nl ev st (too_dear is h1) = cc
-  entry_returned h l l' e left used v s waits m lines nl ev st (runs_on c u more go le eu h1) =
+  pub entry_returned : (h : Held) (l l' : Left) (e : Entry) (left used : ℕ) (v : Option Value) (s : Store) (waits : Waits) (m : Moved) (supply : Supply) → l' ≡ next_entry l → m.event ≡ EV.Returned l.number v → m.stage ≡ S.Free
+      → TaskTurn w h l (an_entry e) left used (Returned v) s waits → Comes w h left used m supply supply l' s waits
+  entry_returned h l l' e left used v s waits m supply nl ev st (too_dear is h1) = cc
+  entry_returned h l l' e left used v s waits m supply nl ev st (runs_on c u more go le eu h1) =
       let r = returns_by p c (left - u) more (option_to_list v) s h1.0 in
       let y : Note = note (returned l.number (value_of_results (option_to_list v))) s in
       let behind : List Note = done_notes s l.entries in
@@ -248,10 +243,10 @@ module _ (w : Program) where
 
   -- ---- all entries have returned
 
-  pub done_comes : (l : Left) (s : Store) (left : ℕ) (m : Moved) (lines : List AnswerLine) (l' : Left) (waits : Waits) → l.entries ≡ [] → m.event ≡ EV.Ended E.Done → m.stage ≡ S.Ended E.Done
-      → ComesFrom w (free_place l s) left 0 m lines lines l' s waits
-  done_comes l s left m lines l' waits none ev st =
-      subst (λ es. ComesFrom w (stands (done_notes s es) (held_on s l es)) left 0 m lines lines l' s waits) (sym none)
+  pub done_comes : (l : Left) (s : Store) (left : ℕ) (m : Moved) (supply : Supply) (l' : Left) (waits : Waits) → l.entries ≡ [] → m.event ≡ EV.Ended E.Done → m.stage ≡ S.Ended E.Done
+      → ComesFrom w (free_place l s) left 0 m supply supply l' s waits
+  done_comes l s left m supply l' waits none ev st =
+      subst (λ es. ComesFrom w (stands (done_notes s es) (held_on s l es)) left 0 m supply supply l' s waits) (sym none)
       (record {
         note = note (ended E.Done) s;
         event_is = ap event_of (sym ev);

@@ -1,6 +1,5 @@
 -- Ends of reductions as stretches of a run under the protocol.
-use Rattle.std.proofs.Common.{◌≡◌, ◌≤◌, ◌<◌, ℕ, zero, suc, ◌+◌, ◌-◌, ◌++◌, List, [], ◌∷◌, length, Option, Some, None, Bool, true, false, cond, nat_le, refl, sym, ap, ◌∙◌, subst, append-nil, add-zero, arith}
-use Rattle.std.proofs.lemmas.Bool.{leb-true, leb-false}
+use Rattle.std.proofs.Common.{◌≡◌, ◌≤◌, ℕ, suc, ◌+◌, ◌-◌, ◌++◌, List, [], ◌∷◌, length, Option, Some, None, Bool, true, false, cond, refl, sym, ap, ◌∙◌, subst, append-nil, arith}
 use Rattle.std.specs.Prelude.{nat_eq}
 use Rattle.wa_types.specs.declared.values.Value.{Value}
 use Rattle.wa_types.specs.declared.values.Trap.{Trap}
@@ -8,19 +7,19 @@ use Rattle.wa_types.specs.Syntax.{Func, Module}
 use Rattle.wa_types.specs.Modules.{defined_at}
 use Rattle.wa_model.specs.declared.events.End.{End}
 use Rattle.wa_model.specs.declared.events.End.TheVariants as E
-use Rattle.wa_model.specs.Outside.{Answer, ended}
-use Rattle.wa_model.specs.Machine.{Turn, stops, goes, Leads, stays, moves, CostsMore}
+use Rattle.wa_model.specs.Outside.{ended}
+use Rattle.wa_model.specs.Machine.{Turn, goes, Leads, stays, moves, CostsMore}
 use Rattle.wa_model.specs.Store.{Store}
 use Rattle.wa_model.specs.Configuration.{Configuration}
 use Rattle.wa_model.specs.Step.{Next, steps, asks, returns, traps, stuck, entered, step}
-use Rattle.wa_model.specs.Plan.{Entry, Outcome, given, refused}
-use Rattle.wa_model.specs.Alone.{Goes, Finish, it_returned, it_trapped, it_asks, it_spent, FinishesAt, CostsAbove, EndsAs, by_finish, by_steps}
-use Rattle.wa_model.specs.Blocking.{Note, note, Left, with_outcomes, Asker, inside, outermost, Task, the_start, an_entry}
-use Rattle.wa_model.specs.Protocol.{Exports, exports_of, Phase, is_running, unwinds, rewinds, Then, give_zero, test_unwound, pause_there, call_again, test_rewound, give_answer, Held, free, starting, busy, calling, aside, entering, over, trap_end, held_asked, held_tested, busy_step, is_state, aside_back, aside_step, aside_called, protocol, store_held}
+use Rattle.wa_model.specs.Plan.{Outcome, given, refused}
+use Rattle.wa_model.specs.Alone.{Goes, it_returned, it_trapped, it_asks, it_spent, FinishesAt, CostsAbove, EndsAs, by_finish, by_steps}
+use Rattle.wa_model.specs.Blocking.{Note, note, Left, with_outcomes, Asker, inside, outermost, the_start, an_entry}
+use Rattle.wa_model.specs.Protocol.{Exports, exports_of, Phase, is_running, unwinds, rewinds, Then, give_zero, test_unwound, pause_there, call_again, test_rewound, give_answer, Held, busy, calling, aside, over, trap_end, held_asked, held_tested, busy_step, is_state, aside_back, aside_step, aside_called, protocol}
 use Rattle.wa_model.specs.World.{Program}
 use Rattle.wa_model.proofs.Runs.{leads_on}
 use Rattle.wa_model.proofs.Alone.{in_busy, in_aside}
-use Rattle.host_turns.specs.Stretch.{meeting, Stretch, is_over, IsSpent}
+use Rattle.host_turns.specs.Stretch.{meeting, Stretch}
 use Rattle.host_moves.specs.Moves.{EndsAt, at_over, at_spent, Returns}
 
 -- ---- how reductions end

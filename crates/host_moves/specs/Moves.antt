@@ -1,5 +1,5 @@
 -- How a program goes from one event to the next.
-use Rattle.std.specs.Prelude.{◌≡◌, ◌<◌, ◌≤◌, ◌^◌, ℕ, suc, ◌+◌, ◌-◌, List, [], ◌∷◌, length, map, Option, Some, None, true, All, nat_lt, slice_get}
+use Rattle.std.specs.Prelude.{◌≡◌, ◌≤◌, ℕ, suc, ◌+◌, ◌-◌, List, [], ◌∷◌, length, map, Some, true, All, nat_lt, slice_get}
 use Rattle.std.specs.Option.{option_map, option_to_list}
 use Rattle.wa_types.specs.declared.values.Value.{Value}
 use Rattle.wa_types.specs.Syntax.{Func}
@@ -9,8 +9,8 @@ use Rattle.wa_types.specs.Validity.{Valid}
 use Rattle.wa_model.specs.declared.events.End.{End}
 use Rattle.wa_model.specs.declared.events.End.TheVariants as E
 use Rattle.wa_model.specs.declared.events.Event.{Event as EventValue}
-use Rattle.wa_model.specs.Outside.{AnswerLine, Event, ended}
-use Rattle.wa_model.specs.View.{event_of, poke_of}
+use Rattle.wa_model.specs.Outside.{AnswerLine, ended}
+use Rattle.wa_model.specs.View.{event_of}
 use Rattle.wa_model.specs.Machine.{goes, Leads}
 use Rattle.wa_model.specs.Store.{Store}
 use Rattle.wa_model.specs.Configuration.{Configuration}
@@ -20,7 +20,7 @@ use Rattle.wa_model.specs.Alone.{Goes}
 use Rattle.wa_model.specs.Blocking as B
 use Rattle.wa_model.specs.Blocking.{Note, note, Asker, inside, outermost, the_start, an_entry, with_outcomes}
 use Rattle.wa_model.specs.Protocol.{exports_of, protocol, Held, busy, calling, over, Phase, is_running, unwinds, rewinds, Then, held_asked, store_held}
-use Rattle.wa_model.specs.World.{Program, import_names}
+use Rattle.wa_model.specs.World.{Program, base_names, import_names}
 use Rattle.run_laws.specs.FittingStates.{HeldFits, ExportsTyped}
 use Rattle.interp.specs.declared.turns.Turn.{Turn}
 use Rattle.interp.specs.declared.turns.Turn.TheVariants.{StepsSpent}
@@ -28,6 +28,7 @@ use Rattle.interp.specs.Instance as I
 use Rattle.interp.specs.Instance.{Waits}
 use Rattle.host_answers.specs.Answering.{IsShort}
 use Rattle.host_turns.specs.Stretch.{meeting, Stretch, IsSpent}
+use Rattle.host_turns.specs.Supplies.{Supply}
 use Rattle.host_turns.specs.Places.{Place, stands, has_ended, nowhere, TellsFrom}
 use Rattle.host_moves.specs.declared.exports.Exported.{Exported}
 use Rattle.host_moves.specs.declared.exports.Exported.TheVariants as X
@@ -50,6 +51,8 @@ pub record IsSetting (w : Program) (x : Setting) : Type 0 where
   pub listed : w.plan.listed ≡ option_map (λ l. l.items) x.listed
   pub steps : w.steps ≡ x.steps
   pub names : import_names w.source ≡ map (λ (i : HostImport). i.name) x.imports.items
+  pub bases : base_names w.source ≡ map (λ (i : HostImport). i.base) x.imports.items
+  pub binds : w.binds ≡ x.binds.items
   pub results : (import : ℕ) (i : HostImport) → slice_get x.imports.items import ≡ Some i → (func_type_at w.source import).results ≡ option_to_list i.result
   pub all : length x.imports.items ≡ func_imports w.source
 
@@ -66,19 +69,19 @@ HasShortPokes l = All IsShort l.answer.pokes
 -- ---- one event
 
 -- A program of a world told this event, at which this store stands.
-pub record Moves (w : Program) (from : Place) (left : ℕ) (lines : List AnswerLine) (event : EventValue) (store : Store) (used : ℕ) (lines' : List AnswerLine) (to : Place) : Type 0 where
+pub record Moves (w : Program) (from : Place) (left : ℕ) (supply : Supply) (event : EventValue) (store : Store) (used : ℕ) (supply' : Supply) (to : Place) : Type 0 where
   pub note : Note
   pub event_is : note.event ≡ event_of event
   pub store_is : note.store ≡ store
-  pub tells : TellsFrom w.source w.plan w.steps from left lines note used lines' to
+  pub tells : TellsFrom w from left supply note used supply' to
 
 -- The next event from where the machine stands, and the stage that it leads to, over a store and what waits in the instance.
-abbrev pub ComesFrom : Program → Place → (left used : ℕ) → Moved → (lines lines' : List AnswerLine) → B.Left → Store → Waits → Type 0
-ComesFrom w from left used m lines lines' l s waits =
-    Moves w from left lines m.event s used lines' (place_in (exports_of w.source) w.plan.area l s waits m.stage)
+abbrev pub ComesFrom : Program → Place → (left used : ℕ) → Moved → (supply supply' : Supply) → B.Left → Store → Waits → Type 0
+ComesFrom w from left used m supply supply' l s waits =
+    Moves w from left supply m.event s used supply' (place_in (exports_of w.source) w.plan.area l s waits m.stage)
 
-abbrev pub Comes : Program → Held → (left used : ℕ) → Moved → (lines lines' : List AnswerLine) → B.Left → Store → Waits → Type 0
-Comes w h left used m lines lines' l s waits = ComesFrom w (stands [] h) left used m lines lines' l s waits
+abbrev pub Comes : Program → Held → (left used : ℕ) → Moved → (supply supply' : Supply) → B.Left → Store → Waits → Type 0
+Comes w h left used m supply supply' l s waits = ComesFrom w (stands [] h) left used m supply supply' l s waits
 
 -- ---- parts of the way to it
 

@@ -1,25 +1,27 @@
 -- The place of the protocol's machine for which a stage stands.
-use Rattle.std.specs.Prelude.{◌≡◌, ◌<◌, ◌^◌, ℕ, zero, suc, Bool, true, false, List, [], ◌∷◌, length, map, Option, Some, None, All, slice_get}
-use Rattle.std.specs.Option.{option_map, option_to_list}
+use Rattle.std.specs.Prelude.{ℕ, zero, suc, Bool, true, false, List, [], ◌∷◌, map, Option, Some, None}
+use Rattle.std.specs.Option.{option_to_list}
 use Rattle.wa_types.specs.declared.values.Value.{Value}
 use Rattle.wa_types.specs.declared.values.Value.TheVariants as V
-use Rattle.wa_types.specs.Syntax.{Module}
 use Rattle.wa_model.specs.declared.answers.Area.{Area}
 use Rattle.wa_model.specs.declared.answers.Answer.{Answer as AnswerValue}
 use Rattle.wa_model.specs.declared.answers.AnswerLine.{AnswerLine as AnswerLineValue}
 use Rattle.wa_model.specs.declared.events.End.{End}
 use Rattle.wa_model.specs.declared.events.End.TheVariants as E
-use Rattle.wa_model.specs.Outside.{Poke, Answer, AnswerLine, answered, ended}
+use Rattle.wa_model.specs.Outside.{Answer, AnswerLine, answered, ended}
 use Rattle.wa_model.specs.View.{answer_of, answer_line_of}
 use Rattle.wa_model.specs.Store.{Store}
-use Rattle.wa_model.specs.Configuration.{Activation, Configuration}
 use Rattle.wa_model.specs.Plan.{Entry}
 use Rattle.wa_model.specs.Blocking as B
 use Rattle.wa_model.specs.Blocking.{note, poked, resumed, the_start, an_entry, Asker, inside, outermost, done_notes}
 use Rattle.wa_model.specs.Protocol as P
 use Rattle.wa_model.specs.Protocol.{Phase, is_running, unwinds, rewinds, give_zero, call_again, busy, calling, over, held_on, with_words}
+use Rattle.wa_model.specs.World.{Device}
+use Rattle.device_port.specs.declared.devices.Devices.{Devices}
+use Rattle.device_port.specs.Listed.{of_all}
 use Rattle.interp.specs.Instance as I
 use Rattle.interp.specs.Instance.{Waits}
+use Rattle.host_turns.specs.Supplies.{Supply}
 use Rattle.host_turns.specs.Places.{Place, stands, has_ended, nowhere}
 use Rattle.host_moves.specs.declared.stages.Exports.{Exports}
 use Rattle.host_moves.specs.declared.stages.EntryCall.{EntryCall}
@@ -43,6 +45,10 @@ left_of l = record { number = l.number; entries = map entry_of l.entries.items; 
 -- the answer lines left
 abbrev pub lines_in : List AnswerLineValue → List AnswerLine
 lines_in answers = map answer_line_of answers
+
+-- what answers a program's calls: the answer lines left, and a caller's devices with their counts of faults
+abbrev pub supply_in : {X : Type 0} {F : X → Type 0} → ((x : X) × F x → Device) → ((x : X) × F x → ℕ) → List AnswerLineValue → Devices X F → Supply
+supply_in seen faults answers devices = record { lines = lines_in answers; devices = of_all seen devices; faults = of_all faults devices }
 
 -- ---- phases of a pause
 

@@ -2,7 +2,6 @@ ghost use Rattle.std.specs.Prelude.{◌≡◌, ◌<◌, ◌≤◌, ◌+◌, ◌-
 ghost use Rattle.std.specs.Option.{option_to_list};
 ghost use Rattle.wa_types.specs.declared.values.Value.TheVariants as V;
 ghost use Rattle.wa_model.specs.Configuration.{Activation, Configuration};
-ghost use Rattle.wa_model.specs.Outside.{AnswerLine};
 ghost use Rattle.wa_model.specs.Store.{Store};
 ghost use Rattle.wa_model.specs.Blocking.{Left as PlainLeft};
 ghost use Rattle.wa_model.specs.Protocol.{call_again, calling, entering, exports_of, give_answer, test_rewound};
@@ -10,6 +9,7 @@ ghost use Rattle.wa_model.specs.World.{Program};
 ghost use Rattle.run_laws.specs.FittingStates.{HeldFits};
 ghost use Rattle.interp.specs.Host.{code_in, store_in, waits_in};
 ghost use Rattle.interp.specs.Instance.{inside};
+ghost use Rattle.host_turns.specs.Supplies.{Supply};
 ghost use Rattle.host_moves.specs.Moves.{Comes, IsSetting};
 ghost use Rattle.host_moves.specs.Views.{entry_of, rewinding};
 
@@ -30,7 +30,7 @@ pub(crate) fn rewind(
     pause: Pause,
 ) -> Result<Moved, AllocError>
     requires { steps.old.left + steps.old.used < 2 ^ 64 }
-    ensures comes { (w : Program) (l : PlainLeft) (lines : List AnswerLine) → IsSetting w setting.now → code_in instance.old ≡ w.source → HeldFits w.source (calling (rewinding pause (store_in instance.old)) (store_in instance.old) (exports_of w.source).start_rewind (V.I32 w.plan.area.at ∷ []) call_again l) → IfOk result (λ m. Comes w (calling (rewinding pause (store_in instance.old)) (store_in instance.old) (exports_of w.source).start_rewind (V.I32 w.plan.area.at ∷ []) call_again l) steps.old.left (steps.new.used - steps.old.used) m lines lines l (store_in instance.new) (waits_in instance.new)) }
+    ensures comes { (w : Program) (l : PlainLeft) (supply : Supply) → IsSetting w setting.now → code_in instance.old ≡ w.source → HeldFits w.source (calling (rewinding pause (store_in instance.old)) (store_in instance.old) (exports_of w.source).start_rewind (V.I32 w.plan.area.at ∷ []) call_again l) → IfOk result (λ m. Comes w (calling (rewinding pause (store_in instance.old)) (store_in instance.old) (exports_of w.source).start_rewind (V.I32 w.plan.area.at ∷ []) call_again l) steps.old.left (steps.new.used - steps.old.used) m supply supply l (store_in instance.new) (waits_in instance.new)) }
     ensures code { code_in instance.new ≡ code_in instance.old }
     ensures sum { steps.new.left + steps.new.used ≡ steps.old.left + steps.old.used }
     ensures grows { steps.old.used ≤ steps.new.used }
@@ -51,7 +51,7 @@ fn call_again(
     pause: Pause,
 ) -> Result<Moved, AllocError>
     requires { steps.old.left + steps.old.used < 2 ^ 64 }
-    ensures comes { (w : Program) (l : PlainLeft) (lines : List AnswerLine) (since : Store) → IsSetting w setting.now → code_in instance.old ≡ w.source → HeldFits w.source (entering (rewinding pause since) (entry_of pause.entry) (store_in instance.old) l) → IfOk result (λ m. Comes w (entering (rewinding pause since) (entry_of pause.entry) (store_in instance.old) l) steps.old.left (steps.new.used - steps.old.used) m lines lines l (store_in instance.new) (waits_in instance.new)) }
+    ensures comes { (w : Program) (l : PlainLeft) (supply : Supply) (since : Store) → IsSetting w setting.now → code_in instance.old ≡ w.source → HeldFits w.source (entering (rewinding pause since) (entry_of pause.entry) (store_in instance.old) l) → IfOk result (λ m. Comes w (entering (rewinding pause since) (entry_of pause.entry) (store_in instance.old) l) steps.old.left (steps.new.used - steps.old.used) m supply supply l (store_in instance.new) (waits_in instance.new)) }
     ensures code { code_in instance.new ≡ code_in instance.old }
     ensures sum { steps.new.left + steps.new.used ≡ steps.old.left + steps.old.used }
     ensures grows { steps.old.used ≤ steps.new.used }
@@ -80,7 +80,7 @@ fn test_rewound(
     pause: Pause,
 ) -> Result<Moved, AllocError>
     requires { steps.old.left + steps.old.used < 2 ^ 64 }
-    ensures comes { (w : Program) (l : PlainLeft) (lines : List AnswerLine) (since at : Store) (here : Activation) (under : List Activation) → IsSetting w setting.now → code_in instance.old ≡ w.source → waits_in instance.old ≡ inside here under → HeldFits w.source (calling (rewinding pause since) (store_in instance.old) (exports_of w.source).get_state [] (test_rewound (record { store = at; here = here; under = under })) l) → IfOk result (λ m. Comes w (calling (rewinding pause since) (store_in instance.old) (exports_of w.source).get_state [] (test_rewound (record { store = at; here = here; under = under })) l) steps.old.left (steps.new.used - steps.old.used) m lines lines l (store_in instance.new) (waits_in instance.new)) }
+    ensures comes { (w : Program) (l : PlainLeft) (supply : Supply) (since at : Store) (here : Activation) (under : List Activation) → IsSetting w setting.now → code_in instance.old ≡ w.source → waits_in instance.old ≡ inside here under → HeldFits w.source (calling (rewinding pause since) (store_in instance.old) (exports_of w.source).get_state [] (test_rewound (record { store = at; here = here; under = under })) l) → IfOk result (λ m. Comes w (calling (rewinding pause since) (store_in instance.old) (exports_of w.source).get_state [] (test_rewound (record { store = at; here = here; under = under })) l) steps.old.left (steps.new.used - steps.old.used) m supply supply l (store_in instance.new) (waits_in instance.new)) }
     ensures code { code_in instance.new ≡ code_in instance.old }
     ensures sum { steps.new.left + steps.new.used ≡ steps.old.left + steps.old.used }
     ensures grows { steps.old.used ≤ steps.new.used }
@@ -106,7 +106,7 @@ fn stop_rewind(
     pause: Pause,
 ) -> Result<Moved, AllocError>
     requires { steps.old.left + steps.old.used < 2 ^ 64 }
-    ensures comes { (w : Program) (l : PlainLeft) (lines : List AnswerLine) (since at : Store) (here : Activation) (under : List Activation) → IsSetting w setting.now → code_in instance.old ≡ w.source → waits_in instance.old ≡ inside here under → HeldFits w.source (calling (rewinding pause since) (store_in instance.old) (exports_of w.source).stop_rewind [] (give_answer (record { store = at; here = here; under = under })) l) → IfOk result (λ m. Comes w (calling (rewinding pause since) (store_in instance.old) (exports_of w.source).stop_rewind [] (give_answer (record { store = at; here = here; under = under })) l) steps.old.left (steps.new.used - steps.old.used) m lines lines l (store_in instance.new) (waits_in instance.new)) }
+    ensures comes { (w : Program) (l : PlainLeft) (supply : Supply) (since at : Store) (here : Activation) (under : List Activation) → IsSetting w setting.now → code_in instance.old ≡ w.source → waits_in instance.old ≡ inside here under → HeldFits w.source (calling (rewinding pause since) (store_in instance.old) (exports_of w.source).stop_rewind [] (give_answer (record { store = at; here = here; under = under })) l) → IfOk result (λ m. Comes w (calling (rewinding pause since) (store_in instance.old) (exports_of w.source).stop_rewind [] (give_answer (record { store = at; here = here; under = under })) l) steps.old.left (steps.new.used - steps.old.used) m supply supply l (store_in instance.new) (waits_in instance.new)) }
     ensures code { code_in instance.new ≡ code_in instance.old }
     ensures sum { steps.new.left + steps.new.used ≡ steps.old.left + steps.old.used }
     ensures grows { steps.old.used ≤ steps.new.used }

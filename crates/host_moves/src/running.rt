@@ -1,7 +1,6 @@
 ghost use Rattle.std.specs.Prelude.{◌≡◌, ◌<◌, ◌≤◌, ◌+◌, ◌-◌, ◌^◌, ℕ, List, [], ◌∷◌, All, IfOk, OnOk, None, map, slice_get};
 ghost use Rattle.std.specs.Option.{option_map, option_to_list};
 ghost use Rattle.wa_types.specs.Modules.{func_imports};
-ghost use Rattle.wa_model.specs.Outside.{AnswerLine as PlainLine};
 ghost use Rattle.wa_model.specs.Store.{Store};
 ghost use Rattle.wa_model.specs.View.{answer_of};
 ghost use Rattle.wa_model.specs.Blocking.{Asker, Left as PlainLeft, Task as PlainTask, an_entry, fault_of, next_entry, the_start};
@@ -11,13 +10,16 @@ ghost use Rattle.run_laws.specs.FittingStates.{HeldFits};
 ghost use Rattle.interp.specs.Host.{code_in, store_in, waits_in};
 ghost use Rattle.interp.specs.Instance.{Calls};
 ghost use Rattle.host_answers.specs.Answering.{IsShort, listed_of};
+ghost use Rattle.host_turns.specs.Supplies.{Supply};
 ghost use Rattle.host_moves.specs.Moves.{Asks, Comes, ComesFrom, HasShortPokes, IsAsking, IsSetting, IsTask, PlaceFits, TaskTurn};
-ghost use Rattle.host_moves.specs.Views.{entry_of, free_place, left_of, lines_in, place_in, stage_after, stage_told, starts};
+ghost use Rattle.host_moves.specs.Views.{entry_of, free_place, left_of, lines_in, place_in, stage_after, stage_told, starts, supply_in};
 
+use crate::asking::next_outcome;
 use crate::ends::ended;
 use crate::memory::write_pokes;
 use crate::stages::{EntryCall, HostImport, Left, Moved, Pause, Setting, Stage, Task};
-use host_answers::{Met, answer_fault, next_answer};
+use device_port::Devices;
+use host_answers::{Met, answer_fault};
 use interp::{Instance, Steps, Turn};
 use std::alloc::AllocError;
 use std::collections::VecDeque;
@@ -30,20 +32,22 @@ pub fn start(
     instance: &mut Instance<'_>,
     left: &mut Left,
     answers: &mut VecDeque<AnswerLine>,
+    devices: &mut Devices<'_>,
     steps: &mut Steps,
     func: u32,
 ) -> Result<Moved, AllocError>
     requires { steps.old.left + steps.old.used < 2 ^ 64 }
-    ensures comes { (w : Program) → IsSetting w setting.now → code_in instance.old ≡ w.source → All HasShortPokes (lines_in answers.old.items) → HeldFits w.source (starting func (store_in instance.old) (left_of left.old)) → IfOk result (λ m. Comes w (starting func (store_in instance.old) (left_of left.old)) steps.old.left (steps.new.used - steps.old.used) m (lines_in answers.old.items) (lines_in answers.new.items) (left_of left.new) (store_in instance.new) (waits_in instance.new)) }
+    ensures comes { (w : Program) → IsSetting w setting.now → code_in instance.old ≡ w.source → All HasShortPokes (lines_in answers.old.items) → HeldFits w.source (starting func (store_in instance.old) (left_of left.old)) → IfOk result (λ m. Comes w (starting func (store_in instance.old) (left_of left.old)) steps.old.left (steps.new.used - steps.old.used) m (supply_in seen faults answers.old.items devices.old) (supply_in seen faults answers.new.items devices.new) (left_of left.new) (store_in instance.new) (waits_in instance.new)) }
     ensures code { code_in instance.new ≡ code_in instance.old }
     ensures sum { steps.new.left + steps.new.used ≡ steps.old.left + steps.old.used }
     ensures grows { steps.old.used ≤ steps.new.used }
+    ensures same_list { devices.new.list.ghost_name ≡ devices.old.list.ghost_name }
 {
     let turn = instance.begin(func, &[], steps)?;
     if (func as usize) < setting.imports.len() {
-        return start_asked(setting, instance, answers, turn);
+        return start_asked(setting, instance, answers, devices, turn);
     }
-    start_ran(setting, instance, left, answers, steps, turn)
+    start_ran(setting, instance, left, answers, devices, steps, turn)
 }
 
 // The start function is an import.
@@ -51,12 +55,21 @@ fn start_asked(
     setting: &Setting,
     instance: &Instance<'_>,
     answers: &mut VecDeque<AnswerLine>,
+    devices: &mut Devices<'_>,
     turn: Turn,
 ) -> Result<Moved, AllocError>
-    ensures { (w : Program) → IsSetting w setting.now → code_in instance.now ≡ w.source → All HasShortPokes (lines_in answers.old.items) → (s : Store) (func : ℕ) (l : PlainLeft) (left_then used : ℕ) → func < func_imports w.source → Calls w.source s func [] left_then used turn (store_in instance.now) (waits_in instance.now) → IfOk result (λ m. Comes w (starting func s l) left_then used m (lines_in answers.old.items) (lines_in answers.new.items) l (store_in instance.now) (waits_in instance.now)) }
+    ensures comes { (w : Program) → IsSetting w setting.now → code_in instance.now ≡ w.source → All HasShortPokes (lines_in answers.old.items) → (s : Store) (func : ℕ) (l : PlainLeft) (left_then used : ℕ) → func < func_imports w.source → Calls w.source s func [] left_then used turn (store_in instance.now) (waits_in instance.now) → IfOk result (λ m. Comes w (starting func s l) left_then used m (supply_in seen faults answers.old.items devices.old) (supply_in seen faults answers.new.items devices.new) l (store_in instance.now) (waits_in instance.now)) }
+    ensures same_list { devices.new.list.ghost_name ≡ devices.old.list.ghost_name }
 {
     match turn {
-        Turn::Waiting(call) => return called(setting, instance, answers, Task::Outermost, call),
+        Turn::Waiting(call) => return called(
+            setting,
+            instance,
+            answers,
+            devices,
+            Task::Outermost,
+            call,
+        ),
         Turn::StepsSpent => return ended(setting.alloc, End::StepsSpent(setting.steps)),
         _ => return Err(AllocError),
     }
@@ -68,18 +81,20 @@ fn start_ran(
     instance: &mut Instance<'_>,
     left: &mut Left,
     answers: &mut VecDeque<AnswerLine>,
+    devices: &mut Devices<'_>,
     steps: &mut Steps,
     turn: Turn,
 ) -> Result<Moved, AllocError>
     requires { steps.old.left + steps.old.used < 2 ^ 64 }
-    ensures comes { (w : Program) → IsSetting w setting.now → code_in instance.old ≡ w.source → All HasShortPokes (lines_in answers.old.items) → (h : Held) (left_then used : ℕ) → TaskTurn w h (left_of left.old) the_start left_then used turn (store_in instance.old) (waits_in instance.old) → steps.old.left + used ≡ left_then → HeldFits w.source h → IfOk result (λ m. Comes w h left_then (used + (steps.new.used - steps.old.used)) m (lines_in answers.old.items) (lines_in answers.new.items) (left_of left.new) (store_in instance.new) (waits_in instance.new)) }
+    ensures comes { (w : Program) → IsSetting w setting.now → code_in instance.old ≡ w.source → All HasShortPokes (lines_in answers.old.items) → (h : Held) (left_then used : ℕ) → TaskTurn w h (left_of left.old) the_start left_then used turn (store_in instance.old) (waits_in instance.old) → steps.old.left + used ≡ left_then → HeldFits w.source h → IfOk result (λ m. Comes w h left_then (used + (steps.new.used - steps.old.used)) m (supply_in seen faults answers.old.items devices.old) (supply_in seen faults answers.new.items devices.new) (left_of left.new) (store_in instance.new) (waits_in instance.new)) }
     ensures code { code_in instance.new ≡ code_in instance.old }
     ensures sum { steps.new.left + steps.new.used ≡ steps.old.left + steps.old.used }
     ensures grows { steps.old.used ≤ steps.new.used }
+    ensures same_list { devices.new.list.ghost_name ≡ devices.old.list.ghost_name }
 {
     match turn {
-        Turn::Returned(_) => call_next(setting, instance, left, answers, steps),
-        other => stopped(setting, instance, answers, Task::Start, other),
+        Turn::Returned(_) => call_next(setting, instance, left, answers, devices, steps),
+        other => stopped(setting, instance, answers, devices, Task::Start, other),
     }
 }
 
@@ -89,19 +104,21 @@ pub(crate) fn call_next(
     instance: &mut Instance<'_>,
     left: &mut Left,
     answers: &mut VecDeque<AnswerLine>,
+    devices: &mut Devices<'_>,
     steps: &mut Steps,
 ) -> Result<Moved, AllocError>
     requires { steps.old.left + steps.old.used < 2 ^ 64 }
-    ensures comes { (w : Program) → IsSetting w setting.now → code_in instance.old ≡ w.source → All HasShortPokes (lines_in answers.old.items) → PlaceFits w (free_place (left_of left.old) (store_in instance.old)) → IfOk result (λ m. ComesFrom w (free_place (left_of left.old) (store_in instance.old)) steps.old.left (steps.new.used - steps.old.used) m (lines_in answers.old.items) (lines_in answers.new.items) (left_of left.new) (store_in instance.new) (waits_in instance.new)) }
+    ensures comes { (w : Program) → IsSetting w setting.now → code_in instance.old ≡ w.source → All HasShortPokes (lines_in answers.old.items) → PlaceFits w (free_place (left_of left.old) (store_in instance.old)) → IfOk result (λ m. ComesFrom w (free_place (left_of left.old) (store_in instance.old)) steps.old.left (steps.new.used - steps.old.used) m (supply_in seen faults answers.old.items devices.old) (supply_in seen faults answers.new.items devices.new) (left_of left.new) (store_in instance.new) (waits_in instance.new)) }
     ensures code { code_in instance.new ≡ code_in instance.old }
     ensures sum { steps.new.left + steps.new.used ≡ steps.old.left + steps.old.used }
     ensures grows { steps.old.used ≤ steps.new.used }
+    ensures same_list { devices.new.list.ghost_name ≡ devices.old.list.ghost_name }
 {
     match left.entries.pop_front() {
         None => ended(setting.alloc, End::Done),
         Some(entry) => {
             let turn = instance.begin(entry.func, &entry.args, steps)?;
-            entry_ran(setting, instance, left, answers, entry, turn)
+            entry_ran(setting, instance, left, answers, devices, entry, turn)
         }
     }
 }
@@ -112,14 +129,23 @@ fn entry_ran(
     instance: &Instance<'_>,
     left: &mut Left,
     answers: &mut VecDeque<AnswerLine>,
+    devices: &mut Devices<'_>,
     entry: EntryCall,
     turn: Turn,
 ) -> Result<Moved, AllocError>
-    ensures { (w : Program) → IsSetting w setting.now → code_in instance.now ≡ w.source → All HasShortPokes (lines_in answers.old.items) → (h : Held) (left_then used : ℕ) → TaskTurn w h (left_of left.old) (an_entry (entry_of entry)) left_then used turn (store_in instance.now) (waits_in instance.now) → IfOk result (λ m. Comes w h left_then used m (lines_in answers.old.items) (lines_in answers.new.items) (left_of left.new) (store_in instance.now) (waits_in instance.now)) }
+    ensures comes { (w : Program) → IsSetting w setting.now → code_in instance.now ≡ w.source → All HasShortPokes (lines_in answers.old.items) → (h : Held) (left_then used : ℕ) → TaskTurn w h (left_of left.old) (an_entry (entry_of entry)) left_then used turn (store_in instance.now) (waits_in instance.now) → IfOk result (λ m. Comes w h left_then used m (supply_in seen faults answers.old.items devices.old) (supply_in seen faults answers.new.items devices.new) (left_of left.new) (store_in instance.now) (waits_in instance.now)) }
+    ensures same_list { devices.new.list.ghost_name ≡ devices.old.list.ghost_name }
 {
     match turn {
         Turn::Returned(value) => returned(left, value),
-        other => stopped(setting, instance, answers, Task::Entry(entry), other),
+        other => stopped(
+            setting,
+            instance,
+            answers,
+            devices,
+            Task::Entry(entry),
+            other,
+        ),
     }
 }
 
@@ -144,28 +170,32 @@ fn stopped(
     setting: &Setting,
     instance: &Instance<'_>,
     answers: &mut VecDeque<AnswerLine>,
+    devices: &mut Devices<'_>,
     task: Task,
     turn: Turn,
 ) -> Result<Moved, AllocError>
-    ensures { (w : Program) → IsSetting w setting.now → code_in instance.now ≡ w.source → All HasShortPokes (lines_in answers.old.items) → (t : PlainTask) (h : Held) (l : PlainLeft) (left_then used : ℕ) → IsTask task t → TaskTurn w h l t left_then used turn (store_in instance.now) (waits_in instance.now) → IfOk result (λ m. Comes w h left_then used m (lines_in answers.old.items) (lines_in answers.new.items) l (store_in instance.now) (waits_in instance.now)) }
+    ensures comes { (w : Program) → IsSetting w setting.now → code_in instance.now ≡ w.source → All HasShortPokes (lines_in answers.old.items) → (t : PlainTask) (h : Held) (l : PlainLeft) (left_then used : ℕ) → IsTask task t → TaskTurn w h l t left_then used turn (store_in instance.now) (waits_in instance.now) → IfOk result (λ m. Comes w h left_then used m (supply_in seen faults answers.old.items devices.old) (supply_in seen faults answers.new.items devices.new) l (store_in instance.now) (waits_in instance.now)) }
+    ensures same_list { devices.new.list.ghost_name ≡ devices.old.list.ghost_name }
 {
     match turn {
         Turn::Returned(_) => return Err(AllocError),
         Turn::Trapped(trap) => return ended(setting.alloc, End::Trapped(trap)),
-        Turn::Waiting(call) => return called(setting, instance, answers, task, call),
+        Turn::Waiting(call) => return called(setting, instance, answers, devices, task, call),
         Turn::StepsSpent => return ended(setting.alloc, End::StepsSpent(setting.steps)),
     }
 }
 
-// A new call of an import is told, and meets the next answer line.
+// A new call of an import is told, and meets an outcome.
 fn called(
     setting: &Setting,
     instance: &Instance<'_>,
     answers: &mut VecDeque<AnswerLine>,
+    devices: &mut Devices<'_>,
     task: Task,
     call: Call,
 ) -> Result<Moved, AllocError>
-    ensures { (w : Program) → IsSetting w setting.now → code_in instance.now ≡ w.source → All HasShortPokes (lines_in answers.old.items) → (who : Asker) (h : Held) (l : PlainLeft) (left_then used : ℕ) → Asks w h used call.import call.args.items who l → used ≤ left_then → IsAsking task (waits_in instance.now) (store_in instance.now) who → IfOk result (λ m. Comes w h left_then used m (lines_in answers.old.items) (lines_in answers.new.items) l (store_in instance.now) (waits_in instance.now)) }
+    ensures comes { (w : Program) → IsSetting w setting.now → code_in instance.now ≡ w.source → All HasShortPokes (lines_in answers.old.items) → (who : Asker) (h : Held) (l : PlainLeft) (left_then used : ℕ) → Asks w h used call.import call.args.items who l → used ≤ left_then → IsAsking task (waits_in instance.now) (store_in instance.now) who → IfOk result (λ m. Comes w h left_then used m (supply_in seen faults answers.old.items devices.old) (supply_in seen faults answers.new.items devices.new) l (store_in instance.now) (waits_in instance.now)) }
+    ensures same_list { devices.new.list.ghost_name ≡ devices.old.list.ghost_name }
 {
     let Some(import) = setting.imports.get(call.import as usize) else {
         return Err(AllocError);
@@ -174,8 +204,7 @@ fn called(
         return Err(AllocError);
     };
     let size = memory.len() as u64;
-    let name = import.name.as_str();
-    match next_answer(setting.alloc, call.import, name, answers)? {
+    match next_outcome(setting, import, &call, answers, devices)? {
         Met::Refused(end) => {
             let stage = Stage::Ending(end);
             let event = Event::Called(call);
@@ -259,7 +288,7 @@ pub(crate) fn tell_answer(
     task: Task,
     answer: Answer,
 ) -> Result<Moved, AllocError>
-    ensures comes { (w : Program) (l : PlainLeft) (lines : List PlainLine) (left_then : ℕ) → PlaceFits w (place_in (exports_of w.source) w.plan.area l (store_in instance.old) (waits_in instance.old) (Stage.Answering task answer)) → IfOk result (λ m. ComesFrom w (place_in (exports_of w.source) w.plan.area l (store_in instance.old) (waits_in instance.old) (Stage.Answering task answer)) left_then 0 m lines lines l (store_in instance.new) (waits_in instance.new)) }
+    ensures comes { (w : Program) (l : PlainLeft) (supply : Supply) (left_then : ℕ) → PlaceFits w (place_in (exports_of w.source) w.plan.area l (store_in instance.old) (waits_in instance.old) (Stage.Answering task answer)) → IfOk result (λ m. ComesFrom w (place_in (exports_of w.source) w.plan.area l (store_in instance.old) (waits_in instance.old) (Stage.Answering task answer)) left_then 0 m supply supply l (store_in instance.new) (waits_in instance.new)) }
     ensures code { code_in instance.new ≡ code_in instance.old }
 {
     write_pokes(instance, &answer.pokes)?;
@@ -292,23 +321,25 @@ pub(crate) fn give(
     instance: &mut Instance<'_>,
     left: &mut Left,
     answers: &mut VecDeque<AnswerLine>,
+    devices: &mut Devices<'_>,
     steps: &mut Steps,
     task: Task,
     value: Option<Value>,
 ) -> Result<Moved, AllocError>
     requires { steps.old.left + steps.old.used < 2 ^ 64 }
-    ensures comes { (w : Program) → IsSetting w setting.now → code_in instance.old ≡ w.source → All HasShortPokes (lines_in answers.old.items) → PlaceFits w (place_in (exports_of w.source) w.plan.area (left_of left.old) (store_in instance.old) (waits_in instance.old) (Stage.Giving task value)) → IfOk result (λ m. ComesFrom w (place_in (exports_of w.source) w.plan.area (left_of left.old) (store_in instance.old) (waits_in instance.old) (Stage.Giving task value)) steps.old.left (steps.new.used - steps.old.used) m (lines_in answers.old.items) (lines_in answers.new.items) (left_of left.new) (store_in instance.new) (waits_in instance.new)) }
+    ensures comes { (w : Program) → IsSetting w setting.now → code_in instance.old ≡ w.source → All HasShortPokes (lines_in answers.old.items) → PlaceFits w (place_in (exports_of w.source) w.plan.area (left_of left.old) (store_in instance.old) (waits_in instance.old) (Stage.Giving task value)) → IfOk result (λ m. ComesFrom w (place_in (exports_of w.source) w.plan.area (left_of left.old) (store_in instance.old) (waits_in instance.old) (Stage.Giving task value)) steps.old.left (steps.new.used - steps.old.used) m (supply_in seen faults answers.old.items devices.old) (supply_in seen faults answers.new.items devices.new) (left_of left.new) (store_in instance.new) (waits_in instance.new)) }
     ensures code { code_in instance.new ≡ code_in instance.old }
     ensures sum { steps.new.left + steps.new.used ≡ steps.old.left + steps.old.used }
     ensures grows { steps.old.used ≤ steps.new.used }
+    ensures same_list { devices.new.list.ghost_name ≡ devices.old.list.ghost_name }
 {
     if !instance.is_waiting() {
         return Err(AllocError);
     }
     let turn = instance.resume(value, steps)?;
     match task {
-        Task::Entry(entry) => entry_ran(setting, instance, left, answers, entry, turn),
-        Task::Start => start_ran(setting, instance, left, answers, steps, turn),
+        Task::Entry(entry) => entry_ran(setting, instance, left, answers, devices, entry, turn),
+        Task::Start => start_ran(setting, instance, left, answers, devices, steps, turn),
         Task::Outermost => Err(AllocError),
     }
 }

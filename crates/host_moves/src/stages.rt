@@ -13,19 +13,21 @@ pub struct Exports {
     pub get_state: u32,
 }
 
-/// An imported function as a host sees it: its joined name, and its result where it has one.
+/// An imported function as a host sees it: its joined name, its base name, and its result where it has one.
 #[derive(Debug, Drop)]
 pub struct HostImport {
     pub name: Name,
+    pub base: Name,
     pub result: Option<ValType>,
 }
 
-/// What stays of a program on its way: its imported functions, which of them are listed where that is told, its area, the
-/// exports that the host calls, and its number of steps.
+/// What stays of a program on its way: its imported functions, the devices to which they are bound, which of them are listed where
+/// that is told, its area, the exports that the host calls, and its number of steps.
 #[derive(Drop)]
 pub struct Setting {
     pub alloc: Global,
     pub imports: Vec<HostImport>,
+    pub binds: Vec<Option<Name>>,
     pub listed: Option<Vec<bool>>,
     pub area: Area,
     pub exports: Exports,

@@ -49,7 +49,7 @@ none_left : (m : Module) (import : ℕ) (args : List Value) (bound : Option (Lis
 none_left m import args (Some name) lines lines' o ds h = h.0.1
 none_left m import args None lines lines' o ds h = h.1
 
-still_none : (w : Program) (c : Option Call) (met : List Outcome) (old new : Supply) → Takes w c old met new → old.devices ≡ [] → new.devices ≡ []
+pub still_none : (w : Program) (c : Option Call) (met : List Outcome) (old new : Supply) → Takes w c old met new → old.devices ≡ [] → new.devices ≡ []
 still_none w None met old new t none = ap (λ (z : Supply). z.devices) t.1 ∙ none
 still_none w (Some c) met old new t none =
     none_left w.source c.import c.args (bound_to w c.import) old.lines new.lines t.0 new.devices

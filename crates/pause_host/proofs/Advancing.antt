@@ -1,5 +1,5 @@
 -- A program that tells one event more.
-use Rattle.std.proofs.Common.{◌≡◌, ◌≤◌, ◌<◌, ℕ, ◌+◌, ◌-◌, ◌++◌, List, [], ◌∷◌, map, length, Option, Some, None, Bool, true, false, cond, All, refl, sym, ap, ◌∙◌, subst, arith}
+use Rattle.std.proofs.Common.{◌≡◌, ℕ, ◌-◌, ◌++◌, List, [], ◌∷◌, length, Option, Some, None, Bool, true, false, cond, All, refl, sym, ap, ◌∙◌, subst, arith}
 use Rattle.std.specs.Prelude.{MatchBool, nat_lt}
 use Rattle.std.specs.Option.{unwrap_or}
 use Rattle.std.proofs.lemmas.List.Elements.{All-nil, All-tail}
@@ -10,7 +10,7 @@ use Rattle.wa_model.specs.declared.events.End.TheVariants as E
 use Rattle.wa_model.specs.declared.events.Event.{Event as EventValue}
 use Rattle.wa_model.specs.declared.events.Event.TheVariants as EV
 use Rattle.wa_model.specs.Outside.{Answer, Call, AnswerLine, Event, called, answered, paused, returned, ended, shown}
-use Rattle.wa_model.specs.View.{answer_of, event_of}
+use Rattle.wa_model.specs.View.{answer_of}
 use Rattle.wa_model.specs.Store.{Store}
 use Rattle.wa_model.specs.Plan.{Outcome, given, refused}
 use Rattle.wa_model.specs.Fitting.{types_of, global_types}
@@ -25,24 +25,25 @@ use Rattle.interp.specs.Instance as I
 use Rattle.interp.specs.Instance.{Waits}
 use Rattle.wa_model.specs.Protocol.{Held, exports_of, over, store_held}
 use Rattle.wa_model.specs.World as W
-use Rattle.wa_model.specs.World.{MeetsLine, name_at, import_names, call_in, is_end}
+use Rattle.wa_model.specs.World.{CallsMeet, MeetsBound, MeetsLine, name_at, import_names, call_in, is_end, protocol_story}
+use Rattle.wa_model.specs.Behaves.{IsPrefix}
 use Rattle.run_laws.specs.FittingStates.{HeldFits, ExportsTyped}
-use Rattle.host_turns.specs.Stretch.{Stretch}
-use Rattle.host_turns.specs.Places.{Place, stands, has_ended, nowhere, Takes, Lands, goes_on, ends, spends, Tells, TellsFrom}
-use Rattle.host_turns.specs.Stories.{Told, IsStory}
+use Rattle.host_turns.specs.Places.{Place, stands, has_ended, nowhere, Lands, goes_on, ends, spends}
+use Rattle.host_turns.specs.Stories.{IsAt, BeginsStory, IsStory}
+use Rattle.host_turns.specs.Supplies.{Supply, bound_to, Takes}
 use Rattle.host_turns.proofs.Stretches.{nowhere_on}
-use Rattle.host_turns.proofs.Tellings.{one_more_told, told_whole}
+use Rattle.host_turns.proofs.Tellings.{one_more_told, one_more_met, place_begins, place_whole, still_none}
 use Rattle.host_moves.specs.Moves.{Moves, IsSetting, PlaceFits, HasShortPokes}
 use Rattle.host_moves.specs.declared.stages.Stage.{Stage}
 use Rattle.host_moves.specs.declared.stages.Stage.TheVariants as S
 use Rattle.host_moves.specs.declared.stages.Task.{Task}
 use Rattle.host_moves.specs.declared.stages.Task.TheVariants as T
-use Rattle.host_moves.specs.Views.{exports_in, entry_of, lines_in, with_asker, answering, giving, place_in, end_of}
+use Rattle.host_moves.specs.Views.{exports_in, entry_of, with_asker, answering, giving, place_in, end_of}
 use Rattle.host_moves.proofs.Comings.{fits_on}
 use Rattle.pause_host.specs.declared.program.Program.{Program}
 use Rattle.pause_host.specs.declared.program.State.{State}
 use Rattle.pause_host.specs.declared.program.State.TheVariants.{Live}
-use Rattle.pause_host.specs.Programs.{place_of, store_of, memory_at, memory_in, end_at, end_in, ended_as, RunsCode, FollowsAt, Follows, Advances}
+use Rattle.pause_host.specs.Programs.{place_of, store_of, memory_at, memory_in, end_at, end_in, ended_as, RunsCode, lines_left, FollowsAt, Follows, Advances, FollowsAlone, AdvancesAlone}
 
 no_end : (e : Event) → is_end e ≡ false → end_in e ≡ None
 no_end (called c) h = refl
@@ -71,51 +72,94 @@ module _ (w : W.Program) where
       by_name true m = subst (All HasShortPokes) (sym m.1) (All-tail HasShortPokes l ls k)
       by_name false m = subst (All HasShortPokes) (sym m.1) k
 
-  pokes_then : (c : Option Call) (lines : List AnswerLine) (os : List Outcome) (lines' : List AnswerLine) → Takes w.source c lines os lines' → All HasShortPokes lines → All HasShortPokes lines'
-  pokes_then None lines os lines' t k = subst (All HasShortPokes) (sym t.1) k
-  pokes_then (Some c) lines os lines' t k = line_taken c.import (name_at (import_names w.source) c.import) lines t.0 lines' t.2 k
+  bound_taken : (import : ℕ) (args : List Value) (bound : Option (List ℕ)) (lines lines' : List AnswerLine) (ds ds' : List W.Device) (o : Outcome) → MeetsBound w.source import args bound lines ds o lines' ds' → All HasShortPokes lines → All HasShortPokes lines'
+  bound_taken import args (Some name) lines lines' ds ds' o h k = subst (All HasShortPokes) (sym h.1) k
+  bound_taken import args None lines lines' ds ds' o h k = line_taken import (name_at (import_names w.source) import) lines o lines' h.0 k
+
+  pokes_then : (c : Option Call) (old : Supply) (os : List Outcome) (new : Supply) → Takes w c old os new → All HasShortPokes old.lines → All HasShortPokes new.lines
+  pokes_then None old os new t k = subst (λ (z : Supply). All HasShortPokes z.lines) (sym t.1) k
+  pokes_then (Some c) old os new t k = bound_taken c.import c.args (bound_to w c.import) old.lines new.lines old.devices new.devices t.0 t.2.meets k
 
   -- The program x' is the program x with one note more.
-  pub advanced : (notes : List Note) (x x' : Program) (from to : Place) (event : EventValue) (s : Store) (used : ℕ) (lines' : List AnswerLine) → FollowsAt w notes x from → Moves w from x.steps_left (lines_in x.answers.items) event s used lines' to
-      → module_of x'.valid.now ≡ module_of x.valid.now → x'.setting ≡ x.setting → x'.globals ≡ x.globals → lines_in x'.answers.items ≡ lines' → x'.steps_left ≡ x.steps_left - used
-      → place_of x' x'.state ≡ to → store_of x'.state ≡ s → memory_in x' ≡ s.memory → RunsCode w.source x'.state → Advances w notes event x'
-  advanced notes x x' (stands ready h) to event s used lines' f m same_code same_setting same_globals same_lines same_steps same_place same_store same_memory code =
+  pub advanced : (notes : List Note) (os : List Outcome) (x x' : Program) (from to : Place) (event : EventValue) (s : Store) (used : ℕ) (old new : Supply) → FollowsAt w notes os x from → Moves w from x.steps_left old event s used new to
+      → old.lines ≡ lines_left x → module_of x'.valid.now ≡ module_of x.valid.now → x'.setting ≡ x.setting → x'.globals ≡ x.globals → lines_left x' ≡ new.lines → x'.steps_left ≡ x.steps_left - used
+      → place_of x' x'.state ≡ to → store_of x'.state ≡ s → memory_in x' ≡ s.memory → RunsCode w.source x'.state → Advances w notes os event old new x'
+  advanced notes os x x' (stands ready h) to event s used old new f m old_lines same_code same_setting same_globals same_lines same_steps same_place same_store same_memory code =
       let t = m.tells in
+      let more = one_more_told w notes os x.steps_left (stands ready h) old m.note used new to f.told t in
       record {
         note = m.note;
+        met = more.0;
         event_is = m.event_is;
         store_is = m.store_is ∙ sym same_store;
         memory_is = same_memory ∙ ap (λ (z : Store). z.memory) (sym m.store_is);
         ended_is = ap end_at same_place ∙ end_told ready h t.outcomes x.steps_left m.note used to t.lands;
+        takes = more.1;
         follows = record {
           at = record {
             source = f.source ∙ sym same_code;
-            unbound = f.unbound;
             setting = subst (IsSetting w) (sym same_setting) f.setting;
             globals = subst (λ g. types_of g.items ≡ global_types (imported imported_global w.source)) (sym same_globals) f.globals;
-            pokes = subst (All HasShortPokes) (sym same_lines) (pokes_then (call_in m.note.event) (lines_in x.answers.items) t.outcomes lines' t.takes f.pokes);
+            pokes = subst (All HasShortPokes) (sym same_lines) (pokes_then (call_in m.note.event) old t.outcomes new t.takes (subst (All HasShortPokes) (sym old_lines) f.pokes));
             fits = subst (PlaceFits w) (sym same_place) (fits_then ready h t.outcomes x.steps_left m.note used to f.setting.valid f.setting.typed f.fits t.lands);
-            told = subst (Told w (notes ++ m.note ∷ []) x'.steps_left (lines_in x'.answers.items)) (sym same_place)
-                (subst (λ ls. Told w (notes ++ m.note ∷ []) x'.steps_left ls to) (sym same_lines)
-                (subst (λ n. Told w (notes ++ m.note ∷ []) n lines' to) (sym same_steps)
-                (one_more_told w notes x.steps_left (lines_in x.answers.items) (stands ready h) m.note used lines' to f.unbound f.told t)));
+            told = subst (IsAt w (notes ++ m.note ∷ []) (os ++ more.0) x'.steps_left) (sym same_place)
+                (subst (λ n. IsAt w (notes ++ m.note ∷ []) (os ++ more.0) n to) (sym same_steps) more.2);
           };
           code = code;
         };
       }
-  advanced notes x x' (has_ended how) to event s used lines' f m same_code same_setting same_globals same_lines same_steps same_place same_store same_memory code = absurd m.tells
-  advanced notes x x' nowhere to event s used lines' f m same_code same_setting same_globals same_lines same_steps same_place same_store same_memory code = absurd m.tells
+  advanced notes os x x' (has_ended how) to event s used old new f m old_lines same_code same_setting same_globals same_lines same_steps same_place same_store same_memory code = absurd m.tells
+  advanced notes os x x' nowhere to event s used old new f m old_lines same_code same_setting same_globals same_lines same_steps same_place same_store same_memory code = absurd m.tells
 
 -- ---- for those above
 
--- once the end was told, the notes are a whole story
-pub whole_of_follows : (w : W.Program) (notes : List Note) (x : Program) (how : End) → Follows w notes x → ended_as x ≡ Some how → IsStory w notes
-whole_of_follows w notes x how f e = by_place (place_of x x.state) f.at.told e
+-- once the end was told, the notes are a whole story,
+pub whole_of_follows : (w : W.Program) (notes : List Note) (os : List Outcome) (x : Program) (how : End) → Follows w notes os x → ended_as x ≡ Some how → notes ≡ protocol_story w os
+whole_of_follows w notes os x how f e = by_place (place_of x x.state) f.at.told e
   where
-    by_place : (at : Place) → Told w notes x.steps_left (lines_in x.answers.items) at → end_at at ≡ Some how → IsStory w notes
+    by_place : (at : Place) → IsAt w notes os x.steps_left at → end_at at ≡ Some how → notes ≡ protocol_story w os
     by_place (stands ready h) t z = cc
-    by_place (has_ended end) t z = told_whole w notes x.steps_left (lines_in x.answers.items) end t
+    by_place (has_ended end) t z = place_whole w notes os x.steps_left end t
     by_place nowhere t z = cc
+
+-- and before a beginning of one, whatever later calls meet
+pub begins_of_follows : (w : W.Program) (notes : List Note) (os : List Outcome) (x : Program) → Follows w notes os x → (more : List Outcome) → IsPrefix notes (protocol_story w (os ++ more))
+begins_of_follows w notes os x f more = place_begins w notes os x.steps_left (place_of x x.state) f.at.told more
+
+-- ---- alone
+
+pub starts_alone : (w : W.Program) (x : Program) → Follows w [] [] x → lines_left x ≡ w.answers → FollowsAlone w [] x
+starts_alone w x f e = record { outcomes = []; meets = (refl, e, refl); follows = f }
+
+pub advances_alone : (w : W.Program) (notes : List Note) (x x' : Program) (event : EventValue) (old new : Supply) (f : FollowsAlone w notes x) → old.lines ≡ lines_left x → old.devices ≡ [] → new.lines ≡ lines_left x'
+    → Advances w notes f.outcomes event old new x' → AdvancesAlone w notes event x' × (new.devices ≡ [])
+advances_alone w notes x x' event old new f old_lines none new_lines a =
+    let left_none : new.devices ≡ [] = still_none w (call_in a.note.event) a.met old new a.takes none in
+    let chain : CallsMeet w notes f.outcomes w.answers [] [] old.lines old.devices =
+    subst (λ ds. CallsMeet w notes f.outcomes w.answers [] [] old.lines ds) (sym none) (subst (λ ls. CallsMeet w notes f.outcomes w.answers [] [] ls []) (sym old_lines) f.meets) in
+    let meets = one_more_met w notes f.outcomes a.met w.answers [] a.note old new chain a.takes in (
+      record {
+        note = a.note;
+        event_is = a.event_is;
+        store_is = a.store_is;
+        memory_is = a.memory_is;
+        ended_is = a.ended_is;
+        follows = record {
+          outcomes = f.outcomes ++ a.met;
+          meets = subst (λ ls. CallsMeet w (notes ++ a.note ∷ []) (f.outcomes ++ a.met) w.answers [] [] ls []) new_lines
+              (subst (λ ds. CallsMeet w (notes ++ a.note ∷ []) (f.outcomes ++ a.met) w.answers [] [] new.lines ds) left_none meets);
+          follows = a.follows;
+        };
+      },
+      left_none,
+    )
+
+-- what it has told begins a story, and is a whole one once the end was told
+pub story_begun : (w : W.Program) (notes : List Note) (x : Program) → FollowsAlone w notes x → BeginsStory w notes
+story_begun w notes x f = record { outcomes = f.outcomes; lines = lines_left x; meets = f.meets; begins = begins_of_follows w notes f.outcomes x f.follows }
+
+pub story_told : (w : W.Program) (notes : List Note) (x : Program) (how : End) → FollowsAlone w notes x → ended_as x ≡ Some how → IsStory w notes
+story_told w notes x how f e = record { outcomes = f.outcomes; lines = lines_left x; meets = f.meets; story = whole_of_follows w notes f.outcomes x how f.follows e }
 
 -- ---- stages and places
 
@@ -164,12 +208,12 @@ memory_told w x instance stage is code = by_test (nat_lt 0 (length (all_memories
     by_test false e = cc
 
 -- the same of a program in another state
-pub in_state : (w : W.Program) (notes : List Note) (x : Program) (st : State) (place : Place) → FollowsAt w notes x place → FollowsAt w notes (record x { state = st }) place
-in_state w notes x st place f = record { source = f.source; unbound = f.unbound; setting = f.setting; globals = f.globals; pokes = f.pokes; fits = f.fits; told = f.told }
+pub in_state : (w : W.Program) (notes : List Note) (os : List Outcome) (x : Program) (st : State) (place : Place) → FollowsAt w notes os x place → FollowsAt w notes os (record x { state = st }) place
+in_state w notes os x st place f = record { source = f.source; setting = f.setting; globals = f.globals; pokes = f.pokes; fits = f.fits; told = f.told }
 
 -- an end that is told without an instance
-pub failed_moves : (w : W.Program) (left : ℕ) (lines : List AnswerLine) (end told : End) → told ≡ end → Moves w (stands (note (ended end) no_store ∷ []) (over no_store)) left lines (EV.Ended told) no_store 0 lines (has_ended end)
-failed_moves w left lines end told e = record {
+pub failed_moves : (w : W.Program) (left : ℕ) (supply : Supply) (end told : End) → told ≡ end → Moves w (stands (note (ended end) no_store ∷ []) (over no_store)) left supply (EV.Ended told) no_store 0 supply (has_ended end)
+failed_moves w left supply end told e = record {
   note = note (ended end) no_store;
   event_is = ap ended (sym e);
   store_is = refl;

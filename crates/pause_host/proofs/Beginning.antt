@@ -1,5 +1,5 @@
 -- A program of a plan that is set up has told nothing yet.
-use Rattle.std.proofs.Common.{◌≡◌, ◌≤◌, ◌<◌, ℕ, zero, suc, ◌+◌, ◌*◌, ◌++◌, List, [], ◌∷◌, length, map, Option, Some, None, Result, Ok, Err, Bool, true, false, All, nat_le, refl, sym, ap, ◌∙◌, subst, arith}
+use Rattle.std.proofs.Common.{◌≡◌, ◌≤◌, ℕ, zero, suc, ◌+◌, ◌*◌, ◌++◌, List, [], ◌∷◌, length, map, Option, Some, None, Ok, Bool, true, false, All, nat_le, refl, sym, ap, ◌∙◌, subst, arith}
 use Rattle.std.specs.Prelude.{◌&&◌, ◌==◌, ◌%◌, nat_lt, slice_get}
 use Rattle.std.specs.Option.{option_map, option_to_list}
 use Rattle.std.specs.Global.{Vec}
@@ -11,12 +11,12 @@ use Rattle.wa_types.specs.declared.values.Value.{Value}
 use Rattle.wa_types.specs.declared.syntax.Limits.{Limits}
 use Rattle.wa_types.specs.Syntax.{FuncType, Module}
 use Rattle.wa_types.specs.Memory.{page_size}
-use Rattle.wa_types.specs.Modules.{imported, imported_func, imported_global, all_memories, func_imports, func_sorts, or_empty, type_at, func_type_at}
+use Rattle.wa_types.specs.Modules.{imported, imported_func, imported_global, all_memories, func_sorts, or_empty, type_at, func_type_at}
 use Rattle.wa_types.specs.Validity.{Valid}
 use Rattle.wa_types.specs.View.{module_of}
 use Rattle.wa_model.specs.declared.answers.Area.{Area}
 use Rattle.wa_model.specs.Plan.{Entry}
-use Rattle.wa_model.specs.Instantiation.{least_of, opening, opens}
+use Rattle.wa_model.specs.Instantiation.{least_of, opening}
 use Rattle.wa_model.specs.Fitting.{types_of, global_types}
 use Rattle.wa_model.specs.Blocking.{Left, all_left}
 use Rattle.wa_model.specs.Protocol.{held_begun}
@@ -26,12 +26,12 @@ use Rattle.wa_model.proofs.FittingNames.{type_small}
 use Rattle.wa_model.proofs.FittingOpenings.{openings_fit}
 use Rattle.wa_model.proofs.NamedModules.{valid_instance}
 use Rattle.stack_laws.proofs.SpotRuns.{start_takes_none}
-use Rattle.run_laws.specs.FittingStates.{HeldFits, EntryTyped}
+use Rattle.run_laws.specs.FittingStates.{HeldFits}
 use Rattle.run_laws.proofs.ProtocolStopping.{begun_fits}
 use Rattle.run_laws.proofs.Stopping.{start_there}
-use Rattle.host_setup.specs.SetUp.{NamedEntry, is_area_in, least_pages, set_up}
+use Rattle.host_setup.specs.SetUp.{is_area_in, set_up}
 use Rattle.host_turns.specs.Places.{Place, stands}
-use Rattle.host_turns.specs.Stories.{opened, Told}
+use Rattle.host_turns.specs.Stories.{opened, IsAt}
 use Rattle.host_turns.proofs.Tellings.{nothing_told_yet}
 use Rattle.host_moves.specs.declared.stages.HostImport.{HostImport}
 use Rattle.host_moves.specs.declared.stages.Setting.{Setting}
@@ -103,7 +103,7 @@ module _ (x : Plan) (funcs : List ℕ) (looks : List Look) (plan : IsPlan x) (v 
   fine : SetUpFine p v x.area (named_entries x) funcs
   fine = set_up_fine p v x.area (named_entries x) funcs up
 
-  setting_is : (setting : Setting) → MakesSetting p x.listed x.area x.steps setting → IsSetting w setting
+  setting_is : (setting : Setting) → MakesSetting p x.listed x.binds x.area x.steps setting → IsSetting w setting
   setting_is setting m = record {
     valid = v;
     typed = fine.exports;
@@ -113,6 +113,8 @@ module _ (x : Plan) (funcs : List ℕ) (looks : List Look) (plan : IsPlan x) (v 
     listed = ap (option_map (λ (l : Vec Bool). l.items)) (sym m.listed_is);
     steps = sym m.steps_are;
     names = sym m.names;
+    bases = sym m.bases;
+    binds = sym (ap (λ (b : Vec (Option (List ℕ))). b.items) m.binds_are);
     results = results_told p v setting.imports.items m.results;
     all = sym (length-map setting.imports.items (λ (i : HostImport). i.result)) ∙ ap length m.results ∙ length-map (imported imported_func p) (λ sort. slice_get (type_at p sort).results 0);
   }
@@ -123,9 +125,9 @@ module _ (x : Plan) (funcs : List ℕ) (looks : List Look) (plan : IsPlan x) (v 
       (begun_fits p v w.plan fine.exports (all_left w.plan []) (opening p x.globals.items) p.start 0 fine.entries (λ s o. openings_fit p x.globals.items s v plan.globals o)
       (λ f o. (start_takes_none p f v o, start_there p f p.start (valid_instance p v).start o))).1
 
-  pub follows : (program : Program) → module_of program.valid.now ≡ p → program.globals ≡ x.globals → MakesSetting p x.listed x.area x.steps program.setting → program.left.number ≡ 0 → map entry_of program.left.entries.items ≡ calls_of (named_entries x) funcs
-      → program.answers.items ≡ x.answers.items → program.steps_left ≡ x.steps → program.state ≡ Fresh → Follows w [] program
-  follows program code globals made number entries answers steps fresh = record { at = subst (λ st. FollowsAt w [] program (place_of program st)) (sym fresh) at; code = subst (RunsCode w.source) (sym fresh) tt }
+  pub follows : (program : Program) → module_of program.valid.now ≡ p → program.globals ≡ x.globals → MakesSetting p x.listed x.binds x.area x.steps program.setting → program.left.number ≡ 0 → map entry_of program.left.entries.items ≡ calls_of (named_entries x) funcs
+      → program.answers.items ≡ x.answers.items → program.steps_left ≡ x.steps → program.state ≡ Fresh → Follows w [] [] program
+  follows program code globals made number entries answers steps fresh = record { at = subst (λ st. FollowsAt w [] [] program (place_of program st)) (sym fresh) at; code = subst (RunsCode w.source) (sym fresh) tt }
     where
       left : left_of program.left ≡ all_left w.plan []
       left = ap (λ n. left_with n (map entry_of program.left.entries.items)) number ∙ ap (left_with 0) entries
@@ -136,15 +138,13 @@ module _ (x : Plan) (funcs : List ℕ) (looks : List Look) (plan : IsPlan x) (v 
           ∙ ap (λ l. begin p l program.globals.items) left
           ∙ ap (λ g. begin p (all_left w.plan []) g.items) globals
 
-      at : FollowsAt w [] program (place_of program Fresh)
+      at : FollowsAt w [] [] program (place_of program Fresh)
       at = record {
         source = sym code;
-        unbound = λ import. refl;
         setting = setting_is program.setting made;
         globals = subst (λ g. types_of g.items ≡ global_types (imported imported_global p)) (sym globals) plan.globals;
         pokes = subst (λ xs. All HasShortPokes (lines_in xs)) (sym answers) plan.pokes;
         fits = subst (PlaceFits w) (sym place_is) (begun (all_left w.plan []) refl);
-        told = subst (Told w [] program.steps_left (lines_in program.answers.items)) (sym place_is)
-            (subst (λ xs. Told w [] program.steps_left (lines_in xs) (stands (opened w.source w.plan).events (opened w.source w.plan).last)) (sym answers)
-            (subst (λ n. Told w [] n w.answers (stands (opened w.source w.plan).events (opened w.source w.plan).last)) (sym steps) (nothing_told_yet w)));
+        told = subst (IsAt w [] [] program.steps_left) (sym place_is)
+            (subst (λ n. IsAt w [] [] n (stands (opened w.source w.plan).events (opened w.source w.plan).last)) (sym steps) (nothing_told_yet w));
       }

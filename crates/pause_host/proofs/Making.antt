@@ -1,5 +1,5 @@
 -- What a plan that is set up says of its module: the five exports and the entries are functions that can be called.
-use Rattle.std.proofs.Common.{◌≡◌, ◌≤◌, ◌<◌, ℕ, zero, suc, ◌+◌, ◌*◌, ◌-◌, ◌++◌, List, [], ◌∷◌, length, map, Option, Some, None, Result, Ok, Err, Bool, true, false, cond, not, All, nat_le, refl, sym, ap, ◌∙◌, subst, arith}
+use Rattle.std.proofs.Common.{◌≡◌, ◌≤◌, ◌<◌, ℕ, zero, suc, ◌+◌, ◌++◌, List, [], ◌∷◌, length, map, Option, Some, None, Ok, Bool, true, false, cond, not, All, nat_le, refl, sym, ap, ◌∙◌, subst, arith}
 use Rattle.std.specs.Prelude.{◌&&◌, nat_lt, slice_get, codes, position}
 use Rattle.std.specs.List.{find, filter_map, cons_option, list_all, prefix_len, position_or_len}
 use Rattle.std.specs.Option.{is_none, unwrap_or}
@@ -9,7 +9,6 @@ use Rattle.std.proofs.lemmas.List.Folds.{list_all-append}
 use Rattle.wa_types.specs.declared.values.ValType.{ValType}
 use Rattle.wa_types.specs.declared.values.ValType.TheVariants.{I32}
 use Rattle.wa_types.specs.declared.values.Value.{Value}
-use Rattle.wa_types.specs.declared.syntax.Elem.{Elem as ElemValue}
 use Rattle.wa_types.specs.declared.syntax.Export.{Export}
 use Rattle.wa_types.specs.declared.syntax.Space.{Space}
 use Rattle.wa_types.specs.declared.syntax.Space.TheVariants as Sp
@@ -20,14 +19,13 @@ use Rattle.wa_types.specs.Modules.{func_imports, func_sorts, func_type_at, defin
 use Rattle.wa_types.specs.Validity.{Valid, all_below, exported, same_space, same_name, start_indices}
 use Rattle.wa_ops.specs.Operate.{are_of}
 use Rattle.wa_model.specs.declared.answers.Area.{Area}
-use Rattle.wa_model.specs.Plan.{Entry}
 use Rattle.wa_model.specs.ScriptLines.{or_else}
 use Rattle.wa_model.specs.Step.{same_func_type}
 use Rattle.wa_model.specs.Fitting.{types_of}
-use Rattle.wa_model.specs.Protocol.{exports_of, exported_as, index_of}
+use Rattle.wa_model.specs.Protocol.{exported_as, index_of}
 use Rattle.wa_model.proofs.FittingNames.{same_true, func_types_true, not_defined}
 use Rattle.run_laws.specs.FittingStates.{Callable, EntryTyped, ExportsTyped}
-use Rattle.host_setup.specs.SetUp.{NamedEntry, Fault, no_export, entry_missing, entry_is_import, arg_types, Needed, module_fault, first_fault, func_in, func_of, func_named, is_func, is_defined_as, is_there, needed, is_five, entry_func, is_imported, are_args, fault_at, first_false, entry_funcs, have_args, all_told, unless_fault, set_up, area_bad, is_area_in, least_pages}
+use Rattle.host_setup.specs.SetUp.{NamedEntry, Fault, no_export, entry_missing, entry_is_import, arg_types, Needed, module_fault, first_fault, func_in, func_named, is_func, is_defined_as, is_there, needed, is_five, entry_func, is_imported, are_args, fault_at, first_false, entry_funcs, have_args, all_told, unless_fault, set_up, area_bad, is_area_in, least_pages}
 use Rattle.pause_host.specs.Settings.{calls_of}
 
 both : (a b : Bool) → (a && b) ≡ true → (a ≡ true) × (b ≡ true)

@@ -1,9 +1,8 @@
 -- A program as plain data, and what its calls do.
 use Rattle.std.specs.Prelude.{◌≡◌, ◌<◌, ◌≤◌, ◌^◌, ◌++◌, ℕ, List, [], ◌∷◌, length, map, Option, Some, None, All, Bool, Result, Ok, Err}
 use Rattle.std.specs.Option.{option_map, unwrap_or}
-use Rattle.wa_types.specs.declared.values.Value.{Value}
 use Rattle.wa_types.specs.Syntax.{Module}
-use Rattle.wa_types.specs.Modules.{imported, imported_func, imported_global, func_imports}
+use Rattle.wa_types.specs.Modules.{imported, imported_global, func_imports}
 use Rattle.wa_types.specs.View.{module_of}
 use Rattle.wa_model.specs.declared.events.End.{End}
 use Rattle.wa_model.specs.declared.events.Event.{Event as EventValue}
@@ -13,17 +12,21 @@ use Rattle.wa_model.specs.Machine.{Ran}
 use Rattle.wa_model.specs.Store.{Store}
 use Rattle.wa_model.specs.Instantiation.{opening}
 use Rattle.wa_model.specs.Blocking.{Note, no_store}
+use Rattle.wa_model.specs.Plan.{Outcome}
 use Rattle.wa_model.specs.Protocol.{Held, held_begun}
 use Rattle.wa_model.specs.World as W
-use Rattle.wa_model.specs.World.{Look, is_end}
+use Rattle.wa_model.specs.World.{CallsMeet, Device, Look, call_in, is_end}
 use Rattle.wa_model.specs.Fitting.{types_of, global_types}
+use Rattle.device_port.specs.declared.devices.Devices.{Devices}
+use Rattle.device_port.specs.Listed.{of_all}
 use Rattle.interp.specs.Host.{code_in, memory_of, store_in, waits_in}
 use Rattle.host_setup.specs.declared.faults.SetupFault.{SetupFault}
 use Rattle.host_setup.specs.SetUp.{NamedEntry, set_up}
 use Rattle.host_setup.specs.Views as S
 use Rattle.host_setup.specs.Views.{Blames}
 use Rattle.host_turns.specs.Places.{Place, stands, has_ended, nowhere}
-use Rattle.host_turns.specs.Stories.{Unbound, Told}
+use Rattle.host_turns.specs.Stories.{IsAt}
+use Rattle.host_turns.specs.Supplies.{Supply, Takes}
 use Rattle.host_moves.specs.Views.{exports_in, left_of, lines_in, place_in}
 use Rattle.host_moves.specs.Moves.{IsSetting, PlaceFits, HasShortPokes}
 use Rattle.pause_host.specs.Settings.{calls_of}
@@ -41,10 +44,11 @@ abbrev pub named_entries : Plan → List NamedEntry
 named_entries x = map S.entry_of x.entries.items
 
 -- What is asked of a plan: where it tells which function imports are listed, it tells it of each; the imported globals have
--- values of their types; there is a step, and no more than 1,000,000,000; entries are numbered in 32 bits; pokes are short.
+-- values of their types; for each function import it tells whether it is bound; there is a step, and no more than 1,000,000,000; entries are numbered in 32 bits; pokes are short.
 pub record IsPlan (x : Plan) : Type 0 where
   pub listed : (l : List Bool) → option_map (λ v. v.items) x.listed ≡ Some l → length l ≡ func_imports (source_of x)
   pub globals : types_of x.globals.items ≡ global_types (imported imported_global (source_of x))
+  pub binds : length x.binds.items ≡ func_imports (source_of x)
   pub some_steps : 1 ≤ x.steps
   pub few_steps : x.steps ≤ 1000000000
   pub entries : length x.entries.items < 2 ^ 32
@@ -57,7 +61,7 @@ world_program x funcs looks = record {
   plan = record { globals = x.globals.items; entries = calls_of (named_entries x) funcs; area = x.area; listed = option_map (λ v. v.items) x.listed };
   steps = x.steps;
   answers = map answer_line_of x.answers.items;
-  binds = [];
+  binds = x.binds.items;
   looks = looks;
 }
 
@@ -104,31 +108,63 @@ abbrev pub RunsCode : Module → State → Type 0
 RunsCode p (Live instance stage) = code_in instance ≡ p
 RunsCode p _ = Unit {0}
 
--- The program has told these notes of the story of a program of a world, and stands here.
-pub record FollowsAt (w : W.Program) (notes : List Note) (x : Program) (place : Place) : Type 0 where
+-- the answer lines that it has left
+abbrev pub lines_left : Program → List AnswerLine
+lines_left x = lines_in x.answers.items
+
+-- what answers its calls: these lines, and devices with their counts of faults,
+abbrev pub supply_with : Program → List Device → (faults : List ℕ) → Supply
+supply_with x ds faults = record { lines = lines_left x; devices = ds; faults = faults }
+
+-- those of a caller
+abbrev pub supply_of : {X : Type 0} {F : X → Type 0} → ((x : X) × F x → Device) → ((x : X) × F x → ℕ) → Program → Devices X F → Supply
+supply_of seen faults x devices = supply_with x (of_all seen devices) (of_all faults devices)
+
+-- The program has told these notes of a program of a world, its calls met these outcomes, and it stands here.
+pub record FollowsAt (w : W.Program) (notes : List Note) (os : List Outcome) (x : Program) (place : Place) : Type 0 where
   pub source : w.source ≡ module_of x.valid.now
-  pub unbound : Unbound w
   pub setting : IsSetting w x.setting
   pub globals : types_of x.globals.items ≡ global_types (imported imported_global w.source)
-  pub pokes : All HasShortPokes (lines_in x.answers.items)
+  pub pokes : All HasShortPokes (lines_left x)
   pub fits : PlaceFits w place
-  pub told : Told w notes x.steps_left (lines_in x.answers.items) place
+  pub told : IsAt w notes os x.steps_left place
 
--- It has told these notes, and goes on with the story.
-pub record Follows (w : W.Program) (notes : List Note) (x : Program) : Type 0 where
-  pub at : FollowsAt w notes x (place_of x x.state)
+-- It has told these notes, its calls met these outcomes, and it goes on.
+pub record Follows (w : W.Program) (notes : List Note) (os : List Outcome) (x : Program) : Type 0 where
+  pub at : FollowsAt w notes os x (place_of x x.state)
   pub code : RunsCode w.source x.state
 
--- It told one note more, with this event; the instance has that note's store; and where the event is its end, it has ended so.
-pub record Advances (w : W.Program) (notes : List Note) (event : EventValue) (x : Program) : Type 0 where
+-- It told one note more, with this event, and a new call met an outcome as a world has it, by what answers calls before and behind
+-- it; the instance has that note's store; and where the event is its end, it has ended so.
+pub record Advances (w : W.Program) (notes : List Note) (os : List Outcome) (event : EventValue) (old new : Supply) (x : Program) : Type 0 where
+  pub note : Note
+  pub met : List Outcome
+  pub event_is : note.event ≡ event_of event
+  pub store_is : note.store ≡ store_of x.state
+  pub memory_is : memory_in x ≡ note.store.memory
+  pub ended_is : ended_as x ≡ end_in note.event
+  pub takes : Takes w (call_in note.event) old met new
+  pub follows : Follows w (notes ++ note ∷ []) (os ++ met) x
+
+-- ---- a program alone, without devices
+
+-- its calls met its answer lines in turn, up to those that it has left
+pub record FollowsAlone (w : W.Program) (notes : List Note) (x : Program) : Type 0 where
+  pub outcomes : List Outcome
+  pub meets : CallsMeet w notes outcomes w.answers [] [] (lines_left x) []
+  pub follows : Follows w notes outcomes x
+
+pub record AdvancesAlone (w : W.Program) (notes : List Note) (event : EventValue) (x : Program) : Type 0 where
   pub note : Note
   pub event_is : note.event ≡ event_of event
   pub store_is : note.store ≡ store_of x.state
   pub memory_is : memory_in x ≡ note.store.memory
   pub ended_is : ended_as x ≡ end_in note.event
-  pub follows : Follows w (notes ++ note ∷ []) x
+  pub follows : FollowsAlone w (notes ++ note ∷ []) x
+
+-- ---- set up
 
 -- Set up is a plan whose area, exports and entries are lawful: the program has told nothing yet. Else the first fault says why.
 abbrev pub SetsUp : Plan → Result Program SetupFault → Type 0
-SetsUp x (Ok program) = (funcs : List ℕ) × (set_up (source_of x) x.area (named_entries x) ≡ Ok funcs) × ((looks : List Look) → Follows (world_program x funcs looks) [] program)
+SetsUp x (Ok program) = (funcs : List ℕ) × (set_up (source_of x) x.area (named_entries x) ≡ Ok funcs) × ((looks : List Look) → Follows (world_program x funcs looks) [] [] program) × (lines_left program ≡ map answer_line_of x.answers.items)
 SetsUp x (Err fault) = Blames fault (set_up (source_of x) x.area (named_entries x))

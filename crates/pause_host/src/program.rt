@@ -5,6 +5,7 @@ ghost use Rattle.wa_model.specs.World.{bytes_shown};
 use crate::entries::entry_calls;
 use crate::plan::Plan;
 use crate::setting::setting_of;
+use device_port::Devices;
 use host_moves::{Left, Setting, Stage, copy_end, next_event, start};
 use host_setup::{SetupFault, set_up};
 use interp::{Instance, MakeFault, Steps};
@@ -45,14 +46,17 @@ impl<'m> Program<'m> {
     ghost use Rattle.wa_model.specs.View.{event_of};
     ghost use Rattle.wa_model.specs.Blocking.{Note, no_store, note};
     ghost use Rattle.wa_model.specs.Protocol.{over, starting};
-    ghost use Rattle.wa_model.specs.World.{Program as WorldProgram};
+    ghost use Rattle.wa_model.specs.Plan.{Outcome};
+    ghost use Rattle.wa_model.specs.World.{Device, Program as WorldProgram};
     ghost use Rattle.wa_types.specs.View.{module_of};
     ghost use Rattle.wa_model.specs.Instantiation.{opening, opens};
     ghost use Rattle.interp.specs.Faults.{FailsAs};
     ghost use Rattle.interp.specs.Host.{code_in, store_in};
+    ghost use Rattle.device_port.specs.Listed.{of_all};
     ghost use Rattle.host_turns.specs.Places.{stands};
+    ghost use Rattle.host_turns.specs.Supplies.{IsLent};
     ghost use Rattle.host_moves.specs.Views.{end_of, left_of};
-    ghost use Rattle.pause_host.specs.Programs.{Advances, Follows, FollowsAt, IsPlan, RunsCode, SetsUp, ended_as, memory_in, place_of};
+    ghost use Rattle.pause_host.specs.Programs.{Advances, AdvancesAlone, Follows, FollowsAlone, FollowsAt, IsPlan, RunsCode, SetsUp, ended_as, memory_in, place_of, supply_of, supply_with};
 
     /// A program of a plan, before its instantiation, or the first fault of the plan.
     pub fn new(alloc: Global, plan: Plan<'m>) -> Result<Program<'m>, SetupFault>
@@ -63,13 +67,14 @@ impl<'m> Program<'m> {
         let Plan {
             module: valid,
             listed,
+            binds,
             area,
             steps,
             globals,
             entries,
             answers,
         } = plan;
-        let setting = setting_of(alloc, valid.module(), listed, area, steps)?;
+        let setting = setting_of(alloc, valid.module(), listed, binds, area, steps)?;
         let entries = entry_calls(alloc, entries, &funcs)?;
         Ok(Program {
             valid,
@@ -82,41 +87,51 @@ impl<'m> Program<'m> {
         })
     }
 
-    /// The next event of the run under the protocol. After the end it is the end again. After want of memory it isn't called
-    /// again.
-    pub fn advance(&mut self) -> Result<Event, AllocError>
-        ensures next { (w : WorldProgram) (notes : List Note) → Follows w notes self.old → ended_as self.old ≡ None → IfOk result (λ event. Advances w notes event self.new) }
-        ensures again { (how : End) → ended_as self.old ≡ Some how → IfOk result (λ event. (event_of event ≡ ended how) × (self.new ≡ self.old)) }
+    /// The next event of the run under the protocol. A new call of an import that is bound to a device asks the first device of
+    /// that name, once, and any other new call takes an answer line. After the end it is the end again, and no device is asked.
+    /// After want of memory it isn't called again.
+    pub fn advance(&mut self, devices: &mut Devices<'_>) -> Result<Event, AllocError>
+        requires { IsLent }
+        ensures next { (w : WorldProgram) (notes : List Note) (os : List Outcome) → Follows w notes os self.old → ended_as self.old ≡ None → IfOk result (λ event. Advances w notes os event (supply_of seen faults self.old devices.old) (supply_of seen faults self.new devices.new) self.new) }
+        ensures alone { (w : WorldProgram) (notes : List Note) → FollowsAlone w notes self.old → ended_as self.old ≡ None → of_all seen devices.old ≡ [] → IfOk result (λ event. AdvancesAlone w notes event self.new × (of_all seen devices.new ≡ [])) }
+        ensures again { (how : End) → ended_as self.old ≡ Some how → IfOk result (λ event. (event_of event ≡ ended how) × (self.new ≡ self.old) × (devices.new ≡ devices.old)) }
+        ensures same_list { devices.new.list.ghost_name ≡ devices.old.list.ghost_name }
     {
         match mem::replace(&mut self.state, State::Lost) {
-            State::Fresh => self.open(),
-            State::Live { instance, stage } => self.live(instance, stage),
+            State::Fresh => self.open(devices),
+            State::Live { instance, stage } => self.live(instance, stage, devices),
             State::Failed(end) => self.fail(end),
             State::Lost => Err(AllocError),
         }
     }
 
     // The module is instantiated, and its start function called where it has one.
-    fn open(&mut self) -> Result<Event, AllocError>
-        ensures { (w : WorldProgram) (notes : List Note) → FollowsAt w notes self.old (place_of self.old State.Fresh) → IfOk result (λ event. Advances w notes event self.new) }
+    fn open(&mut self, devices: &mut Devices<'_>) -> Result<Event, AllocError>
+        ensures next { (w : WorldProgram) (notes : List Note) (os : List Outcome) → FollowsAt w notes os self.old (place_of self.old State.Fresh) → IfOk result (λ event. Advances w notes os event (supply_of seen faults self.old devices.old) (supply_of seen faults self.new devices.new) self.new) }
+        ensures same_list { devices.new.list.ghost_name ≡ devices.old.list.ghost_name }
     {
         match Instance::make(self.setting.alloc, self.valid, &self.globals) {
-            Ok(instance) => self.opened(instance),
+            Ok(instance) => self.opened(instance, devices),
             Err(fault) => self.not_opened(fault),
         }
     }
 
-    fn opened(&mut self, instance: Instance<'m>) -> Result<Event, AllocError>
-        ensures { (w : WorldProgram) (notes : List Note) → code_in instance.entry ≡ module_of self.old.valid.now → opening (module_of self.old.valid.now) self.old.globals.items ≡ opens (store_in instance.entry) → FollowsAt w notes self.old (place_of self.old State.Fresh) → IfOk result (λ event. Advances w notes event self.new) }
+    fn opened(
+        &mut self,
+        instance: Instance<'m>,
+        devices: &mut Devices<'_>,
+    ) -> Result<Event, AllocError>
+        ensures next { (w : WorldProgram) (notes : List Note) (os : List Outcome) → code_in instance.entry ≡ module_of self.old.valid.now → opening (module_of self.old.valid.now) self.old.globals.items ≡ opens (store_in instance.entry) → FollowsAt w notes os self.old (place_of self.old State.Fresh) → IfOk result (λ event. Advances w notes os event (supply_of seen faults self.old devices.old) (supply_of seen faults self.new devices.new) self.new) }
+        ensures same_list { devices.new.list.ghost_name ≡ devices.old.list.ghost_name }
     {
         match self.valid.module().start {
-            None => self.go_on(instance, Stage::Free),
-            Some(func) => self.begin(instance, func),
+            None => self.go_on(instance, Stage::Free, devices),
+            Some(func) => self.begin(instance, func, devices),
         }
     }
 
     fn not_opened(&mut self, fault: MakeFault) -> Result<Event, AllocError>
-        ensures { (w : WorldProgram) (notes : List Note) → FailsAs (opening (module_of self.old.valid.now) self.old.globals.items) fault → FollowsAt w notes self.old (place_of self.old State.Fresh) → IfOk result (λ event. Advances w notes event self.new) }
+        ensures { (w : WorldProgram) (notes : List Note) (os : List Outcome) (ds : List Device) (counts : List ℕ) → FailsAs (opening (module_of self.old.valid.now) self.old.globals.items) fault → FollowsAt w notes os self.old (place_of self.old State.Fresh) → IfOk result (λ event. Advances w notes os event (supply_with self.old ds counts) (supply_with self.new ds counts) self.new) }
     {
         match fault {
             MakeFault::Memory => Err(AllocError),
@@ -130,7 +145,7 @@ impl<'m> Program<'m> {
 
     // The program has ended without an instance.
     fn fail(&mut self, end: End) -> Result<Event, AllocError>
-        ensures next { (w : WorldProgram) (notes : List Note) → FollowsAt w notes self.old (stands (note (ended end) no_store ∷ []) (over no_store)) → IfOk result (λ event. Advances w notes event self.new) }
+        ensures next { (w : WorldProgram) (notes : List Note) (os : List Outcome) (ds : List Device) (counts : List ℕ) → FollowsAt w notes os self.old (stands (note (ended end) no_store ∷ []) (over no_store)) → IfOk result (λ event. Advances w notes os event (supply_with self.old ds counts) (supply_with self.new ds counts) self.new) }
         ensures again { IfOk result (λ event. (event_of event ≡ ended end) × (self.new ≡ record self.old { state = State.Failed end })) }
     {
         let told = copy_end(self.setting.alloc, &end)?;
@@ -138,13 +153,19 @@ impl<'m> Program<'m> {
         Ok(Event::Ended(told))
     }
 
-    fn live(&mut self, instance: Instance<'m>, stage: Stage) -> Result<Event, AllocError>
-        ensures next { (w : WorldProgram) (notes : List Note) → FollowsAt w notes self.old (place_of self.old (State.Live instance.entry stage)) → RunsCode w.source (State.Live instance.entry stage) → end_of stage ≡ None → IfOk result (λ event. Advances w notes event self.new) }
-        ensures again { (how : End) → end_of stage ≡ Some how → IfOk result (λ event. (event_of event ≡ ended how) × (self.new ≡ record self.old { state = (State.Live instance.entry stage) })) }
+    fn live(
+        &mut self,
+        instance: Instance<'m>,
+        stage: Stage,
+        devices: &mut Devices<'_>,
+    ) -> Result<Event, AllocError>
+        ensures next { (w : WorldProgram) (notes : List Note) (os : List Outcome) → FollowsAt w notes os self.old (place_of self.old (State.Live instance.entry stage)) → RunsCode w.source (State.Live instance.entry stage) → end_of stage ≡ None → IfOk result (λ event. Advances w notes os event (supply_of seen faults self.old devices.old) (supply_of seen faults self.new devices.new) self.new) }
+        ensures again { (how : End) → end_of stage ≡ Some how → IfOk result (λ event. (event_of event ≡ ended how) × (self.new ≡ record self.old { state = (State.Live instance.entry stage) }) × (devices.new ≡ devices.old)) }
+        ensures same_list { devices.new.list.ghost_name ≡ devices.old.list.ghost_name }
     {
         match stage {
             Stage::Ended(end) => self.end_again(instance, end),
-            stage => self.go_on(instance, stage),
+            stage => self.go_on(instance, stage, devices),
         }
     }
 
@@ -159,8 +180,14 @@ impl<'m> Program<'m> {
     }
 
     // From a stage to the next event.
-    fn go_on(&mut self, mut instance: Instance<'m>, stage: Stage) -> Result<Event, AllocError>
-        ensures { (w : WorldProgram) (notes : List Note) → FollowsAt w notes self.old (place_of self.old (State.Live instance.entry stage)) → RunsCode w.source (State.Live instance.entry stage) → end_of stage ≡ None → IfOk result (λ event. Advances w notes event self.new) }
+    fn go_on(
+        &mut self,
+        mut instance: Instance<'m>,
+        stage: Stage,
+        devices: &mut Devices<'_>,
+    ) -> Result<Event, AllocError>
+        ensures next { (w : WorldProgram) (notes : List Note) (os : List Outcome) → FollowsAt w notes os self.old (place_of self.old (State.Live instance.entry stage)) → RunsCode w.source (State.Live instance.entry stage) → end_of stage ≡ None → IfOk result (λ event. Advances w notes os event (supply_of seen faults self.old devices.old) (supply_of seen faults self.new devices.new) self.new) }
+        ensures same_list { devices.new.list.ghost_name ≡ devices.old.list.ghost_name }
     {
         let mut steps = unused(self.steps_left);
         let moved = next_event(
@@ -168,6 +195,7 @@ impl<'m> Program<'m> {
             &mut instance,
             &mut self.left,
             &mut self.answers,
+            devices,
             &mut steps,
             stage,
         )?;
@@ -178,8 +206,14 @@ impl<'m> Program<'m> {
     }
 
     // From the call of the start function to the first event.
-    fn begin(&mut self, mut instance: Instance<'m>, func: u32) -> Result<Event, AllocError>
-        ensures { (w : WorldProgram) (notes : List Note) → code_in instance.entry ≡ w.source → FollowsAt w notes self.old (stands [] (starting func (store_in instance.entry) (left_of self.old.left))) → IfOk result (λ event. Advances w notes event self.new) }
+    fn begin(
+        &mut self,
+        mut instance: Instance<'m>,
+        func: u32,
+        devices: &mut Devices<'_>,
+    ) -> Result<Event, AllocError>
+        ensures next { (w : WorldProgram) (notes : List Note) (os : List Outcome) → code_in instance.entry ≡ w.source → FollowsAt w notes os self.old (stands [] (starting func (store_in instance.entry) (left_of self.old.left))) → IfOk result (λ event. Advances w notes os event (supply_of seen faults self.old devices.old) (supply_of seen faults self.new devices.new) self.new) }
+        ensures same_list { devices.new.list.ghost_name ≡ devices.old.list.ghost_name }
     {
         let mut steps = unused(self.steps_left);
         let moved = start(
@@ -187,6 +221,7 @@ impl<'m> Program<'m> {
             &mut instance,
             &mut self.left,
             &mut self.answers,
+            devices,
             &mut steps,
             func,
         )?;

@@ -8,7 +8,7 @@ ghost use Rattle.wa_types.specs.Syntax.{Module as PlainModule};
 ghost use Rattle.wa_types.specs.Validity.{same_name};
 ghost use Rattle.wa_types.specs.View.{module_of};
 ghost use Rattle.wa_model.specs.Protocol.{exports_of, index_of};
-ghost use Rattle.wa_model.specs.World.{import_names, name_if};
+ghost use Rattle.wa_model.specs.World.{base_names, import_names, name_if};
 ghost use Rattle.host_moves.specs.Views.{exports_in};
 ghost use Rattle.host_moves.specs.declared.stages.HostImport.{HostImport};
 ghost use Rattle.pause_host.specs.Settings.{MakesSetting};
@@ -23,14 +23,16 @@ pub(crate) fn setting_of(
     alloc: Global,
     module: &Module,
     listed: Option<Vec<bool>>,
+    binds: Vec<Option<Name>>,
     area: Area,
     steps: u64,
 ) -> Result<Setting, AllocError>
-    ensures { IfOk result (MakesSetting (module_of «module».now) listed area steps) }
+    ensures { IfOk result (MakesSetting (module_of «module».now) listed binds area steps) }
 {
     Ok(Setting {
         alloc,
         imports: host_imports(alloc, module)?,
+        binds,
         listed,
         area,
         exports: exports_of(&module.exports),
@@ -72,9 +74,10 @@ fn find_export<'m>(exports: &'m [Export], name: &str) -> Option<&'m Export>
     exports.iter().find(|export| export.name.as_str() == name)
 }
 
-// The imported functions, with their joined names and their results.
+// The imported functions, with their names and their results.
 fn host_imports(alloc: Global, module: &Module) -> Result<Vec<HostImport>, AllocError>
     ensures names { IfOk result (λ v. map (λ (i : HostImport). i.name) v.items ≡ import_names (module_of «module».now)) }
+    ensures bases { IfOk result (λ v. map (λ (i : HostImport). i.base) v.items ≡ base_names (module_of «module».now)) }
     ensures results { IfOk result (λ v. map (λ (i : HostImport). i.result) v.items ≡ map (λ sort. slice_get (type_at (module_of «module».now) sort).results 0) (imported imported_func (module_of «module».now))) }
 {
     let mut imports = Vec::new(alloc);
@@ -92,13 +95,15 @@ fn put_import(
     imports: &mut Vec<HostImport>,
 ) -> Result<(), AllocError>
     ensures names { OnOk result (map (λ (i : HostImport). i.name) imports.new.items ≡ map (λ (i : HostImport). i.name) imports.old.items ++ cons_option (name_if (joined_name import.now) (imported_func import.now.kind)) []) }
+    ensures bases { OnOk result (map (λ (i : HostImport). i.base) imports.new.items ≡ map (λ (i : HostImport). i.base) imports.old.items ++ cons_option (name_if import.now.base (imported_func import.now.kind)) []) }
     ensures results { OnOk result (map (λ (i : HostImport). i.result) imports.new.items ≡ map (λ (i : HostImport). i.result) imports.old.items ++ map (λ sort. slice_get (type_at (module_of «module».now) sort).results 0) (cons_option (imported_func import.now.kind) [])) }
 {
     match import.kind {
         ImportKind::Func(sort) => {
             let name = joined_name(alloc, import)?;
+            let base = Name::new(alloc, import.base.as_str())?;
             let result = result_of(module, sort);
-            imports.push(HostImport { name, result })?;
+            imports.push(HostImport { name, base, result })?;
             Ok(())
         }
         _ => Ok(()),

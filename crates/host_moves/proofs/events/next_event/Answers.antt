@@ -1,101 +1,89 @@
-use Rattle.std.proofs.Common.{arith, ◌≡◌, ◌≤◌, ◌+◌, ◌-◌, [], ◌∷◌, IfOk, Some, None, length, map, true, false, refl, sym, ap, ◌∙◌, subst}
-use Rattle.std.specs.Option.{option_to_list}
-use Rattle.wa_types.specs.Modules.{func_type_at}
-use Rattle.wa_model.specs.declared.events.End.TheVariants as E
-use Rattle.wa_model.specs.declared.events.Event.TheVariants as EV
-use Rattle.wa_model.specs.Fitting.{types_of, StoreFits}
-use Rattle.wa_model.specs.Blocking.{fault_of, inside, outermost, the_start, an_entry, done_notes}
-use Rattle.wa_model.specs.Protocol.{exports_of, held_on, starting, busy}
-use Rattle.wa_model.specs.View.{answer_of}
-use Rattle.interp.specs.Host.{code_in, store_in, waits_in}
-use Rattle.interp.specs.Instance as I
-use Rattle.interp.specs.Instance.{Calls, Resumes}
-use Rattle.host_turns.specs.Places.{stands}
-use Rattle.host_moves.specs.Views.{end_of, entry_of, left_of, lines_in, free_place, place_in, stage_after}
-use Rattle.host_moves.specs.Moves.{Comes, ComesFrom, EndsAt, TaskTurn, IsAsking, Asks}
+use Rattle.std.proofs.Common.{arith, ◌≡◌, ◌-◌, IfOk, Some, None, sym, ap, ◌∙◌, subst}
+use Rattle.wa_model.specs.Protocol.{exports_of}
+use Rattle.interp.specs.Host.{store_in, waits_in}
+use Rattle.host_moves.specs.Views.{end_of, left_of, supply_in, place_in}
+use Rattle.host_moves.specs.Moves.{ComesFrom}
 use Rattle.host_moves.specs.declared.stages.Stage.TheVariants as S
-use Rattle.host_moves.specs.declared.stages.Task.TheVariants as T
-use Rattle.host_moves.proofs.Results.{ended_ok, behind_ok, behind_sum, returned_ok, done_ok, ending_ok, task_asking, free_is, free_fits, none_left}
-use Rattle.host_moves.proofs.Tables.{found_at, name_told, size_told, short_given}
-use Rattle.host_moves.proofs.Tasks.{task_trapped, task_spent, task_asks, start_returned, entry_turn, start_turn, start_defined, import_asks, import_spent}
-use Rattle.host_moves.proofs.Askings.{asking_store, asking_start, told_refused, told_answer}
+use Rattle.host_moves.proofs.Results.{ending_ok}
 use Rattle.host_moves.specs.Moves.{PlaceFits}
 use Rattle.host_moves.specs.declared.stages.Stage.{Stage}
 use Rattle.host_moves.proofs.events.next_event.Goals as goal
 
 pub returns-in-Free-clause-comes : goal.returns-in-Free-clause-comes
-returns-in-Free-clause-comes c = λ w is code pokes f more.
+returns-in-Free-clause-comes g c = λ w is code pokes f more.
     let s = store_in c.args.instance.now in
     let waits = waits_in c.args.instance.now in
     let l = left_of c.args.left.now in
-    let lines = lines_in c.args.answers.now.items in
+    let old = supply_in (λ z. (goal.Device-dyn g z).seen z.1) (λ z. (goal.Device-dyn g z).faults z.1) c.args.answers.now.items c.args.devices.now in
+    let new = supply_in (λ z. (goal.Device-dyn g z).seen z.1) (λ z. (goal.Device-dyn g z).faults z.1) c.call_next.new.answers.items c.call_next.new.devices in
     let left = c.args.steps.now.left in
     let from = λ (z : Stage). place_in (exports_of w.source) w.plan.area l s waits z in
     let f' = subst (λ z. PlaceFits w (from z)) c.in-Free.is f in
-    subst (λ z. IfOk c.call_next.result (λ m. ComesFrom w (from z) left (c.call_next.new.steps.used - c.args.steps.now.used) m lines (lines_in c.call_next.new.answers.items) (left_of c.call_next.new.left) (store_in c.call_next.new.instance) (waits_in c.call_next.new.instance))) (sym c.in-Free.is)
+    subst (λ z. IfOk c.call_next.result (λ m. ComesFrom w (from z) left (c.call_next.new.steps.used - c.args.steps.now.used) m old new (left_of c.call_next.new.left) (store_in c.call_next.new.instance) (waits_in c.call_next.new.instance))) (sym c.in-Free.is)
     (c.call_next.ensures.comes w is code pokes f')
 
 pub returns-in-Answering-clause-comes : goal.returns-in-Answering-clause-comes
-returns-in-Answering-clause-comes c = λ w is code pokes f more.
+returns-in-Answering-clause-comes g c = λ w is code pokes f more.
     let s = store_in c.args.instance.now in
     let waits = waits_in c.args.instance.now in
     let l = left_of c.args.left.now in
-    let lines = lines_in c.args.answers.now.items in
+    let old = supply_in (λ z. (goal.Device-dyn g z).seen z.1) (λ z. (goal.Device-dyn g z).faults z.1) c.args.answers.now.items c.args.devices.now in
     let left = c.args.steps.now.left in
     let from = λ (z : Stage). place_in (exports_of w.source) w.plan.area l s waits z in
     let f' = subst (λ z. PlaceFits w (from z)) c.in-Answering.is f in
-    subst (λ z. IfOk c.tell_answer.result (λ m. ComesFrom w (from z) left (c.args.steps.now.used - c.args.steps.now.used) m lines (lines_in c.args.answers.now.items) (left_of c.args.left.now) (store_in c.tell_answer.new.instance) (waits_in c.tell_answer.new.instance))) (sym c.in-Answering.is)
+    subst (λ z. IfOk c.tell_answer.result (λ m. ComesFrom w (from z) left (c.args.steps.now.used - c.args.steps.now.used) m old old (left_of c.args.left.now) (store_in c.tell_answer.new.instance) (waits_in c.tell_answer.new.instance))) (sym c.in-Answering.is)
     (let none : 0 ≡ c.args.steps.now.used - c.args.steps.now.used = omega arith in
-    subst (λ n. IfOk c.tell_answer.result (λ m. ComesFrom w (from (S.Answering c.in-Answering.task c.in-Answering.answer)) left n m lines lines l (store_in c.tell_answer.new.instance) (waits_in c.tell_answer.new.instance))) none
-    (c.tell_answer.ensures.comes w l lines left f'))
+    subst (λ n. IfOk c.tell_answer.result (λ m. ComesFrom w (from (S.Answering c.in-Answering.task c.in-Answering.answer)) left n m old old l (store_in c.tell_answer.new.instance) (waits_in c.tell_answer.new.instance))) none
+    (c.tell_answer.ensures.comes w l old left f'))
 
 pub returns-in-Giving-clause-comes : goal.returns-in-Giving-clause-comes
-returns-in-Giving-clause-comes c = λ w is code pokes f more.
+returns-in-Giving-clause-comes g c = λ w is code pokes f more.
     let s = store_in c.args.instance.now in
     let waits = waits_in c.args.instance.now in
     let l = left_of c.args.left.now in
-    let lines = lines_in c.args.answers.now.items in
+    let old = supply_in (λ z. (goal.Device-dyn g z).seen z.1) (λ z. (goal.Device-dyn g z).faults z.1) c.args.answers.now.items c.args.devices.now in
+    let new = supply_in (λ z. (goal.Device-dyn g z).seen z.1) (λ z. (goal.Device-dyn g z).faults z.1) c.give.new.answers.items c.give.new.devices in
     let left = c.args.steps.now.left in
     let from = λ (z : Stage). place_in (exports_of w.source) w.plan.area l s waits z in
     let f' = subst (λ z. PlaceFits w (from z)) c.in-Giving.is f in
-    subst (λ z. IfOk c.give.result (λ m. ComesFrom w (from z) left (c.give.new.steps.used - c.args.steps.now.used) m lines (lines_in c.give.new.answers.items) (left_of c.give.new.left) (store_in c.give.new.instance) (waits_in c.give.new.instance))) (sym c.in-Giving.is)
+    subst (λ z. IfOk c.give.result (λ m. ComesFrom w (from z) left (c.give.new.steps.used - c.args.steps.now.used) m old new (left_of c.give.new.left) (store_in c.give.new.instance) (waits_in c.give.new.instance))) (sym c.in-Giving.is)
     (c.give.ensures.comes w is code pokes f')
 
 pub returns-in-Pausing-clause-comes : goal.returns-in-Pausing-clause-comes
-returns-in-Pausing-clause-comes c = λ w is code pokes f more.
+returns-in-Pausing-clause-comes g c = λ w is code pokes f more.
     let s = store_in c.args.instance.now in
     let waits = waits_in c.args.instance.now in
     let l = left_of c.args.left.now in
-    let lines = lines_in c.args.answers.now.items in
+    let old = supply_in (λ z. (goal.Device-dyn g z).seen z.1) (λ z. (goal.Device-dyn g z).faults z.1) c.args.answers.now.items c.args.devices.now in
     let left = c.args.steps.now.left in
     let from = λ (z : Stage). place_in (exports_of w.source) w.plan.area l s waits z in
     let f' = subst (λ z. PlaceFits w (from z)) c.in-Pausing.is f in
-    subst (λ z. IfOk c.unwind.result (λ m. ComesFrom w (from z) left (c.unwind.new.steps.used - c.args.steps.now.used) m lines (lines_in c.args.answers.now.items) (left_of c.args.left.now) (store_in c.unwind.new.instance) (waits_in c.unwind.new.instance))) (sym c.in-Pausing.is)
-    (c.unwind.ensures.comes w l lines is code f')
+    subst (λ z. IfOk c.unwind.result (λ m. ComesFrom w (from z) left (c.unwind.new.steps.used - c.args.steps.now.used) m old old (left_of c.args.left.now) (store_in c.unwind.new.instance) (waits_in c.unwind.new.instance))) (sym c.in-Pausing.is)
+    (c.unwind.ensures.comes w l old is code f')
 
 pub returns-in-Paused-clause-comes : goal.returns-in-Paused-clause-comes
-returns-in-Paused-clause-comes c = λ w is code pokes f more.
+returns-in-Paused-clause-comes g c = λ w is code pokes f more.
     let s = store_in c.args.instance.now in
     let waits = waits_in c.args.instance.now in
     let l = left_of c.args.left.now in
-    let lines = lines_in c.args.answers.now.items in
+    let old = supply_in (λ z. (goal.Device-dyn g z).seen z.1) (λ z. (goal.Device-dyn g z).faults z.1) c.args.answers.now.items c.args.devices.now in
     let left = c.args.steps.now.left in
     let from = λ (z : Stage). place_in (exports_of w.source) w.plan.area l s waits z in
     let f' = subst (λ z. PlaceFits w (from z)) c.in-Paused.is f in
-    subst (λ z. IfOk c.rewind.result (λ m. ComesFrom w (from z) left (c.rewind.new.steps.used - c.args.steps.now.used) m lines (lines_in c.args.answers.now.items) (left_of c.args.left.now) (store_in c.rewind.new.instance) (waits_in c.rewind.new.instance))) (sym c.in-Paused.is)
-    (c.rewind.ensures.comes w l lines is code f')
+    subst (λ z. IfOk c.rewind.result (λ m. ComesFrom w (from z) left (c.rewind.new.steps.used - c.args.steps.now.used) m old old (left_of c.args.left.now) (store_in c.rewind.new.instance) (waits_in c.rewind.new.instance))) (sym c.in-Paused.is)
+    (c.rewind.ensures.comes w l old is code f')
 
 pub returns-in-Ending-clause-comes : goal.returns-in-Ending-clause-comes
-returns-in-Ending-clause-comes c = λ w is code pokes f more.
+returns-in-Ending-clause-comes g c = λ w is code pokes f more.
     let s = store_in c.args.instance.now in
     let waits = waits_in c.args.instance.now in
     let l = left_of c.args.left.now in
-    let lines = lines_in c.args.answers.now.items in
+    let old = supply_in (λ z. (goal.Device-dyn g z).seen z.1) (λ z. (goal.Device-dyn g z).faults z.1) c.args.answers.now.items c.args.devices.now in
     let left = c.args.steps.now.left in
     let from = λ (z : Stage). place_in (exports_of w.source) w.plan.area l s waits z in
     let f' = subst (λ z. PlaceFits w (from z)) c.in-Ending.is f in
-    subst (λ z. IfOk c.ended.result (λ m. ComesFrom w (from z) left (c.args.steps.now.used - c.args.steps.now.used) m lines (lines_in c.args.answers.now.items) (left_of c.args.left.now) (store_in c.args.instance.now) (waits_in c.args.instance.now))) (sym c.in-Ending.is)
-    (ending_ok w c.in-Ending.end s left _ c.ended.result lines l waits (omega arith) c.ended.ensures.event c.ended.ensures.stage)
+    subst (λ z. IfOk c.ended.result (λ m. ComesFrom w (from z) left (c.args.steps.now.used - c.args.steps.now.used) m old old (left_of c.args.left.now) (store_in c.args.instance.now) (waits_in c.args.instance.now))) (sym c.in-Ending.is)
+    (ending_ok w c.in-Ending.end s left _ c.ended.result old l waits (omega arith) c.ended.ensures.event c.ended.ensures.stage)
 
 pub returns-in-Ended-clause-comes : goal.returns-in-Ended-clause-comes
-returns-in-Ended-clause-comes c = λ w is code pokes f more. let no : Some c.in-Ended.end ≡ None = sym (ap end_of c.in-Ended.is) ∙ more in cc
+returns-in-Ended-clause-comes g c = λ w is code pokes f more. let no : Some c.in-Ended.end ≡ None = sym (ap end_of c.in-Ended.is) ∙ more in cc

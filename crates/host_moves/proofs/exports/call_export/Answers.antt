@@ -1,5 +1,4 @@
-use Rattle.std.proofs.Common.{arith, ◌≡◌, ◌-◌, IfOk, refl, sym, ap, ◌∙◌, subst}
-use Rattle.std.specs.Option.{option_to_list}
+use Rattle.std.proofs.Common.{◌-◌, sym, ap, ◌∙◌, subst}
 use Rattle.wa_model.specs.declared.events.End.TheVariants as E
 use Rattle.wa_model.specs.Fitting.{StoreFits}
 use Rattle.wa_model.specs.Protocol.{calling, trap_end}

@@ -1,7 +1,7 @@
-use Rattle.std.proofs.Common.{◌∙◌, ap, refl, arith}
+use Rattle.std.proofs.Common.{◌∙◌, ap, refl}
 use Rattle.wa_types.specs.Memory.{overwritten}
 use Rattle.wa_model.specs.Store.{with_memory}
-use Rattle.interp.specs.Host.{code_in, store_in, waits_in}
+use Rattle.interp.specs.Host.{store_in}
 use Rattle.host_moves.proofs.Tables.{poked_more, poked_all}
 use Rattle.host_moves.proofs.memory.write_pokes.Goals as goal
 

@@ -1,22 +1,15 @@
-use Rattle.std.proofs.Common.{arith, ◌≡◌, ◌≤◌, ◌+◌, ◌-◌, [], ◌∷◌, IfOk, map, true, false, refl, sym, ap, ◌∙◌, subst}
+use Rattle.std.proofs.Common.{◌-◌, [], map, refl, sym, ap, ◌∙◌, subst}
 use Rattle.std.specs.Option.{option_to_list}
-use Rattle.wa_types.specs.declared.values.Value.TheVariants as V
-use Rattle.wa_model.specs.declared.events.End.TheVariants as E
-use Rattle.wa_model.specs.Fitting.{types_of, StoreFits}
+use Rattle.wa_model.specs.Fitting.{types_of}
 use Rattle.wa_model.specs.Blocking.{poked}
-use Rattle.wa_model.specs.Protocol.{exports_of, busy, calling, entering, give_zero, test_unwound, pause_there, call_again, test_rewound, give_answer, is_state, trap_end, used_of, zeros_of, with_words}
-use Rattle.wa_model.specs.View.{answer_of, poke_of}
+use Rattle.wa_model.specs.Protocol.{exports_of, calling, give_answer}
+use Rattle.wa_model.specs.View.{poke_of}
 use Rattle.run_laws.specs.FittingStates.{Callable}
-use Rattle.interp.specs.Host.{code_in, store_in, waits_in}
-use Rattle.interp.specs.Instance.{Awaits, Calls, Resumes, Turns, inside}
-use Rattle.host_moves.specs.Views.{entry_of, unwinding, rewinding, pausing}
-use Rattle.host_moves.specs.Moves.{Comes, ComesFrom, EndsAt, Exports, Returns}
-use Rattle.host_moves.specs.declared.exports.Work.TheVariants.{Unwinding, Rewinding}
-use Rattle.host_moves.proofs.Comings.{fits_on}
-use Rattle.host_moves.proofs.Fronts.{awaits_from}
-use Rattle.host_moves.proofs.Results.{ended_ok, behind_ok, export_got}
-use Rattle.host_moves.proofs.Stagings.{pauses}
-use Rattle.host_moves.proofs.Pauses.{calls_in, turn_trapped, turn_spent, unwound, unwound_asked, again_returned, again_trapped, again_spent, again_other, again_asked, started_unwind, state_unwound, state_not_unwound, stopped_unwind, started_rewind, state_rewound, state_not_rewound, stopped_rewind}
+use Rattle.interp.specs.Host.{store_in, waits_in}
+use Rattle.host_moves.specs.Views.{rewinding}
+use Rattle.host_moves.specs.declared.exports.Work.TheVariants.{Rewinding}
+use Rattle.host_moves.proofs.Results.{ended_ok, export_got}
+use Rattle.host_moves.proofs.Pauses.{stopped_rewind}
 use Rattle.host_moves.proofs.rewinding.stop_rewind.Goals as goal
 
 pub returns-in-Ended-clause-comes : goal.returns-in-Ended-clause-comes

@@ -1,36 +1,27 @@
-use Rattle.std.proofs.Common.{arith, ◌≡◌, ◌≤◌, ◌+◌, ◌-◌, [], ◌∷◌, IfOk, length, drop, length-drop, map, true, false, refl, sym, ap, ◌∙◌, subst}
-use Rattle.std.specs.Option.{option_to_list}
+use Rattle.std.proofs.Common.{arith, ◌≡◌, ◌-◌, [], IfOk, length, drop, length-drop, map, refl, sym, ap, ◌∙◌, subst}
 use Rattle.wa_types.specs.Modules.{func_type_at}
-use Rattle.wa_model.specs.declared.events.End.TheVariants as E
-use Rattle.wa_model.specs.declared.events.Event.TheVariants as EV
 use Rattle.wa_model.specs.Fitting.{types_of, StoreFits}
-use Rattle.wa_model.specs.Blocking.{fault_of, inside, outermost, the_start, an_entry, done_notes}
-use Rattle.wa_model.specs.Protocol.{exports_of, held_on, starting, busy}
-use Rattle.wa_model.specs.View.{answer_of}
 use Rattle.interp.specs.Host.{code_in, store_in, waits_in}
-use Rattle.interp.specs.Instance as I
-use Rattle.interp.specs.Instance.{Calls, Resumes}
-use Rattle.host_turns.specs.Places.{stands}
-use Rattle.host_moves.specs.Views.{entry_of, left_of, lines_in, free_place, place_in, stage_after}
-use Rattle.host_moves.specs.Moves.{Comes, ComesFrom, EndsAt, TaskTurn, IsAsking, Asks}
-use Rattle.host_moves.specs.declared.stages.Stage.TheVariants as S
-use Rattle.host_moves.specs.declared.stages.Task.TheVariants as T
-use Rattle.host_moves.proofs.Results.{ended_ok, behind_ok, behind_sum, returned_ok, done_ok, ending_ok, task_asking, free_is, free_fits, none_left}
-use Rattle.host_moves.proofs.Tables.{found_at, name_told, size_told, short_given}
-use Rattle.host_moves.proofs.Tasks.{task_trapped, task_spent, task_asks, start_returned, entry_turn, start_turn, start_defined, import_asks, import_spent}
-use Rattle.host_moves.proofs.Askings.{asking_store, asking_start, told_refused, told_answer}
+use Rattle.interp.specs.Instance.{Calls}
+use Rattle.host_moves.specs.Views.{entry_of, left_of, supply_in}
+use Rattle.host_moves.specs.Moves.{ComesFrom}
+use Rattle.host_moves.proofs.Results.{done_ok, free_is, free_fits, none_left}
+use Rattle.host_moves.proofs.Tasks.{entry_turn}
 use Rattle.wa_model.specs.Protocol.{free}
 use Rattle.host_moves.proofs.running.call_next.Goals as goal
 
 pub returns-in-None-clause-comes : goal.returns-in-None-clause-comes
-returns-in-None-clause-comes c = λ w is code pokes f.
-    done_ok w (left_of c.args.left.now) (store_in c.args.instance.now) c.args.steps.now.left _ c.ended.result (lines_in c.args.answers.now.items) _ (waits_in c.args.instance.now)
+returns-in-None-clause-comes g c = λ w is code pokes f.
+    let old = supply_in (λ z. (goal.Device-dyn g z).seen z.1) (λ z. (goal.Device-dyn g z).faults z.1) c.args.answers.now.items c.args.devices.now in
+    done_ok w (left_of c.args.left.now) (store_in c.args.instance.now) c.args.steps.now.left _ c.ended.result old _ (waits_in c.args.instance.now)
     (none_left c.args.left.now.entries.items
     (let e : length c.args.left.now.entries.items ≡ length (drop 1 c.args.left.now.entries.items) = ap length (c.in-None.ensures.items ∙ c.in-None.ensures.rest) in
     omega (arith, e, length-drop 1 c.args.left.now.entries.items))) (omega arith) c.ended.ensures.event c.ended.ensures.stage
 
 pub returns-in_ok-turn-in-Some-clause-comes : goal.returns-in_ok-turn-in-Some-clause-comes
-returns-in_ok-turn-in-Some-clause-comes c = λ w is code pokes f.
+returns-in_ok-turn-in-Some-clause-comes g c = λ w is code pokes f.
+    let old = supply_in (λ z. (goal.Device-dyn g z).seen z.1) (λ z. (goal.Device-dyn g z).faults z.1) c.args.answers.now.items c.args.devices.now in
+    let new = supply_in (λ z. (goal.Device-dyn g z).seen z.1) (λ z. (goal.Device-dyn g z).faults z.1) c.entry_ran.new.answers.items c.entry_ran.new.devices in
     let s = store_in c.args.instance.now in
     let s' = store_in c.begin.new.self in
     let w' = waits_in c.begin.new.self in
@@ -46,5 +37,5 @@ returns-in_ok-turn-in-Some-clause-comes c = λ w is code pokes f.
     let told = c.in_ok-turn-in-Some.ensures.calls (subst (λ z. StoreFits z s) (sym code) fits.0) typed in
     let calls = subst (λ z. Calls z s e.func e.args left used c.in_ok-turn-in-Some.turn s' w') code (subst (λ vs. Calls m s e.func vs left used c.in_ok-turn-in-Some.turn s' w') c.deref.ensures.value told) in
     let ran = entry_turn w l (record { number = l.number; entries = rest; outcomes = [] }) e rest fits.1.0.0 s left used c.in_ok-turn-in-Some.turn s' w' entries refl refl fits.1.0.1 calls in
-    subst (λ z. IfOk c.entry_ran.result (λ m. ComesFrom w z left used m (lines_in c.args.answers.now.items) (lines_in c.entry_ran.new.answers.items) (left_of c.entry_ran.new.left) s' w')) (sym (free_is s l e rest entries))
-    (c.entry_ran.ensures w is (c.begin.ensures.code ∙ code) pokes (free s l) left used ran)
+    subst (λ z. IfOk c.entry_ran.result (λ m. ComesFrom w z left used m old new (left_of c.entry_ran.new.left) s' w')) (sym (free_is s l e rest entries))
+    (c.entry_ran.ensures.comes w is (c.begin.ensures.code ∙ code) pokes (free s l) left used ran)

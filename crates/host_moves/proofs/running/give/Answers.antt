@@ -1,24 +1,14 @@
-use Rattle.std.proofs.Common.{arith, ◌≡◌, ◌≤◌, ◌+◌, ◌-◌, [], ◌∷◌, IfOk, length, map, true, false, refl, sym, ap, ◌∙◌, subst}
+use Rattle.std.proofs.Common.{arith, ◌≡◌, ◌+◌, ◌-◌, IfOk, refl, sym, ap, ◌∙◌, subst}
 use Rattle.std.specs.Option.{option_to_list}
-use Rattle.wa_types.specs.Modules.{func_type_at}
-use Rattle.wa_model.specs.declared.events.End.TheVariants as E
-use Rattle.wa_model.specs.declared.events.Event.TheVariants as EV
 use Rattle.wa_model.specs.Fitting.{types_of, StoreFits}
-use Rattle.wa_model.specs.Blocking.{fault_of, inside, outermost, the_start, an_entry, done_notes}
-use Rattle.wa_model.specs.Protocol.{exports_of, held_on, starting, busy}
-use Rattle.wa_model.specs.View.{answer_of}
-use Rattle.interp.specs.Host.{code_in, store_in, waits_in}
-use Rattle.interp.specs.Instance as I
-use Rattle.interp.specs.Instance.{Calls, Resumes}
-use Rattle.host_turns.specs.Places.{stands}
-use Rattle.host_moves.specs.Views.{entry_of, left_of, lines_in, free_place, place_in, stage_after}
-use Rattle.host_moves.specs.Moves.{Comes, ComesFrom, EndsAt, TaskTurn, IsAsking, Asks}
+use Rattle.wa_model.specs.Blocking.{the_start, an_entry}
+use Rattle.wa_model.specs.Protocol.{exports_of, busy}
+use Rattle.interp.specs.Host.{store_in, waits_in}
+use Rattle.interp.specs.Instance.{Resumes}
+use Rattle.host_moves.specs.Views.{entry_of, left_of, supply_in, place_in}
+use Rattle.host_moves.specs.Moves.{Comes, ComesFrom}
 use Rattle.host_moves.specs.declared.stages.Stage.TheVariants as S
 use Rattle.host_moves.specs.declared.stages.Task.TheVariants as T
-use Rattle.host_moves.proofs.Results.{ended_ok, behind_ok, behind_sum, returned_ok, done_ok, ending_ok, task_asking, free_is, free_fits, none_left}
-use Rattle.host_moves.proofs.Tables.{found_at, name_told, size_told, short_given}
-use Rattle.host_moves.proofs.Tasks.{task_trapped, task_spent, task_asks, start_returned, entry_turn, start_turn, start_defined, import_asks, import_spent}
-use Rattle.host_moves.proofs.Askings.{asking_store, asking_start, told_refused, told_answer}
 use Rattle.wa_model.specs.Blocking.{resumed}
 use Rattle.wa_model.specs.Protocol.{is_running}
 use Rattle.interp.specs.Instance.{Awaits}
@@ -27,7 +17,9 @@ use Rattle.host_moves.proofs.Stagings.{gives, gives_awaits, gives_store, gives_t
 use Rattle.host_moves.proofs.running.give.Goals as goal
 
 pub returns-in-Entry-clause-comes : goal.returns-in-Entry-clause-comes
-returns-in-Entry-clause-comes c = λ w is code pokes f.
+returns-in-Entry-clause-comes g c = λ w is code pokes f.
+    let old = supply_in (λ z. (goal.Device-dyn g z).seen z.1) (λ z. (goal.Device-dyn g z).faults z.1) c.args.answers.now.items c.args.devices.now in
+    let new = supply_in (λ z. (goal.Device-dyn g z).seen z.1) (λ z. (goal.Device-dyn g z).faults z.1) c.entry_ran.new.answers.items c.entry_ran.new.devices in
     let s = store_in c.args.instance.now in
     let waits = waits_in c.args.instance.now in
     let s' = store_in c.resume.new.self in
@@ -42,11 +34,13 @@ returns-in-Entry-clause-comes c = λ w is code pokes f.
     let ran = gives_turn w (T.Entry c.in-Entry.entry) (an_entry (entry_of c.in-Entry.entry)) waits l c.args.value s g left used c.in_ok-turn.turn s' w' (subst (λ z. Resumes z s waits c.args.value left used c.in_ok-turn.turn s' w') code told) in
     let h = busy (is_running (an_entry (entry_of c.in-Entry.entry))) (resumed (record { store = s; here = g.here; under = g.under }) s (option_to_list c.args.value)) l in
     let place = ap (λ z. place_in (exports_of w.source) w.plan.area l s waits (S.Giving z c.args.value)) c.in-Entry.is ∙ g.place_is in
-    subst (λ z. IfOk c.entry_ran.result (λ m. ComesFrom w z left used m (lines_in c.args.answers.now.items) (lines_in c.entry_ran.new.answers.items) (left_of c.entry_ran.new.left) s' w')) (sym place)
-    (c.entry_ran.ensures w is (c.resume.ensures.code ∙ code) pokes h left used ran)
+    subst (λ z. IfOk c.entry_ran.result (λ m. ComesFrom w z left used m old new (left_of c.entry_ran.new.left) s' w')) (sym place)
+    (c.entry_ran.ensures.comes w is (c.resume.ensures.code ∙ code) pokes h left used ran)
 
 pub returns-in-Start-clause-comes : goal.returns-in-Start-clause-comes
-returns-in-Start-clause-comes c = λ w is code pokes f.
+returns-in-Start-clause-comes g c = λ w is code pokes f.
+    let old = supply_in (λ z. (goal.Device-dyn g z).seen z.1) (λ z. (goal.Device-dyn g z).faults z.1) c.args.answers.now.items c.args.devices.now in
+    let new = supply_in (λ z. (goal.Device-dyn g z).seen z.1) (λ z. (goal.Device-dyn g z).faults z.1) c.start_ran.new.answers.items c.start_ran.new.devices in
     let s = store_in c.args.instance.now in
     let waits = waits_in c.args.instance.now in
     let s' = store_in c.resume.new.self in
@@ -63,6 +57,6 @@ returns-in-Start-clause-comes c = λ w is code pokes f.
     let place = ap (λ z. place_in (exports_of w.source) w.plan.area l s waits (S.Giving z c.args.value)) c.in-Start.is ∙ g.place_is in
     let sum : c.resume.new.steps.left + used ≡ left = omega (arith, c.resume.ensures.sum, c.resume.ensures.grows) in
     let total : used + (c.start_ran.new.steps.used - c.resume.new.steps.used) ≡ c.start_ran.new.steps.used - c.args.steps.now.used = omega (arith, c.resume.ensures.grows, c.start_ran.ensures.grows) in
-    subst (λ z. IfOk c.start_ran.result (λ m. ComesFrom w z left (c.start_ran.new.steps.used - c.args.steps.now.used) m (lines_in c.args.answers.now.items) (lines_in c.start_ran.new.answers.items) (left_of c.start_ran.new.left) (store_in c.start_ran.new.instance) (waits_in c.start_ran.new.instance))) (sym place)
-    (subst (λ n. IfOk c.start_ran.result (λ m. Comes w h left n m (lines_in c.args.answers.now.items) (lines_in c.start_ran.new.answers.items) (left_of c.start_ran.new.left) (store_in c.start_ran.new.instance) (waits_in c.start_ran.new.instance))) total
+    subst (λ z. IfOk c.start_ran.result (λ m. ComesFrom w z left (c.start_ran.new.steps.used - c.args.steps.now.used) m old new (left_of c.start_ran.new.left) (store_in c.start_ran.new.instance) (waits_in c.start_ran.new.instance))) (sym place)
+    (subst (λ n. IfOk c.start_ran.result (λ m. Comes w h left n m old new (left_of c.start_ran.new.left) (store_in c.start_ran.new.instance) (waits_in c.start_ran.new.instance))) total
     (c.start_ran.ensures.comes w is (c.resume.ensures.code ∙ code) pokes h left used ran sum g.fits))

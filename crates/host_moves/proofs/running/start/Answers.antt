@@ -1,28 +1,16 @@
-use Rattle.std.proofs.Common.{arith, ◌≡◌, ◌≤◌, ◌<◌, ◌+◌, ◌-◌, [], ◌∷◌, IfOk, length, map, true, false, refl, sym, ap, ◌∙◌, subst}
-use Rattle.std.specs.Option.{option_to_list}
+use Rattle.std.proofs.Common.{arith, ◌≡◌, ◌≤◌, ◌<◌, ◌+◌, ◌-◌, [], IfOk, sym, ap, ◌∙◌, subst}
 use Rattle.wa_types.specs.Modules.{func_imports, func_type_at}
-use Rattle.wa_model.specs.declared.events.End.TheVariants as E
-use Rattle.wa_model.specs.declared.events.Event.TheVariants as EV
-use Rattle.wa_model.specs.Fitting.{types_of, StoreFits}
-use Rattle.wa_model.specs.Blocking.{fault_of, inside, outermost, the_start, an_entry, done_notes}
-use Rattle.wa_model.specs.Protocol.{exports_of, held_on, starting, busy}
-use Rattle.wa_model.specs.View.{answer_of}
+use Rattle.wa_model.specs.Fitting.{StoreFits}
+use Rattle.wa_model.specs.Protocol.{starting}
 use Rattle.interp.specs.Host.{code_in, store_in, waits_in}
-use Rattle.interp.specs.Instance as I
-use Rattle.interp.specs.Instance.{Calls, Resumes}
-use Rattle.host_turns.specs.Places.{stands}
-use Rattle.host_moves.specs.Views.{entry_of, left_of, lines_in, free_place, place_in, stage_after}
-use Rattle.host_moves.specs.Moves.{Comes, ComesFrom, EndsAt, TaskTurn, IsAsking, Asks}
-use Rattle.host_moves.specs.declared.stages.Stage.TheVariants as S
-use Rattle.host_moves.specs.declared.stages.Task.TheVariants as T
-use Rattle.host_moves.proofs.Results.{ended_ok, behind_ok, behind_sum, returned_ok, done_ok, ending_ok, task_asking, free_is, free_fits, none_left}
-use Rattle.host_moves.proofs.Tables.{found_at, name_told, size_told, short_given}
-use Rattle.host_moves.proofs.Tasks.{task_trapped, task_spent, task_asks, start_returned, entry_turn, start_turn, start_defined, import_asks, import_spent}
-use Rattle.host_moves.proofs.Askings.{asking_store, asking_start, told_refused, told_answer}
+use Rattle.interp.specs.Instance.{Calls}
+use Rattle.host_moves.specs.Views.{left_of, supply_in}
+use Rattle.host_moves.specs.Moves.{Comes}
+use Rattle.host_moves.proofs.Tasks.{start_turn, start_defined}
 use Rattle.host_moves.proofs.running.start.Goals as goal
 
 pub returns-then-func-len-clause-comes : goal.returns-then-func-len-clause-comes
-returns-then-func-len-clause-comes c = λ w is code pokes f.
+returns-then-func-len-clause-comes g c = λ w is code pokes f.
     let s = store_in c.args.instance.now in
     let s' = store_in c.begin.new.self in
     let w' = waits_in c.begin.new.self in
@@ -33,10 +21,12 @@ returns-then-func-len-clause-comes c = λ w is code pokes f.
     let typed = sym f.1.0 ∙ ap (λ z. (func_type_at z c.args.func).params) (sym code) in
     let told = c.in_ok-turn.ensures.calls (subst (λ z. StoreFits z s) (sym code) f.0) typed in
     let calls = subst (λ z. Calls z s c.args.func [] left used c.in_ok-turn.turn s' w') code told in
-    c.start_asked.ensures w is (c.begin.ensures.code ∙ code) pokes s c.args.func l left used (let lt : c.args.func < func_imports w.source = omega (arith, c.len.ensures, c.args.setting.now.imports.ok.0, is.all, c.if-func-len.true) in lt) calls
+    c.start_asked.ensures.comes w is (c.begin.ensures.code ∙ code) pokes s c.args.func l left used (let lt : c.args.func < func_imports w.source = omega (arith, c.len.ensures, c.args.setting.now.imports.ok.0, is.all, c.if-func-len.true) in lt) calls
 
 pub returns-clause-comes : goal.returns-clause-comes
-returns-clause-comes c = λ w is code pokes f.
+returns-clause-comes g c = λ w is code pokes f.
+    let old = supply_in (λ z. (goal.Device-dyn g z).seen z.1) (λ z. (goal.Device-dyn g z).faults z.1) c.args.answers.now.items c.args.devices.now in
+    let new = supply_in (λ z. (goal.Device-dyn g z).seen z.1) (λ z. (goal.Device-dyn g z).faults z.1) c.start_ran.new.answers.items c.start_ran.new.devices in
     let s = store_in c.args.instance.now in
     let s' = store_in c.begin.new.self in
     let w' = waits_in c.begin.new.self in
@@ -51,5 +41,5 @@ returns-clause-comes c = λ w is code pokes f.
     let ran = start_turn w l c.args.func there.0 s left used c.in_ok-turn.turn s' w' there.1 calls in
     let sum : c.begin.new.steps.left + used ≡ left = omega (arith, c.begin.ensures.sum, c.begin.ensures.grows) in
     let total : used + (c.start_ran.new.steps.used - c.begin.new.steps.used) ≡ c.start_ran.new.steps.used - c.args.steps.now.used = omega (arith, c.begin.ensures.grows, c.start_ran.ensures.grows) in
-    subst (λ n. IfOk c.start_ran.result (λ m. Comes w (starting c.args.func s l) left n m (lines_in c.args.answers.now.items) (lines_in c.start_ran.new.answers.items) (left_of c.start_ran.new.left) (store_in c.start_ran.new.instance) (waits_in c.start_ran.new.instance))) total
+    subst (λ n. IfOk c.start_ran.result (λ m. Comes w (starting c.args.func s l) left n m old new (left_of c.start_ran.new.left) (store_in c.start_ran.new.instance) (waits_in c.start_ran.new.instance))) total
     (c.start_ran.ensures.comes w is (c.begin.ensures.code ∙ code) pokes (starting c.args.func s l) left used ran sum f)

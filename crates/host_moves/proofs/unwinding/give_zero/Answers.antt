@@ -1,22 +1,17 @@
-use Rattle.std.proofs.Common.{arith, ◌≡◌, ◌≤◌, ◌+◌, ◌-◌, [], ◌∷◌, true, false, refl, sym, ap, ◌∙◌, subst}
+use Rattle.std.proofs.Common.{◌-◌, [], sym, ap, ◌∙◌, subst}
 use Rattle.std.specs.Option.{option_to_list}
-use Rattle.wa_types.specs.declared.values.Value.TheVariants as V
 use Rattle.wa_model.specs.declared.events.End.TheVariants as E
 use Rattle.wa_model.specs.Fitting.{types_of, StoreFits}
 use Rattle.wa_model.specs.Blocking.{resumed}
-use Rattle.wa_model.specs.Protocol.{exports_of, busy, calling, entering, give_zero, test_unwound, pause_there, call_again, test_rewound, give_answer, is_state, trap_end, used_of, zeros_of, with_words}
-use Rattle.wa_model.specs.View.{answer_of}
-use Rattle.run_laws.specs.FittingStates.{Callable}
+use Rattle.wa_model.specs.Protocol.{exports_of, busy, calling, test_unwound, trap_end, zeros_of}
 use Rattle.interp.specs.Host.{code_in, store_in, waits_in}
-use Rattle.interp.specs.Instance.{Awaits, Calls, Resumes, Turns, inside}
-use Rattle.host_moves.specs.Views.{entry_of, unwinding, rewinding, pausing}
-use Rattle.host_moves.specs.Moves.{Comes, ComesFrom, EndsAt, Exports, Returns}
-use Rattle.host_moves.specs.declared.exports.Work.TheVariants.{Unwinding, Rewinding}
+use Rattle.interp.specs.Instance.{Awaits, Resumes, Turns}
+use Rattle.host_moves.specs.Views.{unwinding}
+use Rattle.host_moves.specs.Moves.{EndsAt}
 use Rattle.host_moves.proofs.Comings.{fits_on}
 use Rattle.host_moves.proofs.Fronts.{awaits_from}
-use Rattle.host_moves.proofs.Results.{ended_ok, behind_ok, export_got}
-use Rattle.host_moves.proofs.Stagings.{pauses}
-use Rattle.host_moves.proofs.Pauses.{calls_in, turn_trapped, turn_spent, unwound, unwound_asked, again_returned, again_trapped, again_spent, again_other, again_asked, started_unwind, state_unwound, state_not_unwound, stopped_unwind, started_rewind, state_rewound, state_not_rewound, stopped_rewind}
+use Rattle.host_moves.proofs.Results.{ended_ok, behind_ok}
+use Rattle.host_moves.proofs.Pauses.{turn_trapped, turn_spent, unwound, unwound_asked}
 use Rattle.host_moves.proofs.unwinding.give_zero.Goals as goal
 
 pub returns-in-Returned-clause-comes : goal.returns-in-Returned-clause-comes

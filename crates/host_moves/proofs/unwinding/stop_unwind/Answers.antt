@@ -1,7 +1,7 @@
-use Rattle.std.proofs.Common.{arith, ◌≡◌, ◌≤◌, ◌+◌, ◌-◌, [], ◌∷◌, true, false, refl, sym, ap, ◌∙◌, subst}
+use Rattle.std.proofs.Common.{◌-◌, [], refl, sym, ap, ◌∙◌, subst}
 use Rattle.wa_model.specs.Protocol.{exports_of, calling, pause_there, used_of}
 use Rattle.run_laws.specs.FittingStates.{Callable}
-use Rattle.interp.specs.Host.{code_in, store_in, waits_in}
+use Rattle.interp.specs.Host.{store_in, waits_in}
 use Rattle.host_moves.specs.Views.{unwinding}
 use Rattle.host_moves.specs.declared.exports.Work.TheVariants.{Unwinding}
 use Rattle.host_moves.proofs.Results.{ended_ok, export_got}

@@ -1,4 +1,4 @@
-use Rattle.std.proofs.Common.{◌≡◌, ◌++◌, [], ◌∷◌, map, drop, get_or, drop-cons, add-one, refl, sym, ap, ◌∙◌, append-nil}
+use Rattle.std.proofs.Common.{◌++◌, ◌∷◌, map, drop, get_or, drop-cons, add-one, refl, sym, ap, ◌∙◌, append-nil}
 use Rattle.host_setup.specs.Views.{entry_of as named_of}
 use Rattle.host_moves.specs.declared.stages.EntryCall.{EntryCall}
 use Rattle.host_moves.specs.Views.{entry_of}

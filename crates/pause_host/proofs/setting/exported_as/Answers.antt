@@ -1,4 +1,4 @@
-use Rattle.std.proofs.Common.{sym, ap, ◌∙◌}
+use Rattle.std.proofs.Common.{ap, ◌∙◌}
 use Rattle.wa_model.specs.Protocol.{index_of}
 use Rattle.pause_host.proofs.Parts.{found_same}
 use Rattle.pause_host.proofs.setting.exported_as.Goals as goal
