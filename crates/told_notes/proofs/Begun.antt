@@ -1,14 +1,9 @@
 -- A turn begins.
-use Rattle.std.proofs.Common.{◌≡◌, ℕ, suc, List, [], ◌∷◌, ◌++◌, map, Option, Some, None, Bool, true, false, slice_get, slice_set, refl, sym, ap, ◌∙◌, append-nil}
+use Rattle.std.proofs.Common.{◌≡◌, ℕ, List, [], map, Option, Some, None, Bool, true, false, slice_get, slice_set, refl, sym, ap, ◌∙◌, append-nil}
 use Rattle.std.specs.Option.{option_map}
 use Rattle.std.proofs.lemmas.Option.{slice_get-map}
-use Rattle.wa_model.specs.declared.answers.Detach.{Detach}
-use Rattle.wa_model.specs.Outside.{Line}
-use Rattle.wa_model.specs.World.{Device, Program}
-use Rattle.event_order.specs.Dues.{IsLeast}
-use Rattle.told_worlds.specs.Turns.{Teller, unless, due_of, Tells}
+use Rattle.told_worlds.specs.Turns.{Teller, unless, due_of}
 use Rattle.told_worlds.proofs.Places.{set_same}
-use Rattle.told_notes.specs.Notes.{TellsOn}
 use Rattle.told_notes.specs.Laws.{NothingTold, TurnBegins}
 use Rattle.told_notes.proofs.Notes.{told_nothing}
 

@@ -1,5 +1,5 @@
 -- One note more of a turn.
-use Rattle.std.proofs.Common.{◌≡◌, ℕ, suc, List, [], ◌∷◌, ◌++◌, map, Option, Some, Bool, true, false, slice_get, slice_set, refl, sym, ap, ◌∙◌, subst, append_assoc}
+use Rattle.std.proofs.Common.{◌≡◌, ℕ, suc, List, [], ◌∷◌, ◌++◌, map, Some, true, false, slice_get, slice_set, sym, ap, ◌∙◌, subst, append_assoc}
 use Rattle.std.proofs.lemmas.List.{map-append, set-set}
 use Rattle.std.proofs.lemmas.Option.{same_Some}
 use Rattle.wa_model.specs.declared.answers.Detach.{Detach}
@@ -8,7 +8,7 @@ use Rattle.wa_model.specs.Plan.{Outcome}
 use Rattle.wa_model.specs.Blocking.{Note, events_of}
 use Rattle.wa_model.specs.World.{Device, Program, detached, CallsMeet, ends_turn, line_at, looks_after, events_with_looks}
 use Rattle.event_order.specs.Dues.{IsLeast}
-use Rattle.told_worlds.specs.Turns.{Teller, due_of, having_told, Tells, TellsTurn}
+use Rattle.told_worlds.specs.Turns.{Teller, due_of, having_told, Tells}
 use Rattle.told_worlds.proofs.Places.{set_here}
 use Rattle.told_notes.specs.Notes.{TellsOn}
 use Rattle.told_notes.specs.Laws.{TurnGoesOn, TurnEnds}

@@ -1,4 +1,7 @@
 pub mod Begun
+pub mod Completed
+pub mod Counted
 pub mod Further
 pub mod Notes
+pub mod Stories
 pub mod Worlds

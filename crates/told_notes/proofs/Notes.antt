@@ -1,5 +1,5 @@
 -- Notes of a turn, with one more.
-use Rattle.std.proofs.Common.{arith, ◌≡◌, ◌+◌, ℕ, List, [], ◌∷◌, ◌++◌, map, Option, Some, None, Bool, true, false, ◌||◌, refl, sym, ap, ◌∙◌, subst, append_assoc, append-nil}
+use Rattle.std.proofs.Common.{arith, ◌≡◌, ◌+◌, List, [], ◌∷◌, ◌++◌, Option, Some, None, Bool, true, false, ◌||◌, refl, sym, ap, ◌∙◌, subst, append_assoc, append-nil}
 use Rattle.std.specs.Prelude.{MatchBool}
 use Rattle.wa_model.specs.Outside.{AnswerLine, Call, Event, called, answered, paused, returned, ended, shown}
 use Rattle.wa_model.specs.Plan.{Outcome}
@@ -24,7 +24,7 @@ no_end (returned entry v) h = refl
 no_end (ended how) h = cc
 no_end (shown at bytes) h = refl
 
-no_looks : (looks : List Look) (x : Note) (e : Event) → ends_turn e ≡ false → looks_after looks x e ≡ []
+pub no_looks : (looks : List Look) (x : Note) (e : Event) → ends_turn e ≡ false → looks_after looks x e ≡ []
 no_looks looks x (called c) h = refl
 no_looks looks x (answered v) h = refl
 no_looks looks x (paused ticks used) h = cc

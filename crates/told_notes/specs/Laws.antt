@@ -5,11 +5,10 @@ use Rattle.wa_model.specs.declared.answers.Detach.{Detach}
 use Rattle.wa_model.specs.Outside.{AnswerLine, Line}
 use Rattle.wa_model.specs.Plan.{Outcome}
 use Rattle.wa_model.specs.Blocking.{Note}
-use Rattle.wa_model.specs.World.{Device, Program, detached, CallsMeet, ends_turn, line_at, looks_after}
-use Rattle.world_laws.specs.Played.{ProtocolWorldUpTo}
-use Rattle.event_order.specs.Dues.{IsLeast}
-use Rattle.told_worlds.specs.Turns.{Teller, starting, due_of, having_told, Tells, HasStory}
-use Rattle.told_notes.specs.Notes.{TellsOn}
+use Rattle.wa_model.specs.World.{Device, Program, ProtocolWorld, detached, CallsMeet, ends_turn, line_at, looks_after}
+use Rattle.event_order.specs.Dues.{HaveEnded, IsLeast}
+use Rattle.told_worlds.specs.Turns.{Teller, starting, due_of, having_told, Tells}
+use Rattle.told_notes.specs.Notes.{OnStory, TellsOn}
 
 -- Before the first turn nothing is told,
 abbrev pub NothingTold : Type 0
@@ -40,8 +39,26 @@ TurnEnds =
     → CallsMeet w (x ∷ []) met t.answers ds' [] answers es → ends_turn x.event ≡ true
     → Tells programs detaches ds (suc number) (lines ++ line_at due i x.event ∷ map (line_at due i) (looks_after w.looks x x.event)) (slice_set tellers i (having_told t (x ∷ []) met answers)) es
 
--- The whole turns before one that has begun are a world played up to that event.
-abbrev pub BegunIsWorld : Type 0
-BegunIsWorld =
+-- ---- worlds
+
+-- some run of the world has these first lines
+abbrev pub BeginsWorld : List Program → List Detach → List Device → List Line → Type 0
+BeginsWorld programs detaches ds lines = (more : List Line) × (last : List Device) × ProtocolWorld programs detaches ds (lines ++ more) last
+
+-- The lines of whole turns begin a run of the world, where what each program has told begins its story,
+abbrev pub ToldBegins : Type 0
+ToldBegins =
+    (programs : List Program) (detaches : List Detach) (ds ds' : List Device) (number : ℕ) (lines : List Line) (tellers : List Teller)
+    → Tells programs detaches ds number lines tellers ds' → AllZip OnStory programs tellers → BeginsWorld programs detaches ds lines
+
+-- and so do those with the beginning of the next turn.
+abbrev pub BegunBegins : Type 0
+BegunBegins =
     (programs : List Program) (detaches : List Detach) (ds ds' : List Device) (number i due : ℕ) (lines : List Line) (tellers : List Teller)
-    → (on : TellsOn programs detaches ds number i due lines tellers ds') → AllZip HasStory programs tellers → ProtocolWorldUpTo programs detaches ds number on.before on.es
+    → TellsOn programs detaches ds number i due lines tellers ds' → AllZip OnStory programs tellers → BeginsWorld programs detaches ds lines
+
+-- Once all programs have ended, they are a whole run.
+abbrev pub ToldWhole : Type 0
+ToldWhole =
+    (programs : List Program) (detaches : List Detach) (ds ds' : List Device) (number : ℕ) (lines : List Line) (tellers : List Teller)
+    → Tells programs detaches ds number lines tellers ds' → AllZip OnStory programs tellers → HaveEnded (map due_of tellers) → ProtocolWorld programs detaches ds lines ds'

@@ -1,6 +1,6 @@
 //! Laws of notes that are told one after another. Each is the contract of a function that does nothing.
 
-ghost use Rattle.told_notes.specs.Laws.{BegunIsWorld, NothingTold, TurnBegins, TurnEnds, TurnGoesOn};
+ghost use Rattle.told_notes.specs.Laws.{BegunBegins, NothingTold, ToldBegins, ToldWhole, TurnBegins, TurnEnds, TurnGoesOn};
 
 /// Nothing is told at first; a turn begins, goes on with each note, and ends.
 pub fn notes_are_told_in_turn()
@@ -10,7 +10,9 @@ pub fn notes_are_told_in_turn()
     ensures ends { TurnEnds }
 {}
 
-/// The whole turns before one that has begun are a world played up to that event.
-pub fn begun_turns_are_of_a_world()
-    ensures { BegunIsWorld }
+/// What is told at any time begins a run of the world, and is a whole one once all programs have ended.
+pub fn told_notes_are_of_a_world()
+    ensures turns { ToldBegins }
+    ensures begun { BegunBegins }
+    ensures whole { ToldWhole }
 {}

@@ -1,24 +1,26 @@
 -- A program tells one note more of its turn.
-use Rattle.std.proofs.Common.{arith, ◌≡◌, ◌<◌, ◌+◌, ◌⊎◌, inl, inr, ℕ, suc, List, [], ◌∷◌, ◌++◌, length, map, drop, Option, Some, Bool, true, false, slice_get, slice_set, refl, sym, ap, ◌∙◌, subst, length-set, append_assoc}
+use Rattle.std.proofs.Common.{arith, ◌≡◌, ◌⊎◌, inl, inr, ℕ, suc, List, [], ◌∷◌, ◌++◌, map, Option, Some, Bool, true, false, slice_get, slice_set, refl, sym, ap, ◌∙◌, subst, length-set, append_assoc}
 use Rattle.std.proofs.lemmas.Bool.{cases_eq}
 use Rattle.std.proofs.lemmas.Option.{same_Some}
 use Rattle.wa_model.specs.declared.answers.Detach.{Detach}
 use Rattle.wa_model.specs.Outside.{AnswerLine, Event, called, answered, paused, returned, ended, shown, Line}
 use Rattle.wa_model.specs.Plan.{Outcome}
 use Rattle.wa_model.specs.Blocking.{Note}
-use Rattle.wa_model.specs.World.{Device, Look, Program, CallsMeet, call_in, ends_turn, is_end, line_at, looks_after, put_off, ticks_in}
-use Rattle.event_order.specs.declared.shows.Show.{Show}
+use Rattle.wa_model.specs.World.{Device, Program, CallsMeet, call_in, ends_turn, is_end, line_at, looks_after}
 use Rattle.event_order.specs.declared.turns.Turn.{Turn}
+use Rattle.event_order.specs.Left.{Counted}
 use Rattle.event_order.specs.Looks.{looks_of}
-use Rattle.told_worlds.specs.Turns.{Teller, unless, due_of, ends_program, having_told, Tells}
+use Rattle.told_worlds.specs.Turns.{Teller, unless, due_of, having_told, Tells}
 use Rattle.told_worlds.proofs.Places.{set_here, set_there}
 use Rattle.told_notes.specs.Notes.{TellsOn}
 use Rattle.told_notes.proofs.Notes.{ends_none, off_none}
 use Rattle.told_notes.proofs.Further.{turn_goes_on, turn_ends}
+use Rattle.host_turns.specs.Supplies.{Takes}
 use Rattle.host_turns.proofs.Tellings.{one_more_met}
 use Rattle.turn_taking.specs.declared.turns.Stage.{Stage}
-use Rattle.turn_taking.specs.declared.turns.Stage.TheVariants.{Between, Telling, Showing}
+use Rattle.turn_taking.specs.declared.turns.Stage.TheVariants.{Telling}
 use Rattle.turn_taking.specs.Telling.{TellsNote, supply}
+use Rattle.turn_taking.specs.Calls.{TakesCall, devices_of, faults_of}
 use Rattle.turn_taking.specs.Standing.{Held, IsHeld, Standing, StandsAt, due_behind, looks_at, stage_behind}
 use Rattle.turn_taking.proofs.Places.{or_false, ends_on, dues_set}
 
@@ -122,9 +124,11 @@ module _ {X : Type 0} (follows : X → Program → List Note → List Outcome �
     stands due (returned entry v) is = (s.at.0, s.at.1, subst (λ (v : Event). TellsOn programs detaches ds s.at.0 i turn.due (lines ++ line v ∷ []) after ds'') is (goes (ap ends_turn is)))
     stands due (shown at bytes) is = (s.at.0, s.at.1, subst (λ (v : Event). TellsOn programs detaches ds s.at.0 i turn.due (lines ++ line v ∷ []) after ds'') is (goes (ap ends_turn is)))
     stands due (paused ticks used) is = subst (λ (v : Event). Whole (lines ++ line v ∷ map line (looks_after on.w.looks n.note v))) is (ends (ap ends_turn is))
-    stands due (ended how) is =
-        (x', set_here h.programs i x' x there,
-          subst Whole lines_are (subst (λ (v : Event). Whole (lines ++ line v ∷ map line (looks_after on.w.looks n.note v))) is (ends (ap ends_turn is))))
+    stands due (ended how) is = (
+      x',
+      set_here h.programs i x' x there,
+      subst Whole lines_are (subst (λ (v : Event). Whole (lines ++ line v ∷ map line (looks_after on.w.looks n.note v))) is (ends (ap ends_turn is))),
+    )
       where
         lines_are : lines ++ line (ended how) ∷ map line (looks_at n.note.store.memory on.w.looks) ≡ (lines ++ line (ended how) ∷ []) ++ map line (looks_at (memory x') (looks_of i h.shows))
         lines_are =
@@ -142,4 +146,21 @@ module _ {X : Type 0} (follows : X → Program → List Note → List Outcome �
           dues = dues due due_is;
           detaches_are = s.detaches_are;
           at = subst (λ (g : Stage). StandsAt memory programs detaches ds (lines ++ line e ∷ []) after (held_now due) ds'' g) (sym stage_is) (stands due e refl);
+        }
+
+    -- what the call took
+    pub call_on : (old new : List Counted) → devices_of old ≡ ds' → faults_of old ≡ faults → devices_of new ≡ ds'' → faults_of new ≡ faults' → TakesCall programs (line_at turn.due i e) old new
+    call_on old new d f d' f' =
+        record {
+          w = on.w;
+          program = on.program;
+          answers = now.answers;
+          left = n.answers;
+          met = n.met;
+          takes =
+              subst (λ (v : Event). Takes on.w (call_in v) (supply now.answers (devices_of old) (faults_of old)) n.met (supply n.answers (devices_of new) (faults_of new))) n.event_is
+              (subst (λ (l : List Device). Takes on.w (call_in n.note.event) (supply now.answers l (faults_of old)) n.met (supply n.answers (devices_of new) (faults_of new))) (sym d)
+              (subst (λ (l : List ℕ). Takes on.w (call_in n.note.event) (supply now.answers ds' l) n.met (supply n.answers (devices_of new) (faults_of new))) (sym f)
+              (subst (λ (l : List Device). Takes on.w (call_in n.note.event) (supply now.answers ds' faults) n.met (supply n.answers l (faults_of new))) (sym d')
+              (subst (λ (l : List ℕ). Takes on.w (call_in n.note.event) (supply now.answers ds' faults) n.met (supply n.answers ds'' l)) (sym f') n.takes))));
         }

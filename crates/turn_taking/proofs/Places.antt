@@ -1,11 +1,10 @@
 -- Small facts of lists, ends and due ticks.
-use Rattle.std.proofs.Common.{arith, ◌≡◌, ◌<◌, ◌+◌, ◌⊎◌, inl, inr, ℕ, List, [], ◌∷◌, ◌++◌, length, map, Option, Some, Bool, true, false, ◌||◌, slice_get, slice_set, refl, sym, ap, ◌∙◌, get_or}
+use Rattle.std.proofs.Common.{◌≡◌, ◌<◌, ℕ, List, [], ◌∷◌, ◌++◌, length, map, Some, Bool, true, false, ◌||◌, slice_get, slice_set, refl, sym, ap, ◌∙◌, get_or}
 use Rattle.std.proofs.lemmas.List.{map-set}
 use Rattle.std.proofs.lemmas.Option.{slice_get-get_or}
 use Rattle.wa_model.specs.Blocking.{Note}
 use Rattle.wa_model.specs.World.{is_end}
-use Rattle.told_worlds.specs.Turns.{Teller, unless, due_of, ends_program}
-use Rattle.told_worlds.proofs.Places.{set_same}
+use Rattle.told_worlds.specs.Turns.{Teller, due_of, ends_program}
 
 -- what is read at a place stands there
 pub stands_at : {X : Type 0} (xs : List X) (i : ℕ) (x : X) → i < length xs → x ≡ get_or xs i x → slice_get xs i ≡ Some x

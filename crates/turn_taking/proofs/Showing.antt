@@ -1,5 +1,6 @@
 -- What is shown behind a program's end.
-use Rattle.std.proofs.Common.{arith, ◌≡◌, ◌<◌, ◌+◌, ℕ, suc, List, [], ◌∷◌, ◌++◌, map, drop, Option, Some, None, Bool, slice_get, refl, sym, ap, ◌∙◌, subst, append_assoc, append-nil}
+use Rattle.std.proofs.Common.{arith, ◌≡◌, ◌+◌, ℕ, suc, List, [], ◌∷◌, ◌++◌, map, drop, Option, Some, None, Bool, Result, Ok, Err, slice_get, sym, ap, ◌∙◌, subst, append_assoc, append-nil}
+use Rattle.std.specs.Prelude.{IfOk, MatchOption}
 use Rattle.std.proofs.lemmas.Option.{same_Some}
 use Rattle.wa_model.specs.declared.answers.Detach.{Detach}
 use Rattle.wa_model.specs.Outside.{AnswerLine, Event, Line, shown}
@@ -52,7 +53,20 @@ module _ {X : Type 0} (follows : X → Program → List Note → List Outcome �
         each = s.each;
         dues = s.dues;
         detaches_are = s.detaches_are;
-        at = (x, there,
+        at = (
+          x,
+          there,
           subst (λ (ls : List Line). Tells programs detaches ds h.begun ls s.tellers ds')
-              (ap (λ (ls : List Line). lines ++ ls) first ∙ sym (append_assoc lines (line e ∷ []) (map line (looks_at (memory x) (looks_of turn.program (drop next h.shows)))))) s.at.2);
+              (ap (λ (ls : List Line). lines ++ ls) first ∙ sym (append_assoc lines (line e ∷ []) (map line (looks_at (memory x) (looks_of turn.program (drop next h.shows)))))) s.at.2,
+        );
       }
+
+-- ---- whether there is one
+
+pub looks_left : (program : ℕ) (shows : List Show) (from place : ℕ) → IsNextShow program shows from place → looks_of program (drop from shows) ≡ [] → ⊥
+looks_left program shows from place is out = let bad : [] ≡ look_of is.show ∷ looks_of program (drop (suc place) shows) = sym out ∙ is.first in cc
+
+pub none_out : {L E : Type 0} (A B : Type 0) (r : Result (Option L) E) → B → IfOk r (λ o. MatchOption o A (λ l. A → ⊥)) → IfOk r (λ o. MatchOption o (A × B) (λ l. A → B → ⊥))
+none_out A B (Ok (Some l)) b h = λ x y. h x
+none_out A B (Ok None) b h = (h, b)
+none_out A B (Err e) b h = tt

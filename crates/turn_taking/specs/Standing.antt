@@ -2,7 +2,7 @@
 use Rattle.std.specs.Prelude.{◌≡◌, ◌≤◌, ◌<◌, ℕ, suc, ◌+◌, List, [], ◌∷◌, ◌++◌, length, map, drop, Option, Some, Bool, MatchOption, slice_get}
 use Rattle.wa_model.specs.declared.answers.Detach.{Detach}
 use Rattle.wa_model.specs.declared.events.Line.{Line as LineValue}
-use Rattle.wa_model.specs.Outside.{AnswerLine, Event, called, answered, paused, returned, ended, shown, Line}
+use Rattle.wa_model.specs.Outside.{AnswerLine, Event, paused, ended, shown, Line}
 use Rattle.wa_model.specs.Plan.{Outcome}
 use Rattle.wa_model.specs.View.{line_of}
 use Rattle.wa_model.specs.Blocking.{Note}
@@ -11,7 +11,7 @@ use Rattle.event_order.specs.declared.shows.Show.{Show}
 use Rattle.event_order.specs.declared.turns.Turn.{Turn}
 use Rattle.event_order.specs.Dues.{HaveEnded}
 use Rattle.event_order.specs.Looks.{looks_of}
-use Rattle.told_worlds.specs.Turns.{Teller, unless, due_of, ends_program, Tells}
+use Rattle.told_worlds.specs.Turns.{Teller, starting, unless, due_of, ends_program, Tells}
 use Rattle.told_notes.specs.Notes.{TellsOn}
 use Rattle.turn_taking.specs.declared.turns.Stage.{Stage}
 use Rattle.turn_taking.specs.declared.turns.Stage.TheVariants.{Between, Telling, Showing}
@@ -70,6 +70,17 @@ abbrev pub TellsNext : {X : Type 0} → (X → Program → List Note → List Ou
 TellsNext follows over memory programs detaches ds lines h ds' result =
     MatchOption result (AllTold follows over memory programs detaches ds lines (held_of h) ds')
     (λ line. Standing follows over memory programs detaches ds (lines ++ line_of line ∷ []) (held_of h) ds' h.stage)
+
+-- The programs of a world, of which none has told anything yet.
+pub record AllStart {X : Type 0} (follows : X → Program → List Note → List Outcome → List AnswerLine → Type 0) (over : X → Bool) (shows : List Show) (programs : List Program) (xs : List X) : Type 0 where
+  pub wide : length xs ≡ length programs
+  pub each : (i : ℕ) (w : Program) (x : X) → slice_get programs i ≡ Some w → slice_get xs i ≡ Some x → IsHeld follows over shows i w (starting w) x
+
+-- nothing is still to be shown
+abbrev pub LooksOut : List Show → Stage → Type 0
+LooksOut shows Between = Unit {0}
+LooksOut shows (Telling turn) = ⊥
+LooksOut shows (Showing turn from) = looks_of turn.program (drop from shows) ≡ []
 
 -- ---- what an event leads to
 

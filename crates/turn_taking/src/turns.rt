@@ -4,7 +4,10 @@ ghost use Rattle.wa_model.specs.View.{line_of};
 ghost use Rattle.wa_model.specs.World.{Device, Program};
 ghost use Rattle.device_port.specs.Listed.{of_all};
 ghost use Rattle.host_turns.specs.Supplies.{IsLent};
-ghost use Rattle.turn_taking.specs.Standing.{AllTold, InRange, Standing, TellsNext, held_of};
+ghost use Rattle.std.specs.Prelude.{map, MatchOption, Some};
+ghost use Rattle.event_order.specs.Dues.{HaveEnded};
+ghost use Rattle.turn_taking.specs.Calls.{TakesCall, TakesNext, left_at};
+ghost use Rattle.turn_taking.specs.Standing.{AllStart, AllTold, InRange, LooksOut, Standing, TellsNext, held_of};
 
 use crate::settling::settle;
 use crate::teller::Teller;
@@ -34,6 +37,38 @@ pub struct Turns<T> {
 }
 
 impl<T: Teller + Drop> Turns<T> {
+    /// Programs of which none has told anything yet, all due at tick 0.
+    pub fn new(
+        alloc: Global,
+        programs: Vec<T>,
+        detaches: Vec<Detach>,
+        shows: Vec<Show>,
+    ) -> Result<Turns<T>, AllocError>
+        requires few { length programs.items ≤ 16 }
+        ensures range { IfOk result (λ h. InRange h) }
+        ensures begun { IfOk result (λ h. h.begun ≡ 0) }
+        ensures stands { (ws : List Program) (ds : List Device) → AllStart T.follows T.has_ended shows.items ws programs.items
+            → IfOk result (λ h. Standing T.follows T.has_ended T.memory ws detaches.items ds [] (held_of h) ds h.stage) }
+    {
+        let dues = first_dues(alloc, &programs)?;
+        Ok(Turns {
+            alloc,
+            programs,
+            dues,
+            detaches,
+            shows,
+            begun: 0,
+            stage: Stage::Between,
+        })
+    }
+
+    /// How many turns have begun.
+    pub fn events(&self) -> u64
+        ensures { result ≡ (held_of self.now).begun }
+    {
+        self.begun
+    }
+
     /// The next line; None where all programs have ended and all shows are out. After want of memory it isn't called again.
     pub fn next(&mut self, devices: &mut Devices<'_>) -> Result<Option<Line>, AllocError>
         requires lent { IsLent }
@@ -43,6 +78,13 @@ impl<T: Teller + Drop> Turns<T> {
         ensures told { (programs : List Program) (detaches : List Detach) (ds : List Device) (lines : List WorldLine)
             → Standing T.follows T.has_ended T.memory programs detaches ds lines (held_of self.old) (of_all seen devices.old) self.old.stage
             → IfOk result (TellsNext T.follows T.has_ended T.memory programs detaches ds lines self.new (of_all seen devices.new)) }
+        ensures none { IfOk result (λ line. MatchOption line (HaveEnded self.old.dues.items × LooksOut self.old.shows.items self.old.stage)
+            (λ l. HaveEnded self.old.dues.items → LooksOut self.old.shows.items self.old.stage → ⊥)) }
+        ensures calls { (programs : List Program) (detaches : List Detach) (ds : List Device) (lines : List WorldLine)
+            → Standing T.follows T.has_ended T.memory programs detaches ds lines (held_of self.old) (of_all seen devices.old) self.old.stage
+            → IfOk result (λ line. TakesNext programs line (of_all (λ d. record { device = seen d; faults = faults d }) devices.old)
+            (left_at self.old.begun self.new.begun detaches (of_all (λ d. record { device = seen d; faults = faults d }) devices.old))
+            (of_all (λ d. record { device = seen d; faults = faults d }) devices.new)) }
     {
         match self.stage {
             Stage::Between => self.begin(devices),
@@ -60,6 +102,12 @@ impl<T: Teller + Drop> Turns<T> {
         ensures told { (programs : List Program) (detaches : List Detach) (ds : List Device) (lines : List WorldLine)
             → Standing T.follows T.has_ended T.memory programs detaches ds lines (held_of self.old) (of_all seen devices.old) Stage.Between
             → IfOk result (TellsNext T.follows T.has_ended T.memory programs detaches ds lines self.new (of_all seen devices.new)) }
+        ensures none { IfOk result (λ line. MatchOption line (HaveEnded self.old.dues.items) (λ l. HaveEnded self.old.dues.items → ⊥)) }
+        ensures calls { (programs : List Program) (detaches : List Detach) (ds : List Device) (lines : List WorldLine)
+            → Standing T.follows T.has_ended T.memory programs detaches ds lines (held_of self.old) (of_all seen devices.old) Stage.Between
+            → IfOk result (λ line. TakesNext programs line (of_all (λ d. record { device = seen d; faults = faults d }) devices.old)
+            (left_at self.old.begun self.new.begun detaches (of_all (λ d. record { device = seen d; faults = faults d }) devices.old))
+            (of_all (λ d. record { device = seen d; faults = faults d }) devices.new)) }
     {
         let Some(turn) = next_turn(&self.dues) else {
             return Ok(None);
@@ -83,6 +131,11 @@ impl<T: Teller + Drop> Turns<T> {
         ensures told { (programs : List Program) (detaches : List Detach) (ds : List Device) (lines : List WorldLine)
             → Standing T.follows T.has_ended T.memory programs detaches ds lines (held_of self.old) (of_all seen devices.old) (Stage.Telling turn)
             → IfOk result (λ line. Standing T.follows T.has_ended T.memory programs detaches ds (lines ++ line_of line ∷ []) (held_of self.new) (of_all seen devices.new) self.new.stage) }
+        ensures calls { (programs : List Program) (detaches : List Detach) (ds : List Device) (lines : List WorldLine)
+            → Standing T.follows T.has_ended T.memory programs detaches ds lines (held_of self.old) (of_all seen devices.old) (Stage.Telling turn)
+            → IfOk result (λ line. TakesCall programs (line_of line) (of_all (λ d. record { device = seen d; faults = faults d }) devices.old)
+            (of_all (λ d. record { device = seen d; faults = faults d }) devices.new)) }
+        ensures begun { self.new.begun ≡ self.old.begun }
     {
         let event = self.programs[turn.program].advance(devices)?;
         let next = settle(turn, &event)?;
@@ -96,7 +149,12 @@ impl<T: Teller + Drop> Turns<T> {
     }
 
     // The next show behind a program's end, or the next turn.
-    fn show(&mut self, turn: Turn, from: usize, devices: &mut Devices<'_>) -> Result<Option<Line>, AllocError>
+    fn show(
+        &mut self,
+        turn: Turn,
+        from: usize,
+        devices: &mut Devices<'_>,
+    ) -> Result<Option<Line>, AllocError>
         requires lent { IsLent }
         requires range { InRange self.old }
         requires place { turn.program < length self.old.programs.items }
@@ -105,6 +163,13 @@ impl<T: Teller + Drop> Turns<T> {
         ensures told { (programs : List Program) (detaches : List Detach) (ds : List Device) (lines : List WorldLine)
             → Standing T.follows T.has_ended T.memory programs detaches ds lines (held_of self.old) (of_all seen devices.old) (Stage.Showing turn from)
             → IfOk result (TellsNext T.follows T.has_ended T.memory programs detaches ds lines self.new (of_all seen devices.new)) }
+        ensures none { IfOk result (λ line. MatchOption line (HaveEnded self.old.dues.items × LooksOut self.old.shows.items (Stage.Showing turn from))
+            (λ l. HaveEnded self.old.dues.items → LooksOut self.old.shows.items (Stage.Showing turn from) → ⊥)) }
+        ensures calls { (programs : List Program) (detaches : List Detach) (ds : List Device) (lines : List WorldLine)
+            → Standing T.follows T.has_ended T.memory programs detaches ds lines (held_of self.old) (of_all seen devices.old) (Stage.Showing turn from)
+            → IfOk result (λ line. TakesNext programs line (of_all (λ d. record { device = seen d; faults = faults d }) devices.old)
+            (left_at self.old.begun self.new.begun detaches (of_all (λ d. record { device = seen d; faults = faults d }) devices.old))
+            (of_all (λ d. record { device = seen d; faults = faults d }) devices.new)) }
     {
         let program = turn.program as u32;
         let Some(place) = next_show(&self.shows, from, program) else {
@@ -123,4 +188,15 @@ impl<T: Teller + Drop> Turns<T> {
             event,
         }))
     }
+}
+
+// A program is due at tick 0 at first.
+fn first_dues<T>(alloc: Global, programs: &[T]) -> Result<Vec<Option<u64>>, AllocError>
+    ensures { IfOk result (λ dues. dues.items ≡ map (λ x. Some 0) programs.now) }
+{
+    let mut dues = Vec::new(alloc);
+    for _ in programs {
+        dues.push(Some(0))?;
+    }
+    Ok(dues)
 }

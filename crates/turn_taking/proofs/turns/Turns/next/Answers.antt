@@ -1,3 +1,5 @@
+use Rattle.wa_model.specs.View.{line_of}
+use Rattle.turn_taking.proofs.Counts.{left_kept, taken_of}
 use Rattle.turn_taking.specs.Standing.{held_of}
 use Rattle.turn_taking.proofs.Beginning.{standing}
 use Rattle.turn_taking.proofs.turns.Turns.next.Goals as goal
@@ -16,3 +18,19 @@ pub returns-in-Showing-clause-told : goal.returns-in-Showing-clause-told
 returns-in-Showing-clause-told g c = λ programs detaches ds lines s.
     c.show.ensures.told programs detaches ds lines
     (standing g.T.Teller.follows g.T.Teller.has_ended g.T.Teller.memory programs detaches ds lines (held_of c.args.self.now) _ c.args.self.now.stage _ c.in-Showing.is s)
+
+pub returns-in-Between-clause-calls : goal.returns-in-Between-clause-calls
+returns-in-Between-clause-calls g c = λ programs detaches ds lines s.
+    c.begin.ensures.calls programs detaches ds lines
+    (standing g.T.Teller.follows g.T.Teller.has_ended g.T.Teller.memory programs detaches ds lines (held_of c.args.self.now) _ c.args.self.now.stage _ c.in-Between.is s)
+
+pub returns-in-Showing-clause-calls : goal.returns-in-Showing-clause-calls
+returns-in-Showing-clause-calls g c = λ programs detaches ds lines s.
+    c.show.ensures.calls programs detaches ds lines
+    (standing g.T.Teller.follows g.T.Teller.has_ended g.T.Teller.memory programs detaches ds lines (held_of c.args.self.now) _ c.args.self.now.stage _ c.in-Showing.is s)
+
+pub returns-in_ok-tell-in-Telling-clause-calls : goal.returns-in_ok-tell-in-Telling-clause-calls
+returns-in_ok-tell-in-Telling-clause-calls g c = λ programs detaches ds lines s.
+    taken_of programs (line_of c.in_ok-tell-in-Telling.field-0) _ _ _ (left_kept c.args.self.now.begun c.tell.new.self.begun detaches _ c.tell.ensures.begun)
+    (c.in_ok-tell-in-Telling.ensures.calls programs detaches ds lines
+    (standing g.T.Teller.follows g.T.Teller.has_ended g.T.Teller.memory programs detaches ds lines (held_of c.args.self.now) _ c.args.self.now.stage _ c.in-Telling.is s))

@@ -1,0 +1,9 @@
+use Rattle.std.proofs.lemmas.Result.{IfOk-weaker}
+use Rattle.many_host.proofs.Tellings.{none_is, tells_note}
+use Rattle.many_host.proofs.hosted.HostedTeller.advance.Goals as goal
+
+pub returns-clause-told : goal.returns-clause-told
+returns-clause-told g c = λ w notes os answers f runs.
+    IfOk-weaker c.advance.result _ _
+    (λ event a. tells_note w notes os answers c.args.self.now.program (record { program = c.advance.new.self }) event _ _ _ _ f.1 a)
+    (c.advance.ensures.next w notes os f.0 (none_is _ runs))

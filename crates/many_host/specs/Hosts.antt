@@ -1,0 +1,47 @@
+-- What a host of several programs has told.
+use Rattle.std.specs.Prelude.{◌≡◌, ◌≤◌, ℕ, List, [], ◌∷◌, ◌++◌, length, Option, None, Some, Bool, true, false, MatchOption, slice_get}
+use Rattle.std.specs.Option.{is_some}
+use Rattle.wa_model.specs.declared.answers.Detach.{Detach}
+use Rattle.wa_model.specs.declared.events.Line.{Line as LineValue}
+use Rattle.wa_model.specs.Outside.{AnswerLine, Line}
+use Rattle.wa_model.specs.Plan.{Outcome}
+use Rattle.wa_model.specs.Blocking.{Note}
+use Rattle.wa_model.specs.View.{line_of}
+use Rattle.wa_model.specs.World.{Device, ProtocolWorld}
+use Rattle.wa_model.specs.World as W
+use Rattle.event_order.specs.declared.shows.Show.{Show}
+use Rattle.event_order.specs.Looks.{looks_of}
+use Rattle.pause_host.specs.declared.program.Program.{Program}
+use Rattle.pause_host.specs.Programs.{Follows, ended_as, lines_left, memory_in}
+use Rattle.turn_taking.specs.Standing.{Standing, held_of}
+use Rattle.many_host.specs.declared.hosted.Hosted.{Hosted}
+use Rattle.many_host.specs.declared.host.Host.{Host}
+
+-- ---- programs
+
+-- a program has told these notes, its calls met these outcomes, and these answer lines are left
+abbrev pub follows : Hosted → W.Program → List Note → List Outcome → List AnswerLine → Type 0
+follows x w notes os answers = Follows w notes os x.program × (lines_left x.program ≡ answers)
+
+abbrev pub has_ended : Hosted → Bool
+has_ended x = is_some (ended_as x.program)
+
+abbrev pub memory_of : Hosted → List ℕ
+memory_of x = memory_in x.program
+
+-- Programs of a world that are set up, of which none was advanced, with what is shown behind their ends.
+pub record AreSetUp (ws : List W.Program) (shows : List Show) (xs : List Program) : Type 0 where
+  pub wide : length xs ≡ length ws
+  pub each : (i : ℕ) (w : W.Program) (x : Program) → slice_get ws i ≡ Some w → slice_get xs i ≡ Some x → Follows w [] [] x × (lines_left x ≡ w.answers) × (w.looks ≡ looks_of i shows)
+
+-- ---- a host
+
+-- The host has told these lines of a world of the programs: so many whole turns, and the beginning of the next; these devices were there
+-- at first, and these are now.
+abbrev pub HostTold : List W.Program → List Detach → List Device → List Line → Host → List Device → Type 0
+HostTold programs detaches ds lines h ds' = Standing follows has_ended memory_of programs detaches ds lines (held_of h.turns) ds' h.turns.stage
+
+-- It told one line more; or there is none, and what was told is a whole run of the world, which leaves these devices.
+abbrev pub HostNext : List W.Program → List Detach → List Device → List Line → Host → List Device → Option LineValue → Type 0
+HostNext programs detaches ds lines h ds' result =
+    MatchOption result (ProtocolWorld programs detaches ds lines ds') (λ line. HostTold programs detaches ds (lines ++ line_of line ∷ []) h ds')
