@@ -1,5 +1,5 @@
 -- A program's story, event by event.
-use Rattle.std.proofs.Common.{◌≡◌, ◌++◌, List, [], ◌∷◌, Option, Some, None, refl, sym, ◌∙◌, subst}
+use Rattle.std.proofs.Common.{◌≡◌, ◌++◌, List, [], ◌∷◌, Option, Some, None, refl, sym, ◌∙◌}
 use Rattle.std.specs.Prelude.{IsSome}
 use Rattle.wa_model.specs.declared.events.End.{End}
 use Rattle.wa_model.specs.declared.events.Event.{Event as EventValue}

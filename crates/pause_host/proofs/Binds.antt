@@ -8,12 +8,12 @@ use Rattle.wa_types.specs.Modules.{func_imports, imported, imported_func}
 use Rattle.pause_host.specs.Programs.{none_bound}
 
 pub none_for_each : (p : Module) → length (none_bound p) ≡ func_imports p
-none_for_each p = length-map (imported imported_func p) (λ sort. None)
+none_for_each p = let none : ℕ → Option (List ℕ) = λ sort. None in length-map (imported imported_func p) none
 
-none_there : (xs : List ℕ) (i : ℕ) → unwrap_or (slice_get (map (λ (x : ℕ). None {A = List ℕ}) xs) i) None ≡ None
-none_there [] i = refl
-none_there (x ∷ xs) zero = refl
-none_there (x ∷ xs) (suc i) = none_there xs i
+none_there : (none : ℕ → Option (List ℕ)) → ((x : ℕ) → none x ≡ None) → (xs : List ℕ) (i : ℕ) → unwrap_or (slice_get (map none xs) i) None ≡ None
+none_there none is [] i = refl
+none_there none is (x ∷ xs) zero = is x
+none_there none is (x ∷ xs) (suc i) = none_there none is xs i
 
 pub none_at : (p : Module) (i : ℕ) → unwrap_or (slice_get (none_bound p) i) None ≡ None
-none_at p i = none_there (imported imported_func p) i
+none_at p i = none_there (λ sort. None) (λ x. refl) (imported imported_func p) i

@@ -1,9 +1,9 @@
-use Rattle.std.proofs.Common.{refl, sym, ap, ◌∙◌, subst}
+use Rattle.std.proofs.Common.{sym, ap, ◌∙◌, subst}
 use Rattle.interp.specs.Host.{store_in, waits_in}
 use Rattle.host_moves.specs.Views.{exports_in, left_of}
-use Rattle.pause_host.specs.Programs.{RunsCode, supply_of, FollowsAt, place_of, end_at}
-use Rattle.pause_host.specs.declared.program.State.TheVariants.{Fresh, Live}
-use Rattle.pause_host.proofs.Advancing.{advances_alone, in_state, ended_stage}
+use Rattle.pause_host.specs.Programs.{RunsCode, FollowsAt, place_of, end_at}
+use Rattle.pause_host.specs.declared.program.State.TheVariants.{Live}
+use Rattle.pause_host.proofs.Advancing.{in_state, ended_stage}
 use Rattle.std.proofs.lemmas.Result.{IfOk-weaker}
 use Rattle.pause_host.proofs.program.Program.advance.Goals as goal
 

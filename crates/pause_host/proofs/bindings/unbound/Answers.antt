@@ -1,10 +1,10 @@
-use Rattle.std.proofs.Common.{None, Option, List, ℕ, length, map, get_or, ap, ◌∙◌, subst, ◌≡◌, ◌≤◌, ◌<◌}
+use Rattle.std.proofs.Common.{None, length, map, get_or, ap, ◌∙◌, subst, ◌≤◌, ◌<◌}
 use Rattle.std.specs.List.{filter_map}
 use Rattle.std.proofs.lemmas.List.{take_all}
 use Rattle.wa_types.specs.declared.syntax.Import.{Import}
 use Rattle.wa_types.specs.Modules.{imported_func}
 use Rattle.pause_host.proofs.Parts.{mapped_more}
-use Rattle.pause_host.proofs.unbound.unbound.Goals as goal
+use Rattle.pause_host.proofs.bindings.unbound.Goals as goal
 
 pub loop-import-preserved : goal.loop-import-preserved
 loop-import-preserved c =
