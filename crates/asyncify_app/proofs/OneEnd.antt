@@ -1,5 +1,5 @@
 -- A call's end, from that of its command.
-use Rattle.std.proofs.Common.{◌≡◌, ◌⊎◌, inl, inr, ℕ, List, Option, Some, None, refl, sym, ap, ◌∙◌, subst}
+use Rattle.std.proofs.Common.{◌≡◌, ◌⊎◌, ◌≤◌, inl, inr, ℕ, List, Option, Some, None, refl, sym, subst}
 use Rattle.vault_port.specs.Counts.{HasRisen}
 use Rattle.vault_port.specs.Files.{Files, ChangesOnly, HoldsFrontAtMost}
 use Rattle.vault_port.specs.Told.{Becomes}
@@ -14,6 +14,7 @@ use Rattle.gen_module.specs.Generated.{generated}
 use Rattle.gen_command.specs.Printed as G
 use Rattle.script_command.specs.declared.way.Way.TheVariants.{Host, Run}
 use Rattle.script_command.proofs.Ending.{out_of_memory_alone}
+use Rattle.transform_command.specs.Ends as T
 use Rattle.transform_command.specs.Transforms.{RunsOutOfMemory}
 use Rattle.transform_command.proofs.OneEnd as TransformEnds
 use Rattle.transform_command.proofs.Printed.{memory_any}
@@ -85,10 +86,6 @@ pub memory_unread_words : (o : Option Spelled) (files : Option Files) (status : 
     → OnTransform (rewriting o) (λ s input output. status ≡ 9 → Becomes old new (RunsOutOfMemory s files input output))
 memory_unread_words o files status old new h = memory_unread (rewriting o) files status old new h
 
--- the words spell something, and no `transform`
-pub some_spelled : (o : Option Spelled) (x : Spelled) → o ≡ Some x → o ≡ None → ⊥
-some_spelled None x e n = cc
-some_spelled (Some y) x e n = cc
-
-pub no_transform : (o : Option Spelled) (x : Spelled) (P : Settings → List ℕ → List ℕ → Type 0) → rewriting (Some x) ≡ None → o ≡ Some x → OnTransform (rewriting o) P
-no_transform o x P none e = subst (λ (y : Option Command). OnTransform y P) (sym (ap rewriting e ∙ none)) tt
+-- the words are no `transform`
+pub no_transform : (o : Option Spelled) (P : Settings → List ℕ → List ℕ → Type 0) → rewriting o ≡ None → OnTransform (rewriting o) P
+no_transform o P e = subst (λ (x : Option Command). OnTransform x P) (sym e) tt

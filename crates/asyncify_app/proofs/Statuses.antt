@@ -1,6 +1,8 @@
 -- The statuses of the commands are those of a call.
 use Rattle.std.proofs.Common.{◌≡◌, ◌⊎◌, inl, inr, ℕ, [], None, arith}
-use Rattle.source_modules.specs.Sources.{malformed, float, deep, reserved, invalid}
+use Rattle.wa_types.specs.declared.bounds.LimitKind.TheVariants.{File}
+use Rattle.source_modules.specs.Sources.{Cause, malformed, float, deep, limit, reserved, invalid, rewritten_locals, long_output, refusal_for}
+use Rattle.printing.specs.Refused.{status_of}
 use Rattle.transform_command.specs.Ends.{IsRefusal}
 use Rattle.script_command.specs.declared.way.Way.{Way}
 use Rattle.script_command.specs.Ends.{IsStatus}
@@ -44,33 +46,6 @@ script_status way n h = elim h [
 
 pub never_two : (way : Way) (n : ℕ) → IsStatus way n → n ≡ 2 → ⊥
 never_two way n h e = elim h [
-  | inl a ↦ absurd (omega (arith, a, e))
-  | inr h ↦ elim h [
-    | inl a ↦ absurd (omega (arith, a, e))
-    | inr h ↦ elim h [
-      | inl a ↦ absurd (omega (arith, a, e))
-      | inr h ↦ elim h [
-        | inl a ↦ absurd (omega (arith, a, e))
-        | inr h ↦ elim h [
-          | inl a ↦ absurd (omega (arith, a, e))
-          | inr h ↦ elim h [
-            | inl a ↦ absurd (omega (arith, a.0, e))
-            | inr h ↦ elim h [
-              | inl a ↦ absurd (omega (arith, a, e))
-              | inr h ↦ elim h [
-                | inl a ↦ absurd (omega (arith, a, e))
-                | inr h ↦ elim h [ inl a ↦ absurd (omega (arith, a, e)) | inr a ↦ absurd (omega (arith, a, e)) ]
-              ]
-            ]
-          ]
-        ]
-      ]
-    ]
-  ]
-]
-
-pub never_eleven : (way : Way) (n : ℕ) → IsStatus way n → n ≡ 11 → ⊥
-never_eleven way n h e = elim h [
   | inl a ↦ absurd (omega (arith, a, e))
   | inr h ↦ elim h [
     | inl a ↦ absurd (omega (arith, a, e))
