@@ -73,7 +73,10 @@ impl<'m> Host<'m> {
 }
 
 // The programs, as a host holds them.
-fn held_programs<'m>(alloc: Global, programs: Vec<Program<'m>>) -> Result<Vec<Hosted<'m>>, AllocError>
+fn held_programs<'m>(
+    alloc: Global,
+    programs: Vec<Program<'m>>,
+) -> Result<Vec<Hosted<'m>>, AllocError>
     ensures { IfOk result (λ held. map (λ x. x.program) held.items ≡ programs.entry.items) }
 {
     let mut held = Vec::new(alloc);
