@@ -1,7 +1,12 @@
 #!/usr/bin/env bash
 # Rewrites examples/story.wasm, runs it with Node under examples/host.mjs, each read and sleep a pause, and compares what it prints with what
-# the original prints with imports that answer at once. Without Node it says so, and does nothing.
+# the original prints with imports that answer at once. Without Node it says so, and does nothing more. First it runs ask.script, and looks
+# whether README shows the files of that example as they are.
 cd "$(dirname "$0")" || exit 1
+../asyncify run ask.script | diff ask.lines - || { echo "examples: ask.script prints other lines"; exit 1; }
+for file in ask.c ask.script ask.lines; do
+    python3 -c "import sys; sys.exit(open('$file').read() not in open('../README.md').read())" || { echo "examples: README has another $file"; exit 1; }
+done
 command -v node >/dev/null || { echo "examples: no node, not run"; exit 0; }
 out=$(mktemp -d)
 trap 'rm -rf "$out"' EXIT

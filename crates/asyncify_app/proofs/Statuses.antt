@@ -1,5 +1,5 @@
 -- The statuses of the commands are those of a call.
-use Rattle.std.proofs.Common.{◌≡◌, ◌⊎◌, inl, inr, ℕ, None, Some, refl, sym, ◌∙◌, arith}
+use Rattle.std.proofs.Common.{◌≡◌, ◌⊎◌, inl, inr, ℕ, [], None, arith}
 use Rattle.wa_types.specs.declared.bounds.LimitKind.TheVariants.{File}
 use Rattle.source_modules.specs.Sources.{Cause, malformed, float, deep, limit, reserved, invalid, rewritten_locals, long_output, refusal_for}
 use Rattle.printing.specs.Refused.{status_of}

@@ -172,7 +172,8 @@ module _ (m : Module) (s : Settings) (which : List Bool) (v : Valid m) (strict :
       by : (b : Bool) → is_told (slice_get which (func_imports m + i)) ≡ b → length (entry (emitted_func m s which (func_imports m + i) f)) ≤ length (entry f) + most
       by true b =
           let z = ap (λ (h : Func). length (entry h)) (told m s which (func_imports m + i) f b) in
-          let l = written_entry m s which v (func_imports m + i) i f e (one_of_all (FuncSizes (2 ^ 31) (2 ^ 31) m) m.funcs i f strict.each_func e) (few (func_imports m + i) f (defined_of m i f e) b) in
+          let sizes = one_of_all (FuncSizes (2 ^ 31) (2 ^ 31) m) m.funcs i f strict.each_func e in
+          let l = written_entry m s which v (func_imports m + i) i f e sizes (few (func_imports m + i) f (defined_of m i f e) b) in
           omega (arith, z, l)
       by false b = let z = ap (λ (h : Func). length (entry h)) (not_told m s which (func_imports m + i) f b) in omega (arith, z)
 

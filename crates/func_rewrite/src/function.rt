@@ -29,7 +29,7 @@ pub struct Written {
 /// that may. Takes time linear in the flat function and in what is answered.
 pub fn write_func(
     alloc: Global,
-    _module: &Module,
+    module: &Module,
     settings: &Settings,
     which: &[bool],
     listed: &[bool],
@@ -37,13 +37,37 @@ pub fn write_func(
     flat: &Flattened,
     ids: &RuntimeIds,
 ) -> Result<Written, AllocError>
+    requires valid { IsValid (module_of «module».now) }
+    requires sizes { StrictSizeRule (module_of «module».now) }
+    requires listed { listed.now ≡ Listed (module_of «module».now) (settings_of settings.now) }
+    requires ids { ids.now ≡ ids_behind (module_of «module».now) }
+    requires flat { IsFlattened (module_of «module».now) (func_of source.now) flat.now }
+    ensures func { IfOk result (λ w. func_of w.func ≡ written_func (module_of «module».now) (settings_of settings.now) which.now flat.now.func.func (func_of source.now)) }
+    ensures frames { IfOk result (λ w. FramesOf (module_of «module».now) (settings_of settings.now) which.now (func_of source.now) w.frames.items) }
+{
+    let func = emit_func(alloc, module, settings, which, listed, source, flat, ids)?;
+    let frames = func_frames(alloc, module, settings, which, listed, source, flat)?;
+    Ok(Written { func, frames })
+}
+
+/// The function as it is written, without its frames, each of which names all its saved locals. Takes time and memory linear
+/// in the flat function.
+pub fn emit_func(
+    alloc: Global,
+    _module: &Module,
+    settings: &Settings,
+    which: &[bool],
+    listed: &[bool],
+    source: &Func,
+    flat: &Flattened,
+    ids: &RuntimeIds,
+) -> Result<Func, AllocError>
     requires valid { IsValid (module_of _module.now) }
     requires sizes { StrictSizeRule (module_of _module.now) }
     requires listed { listed.now ≡ Listed (module_of _module.now) (settings_of settings.now) }
     requires ids { ids.now ≡ ids_behind (module_of _module.now) }
     requires flat { IsFlattened (module_of _module.now) (func_of source.now) flat.now }
-    ensures func { IfOk result (λ w. func_of w.func ≡ written_func (module_of _module.now) (settings_of settings.now) which.now flat.now.func.func (func_of source.now)) }
-    ensures frames { IfOk result (λ w. FramesOf (module_of _module.now) (settings_of settings.now) which.now (func_of source.now) w.frames.items) }
+    ensures { IfOk result (λ f. func_of f ≡ written_func (module_of _module.now) (settings_of settings.now) which.now flat.now.func.func (func_of source.now)) }
 {
     let own = flat.first_slot;
     let flat_func = &flat.func;
@@ -53,13 +77,31 @@ pub fn write_func(
     let frame = chosen_frame(alloc, layout(alloc, 0, &saved)?, &kept)?;
     let body = written_body(alloc, flat_func, &numbers, frame, ids)?;
     let locals = written_locals(alloc, &source.locals, &flat_func.locals, own)?;
-    let frames = call_frames(alloc, &saved, numbers.len() as u32)?;
-    Ok(Written {
-        func: Func {
-            sort: source.sort,
-            locals,
-            body,
-        },
-        frames,
+    Ok(Func {
+        sort: source.sort,
+        locals,
+        body,
     })
+}
+
+/// The frames of the function's numbered calls, in order.
+fn func_frames(
+    alloc: Global,
+    _module: &Module,
+    settings: &Settings,
+    which: &[bool],
+    listed: &[bool],
+    _source: &Func,
+    flat: &Flattened,
+) -> Result<Vec<Layout>, AllocError>
+    requires valid { IsValid (module_of _module.now) }
+    requires sizes { StrictSizeRule (module_of _module.now) }
+    requires listed { listed.now ≡ Listed (module_of _module.now) (settings_of settings.now) }
+    requires flat { IsFlattened (module_of _module.now) (func_of _source.now) flat.now }
+    ensures { IfOk result (λ ls. FramesOf (module_of _module.now) (settings_of settings.now) which.now (func_of _source.now) ls.items) }
+{
+    let numbers = number_calls(alloc, &flat.func, which, listed, settings.ignore_indirect)?;
+    let saved = saved_places(alloc, &flat.func.locals, flat.first_result)?;
+    let frames = call_frames(alloc, &saved, numbers.len() as u32)?;
+    Ok(frames)
 }

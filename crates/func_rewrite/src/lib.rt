@@ -5,4 +5,4 @@ mod body;
 mod function;
 mod locals;
 
-pub use function::{Written, write_func};
+pub use function::{Written, emit_func, write_func};

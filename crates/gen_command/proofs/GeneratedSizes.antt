@@ -1,6 +1,6 @@
 -- Generated modules are short, and declare few locals.
-use Rattle.std.proofs.Common.{arith, ◌≡◌, ℕ, zero, suc, ◌+◌, ◌*◌, ◌%◌, ◌^◌, ◌<◌, ◌≤◌, List, [], ◌∷◌, refl, sym, subst, length, length-append, All, add-one}
-use Rattle.std.proofs.lemmas.List.Elements.{All-nil, All-cons, All-append}
+use Rattle.std.proofs.Common.{arith, ◌≡◌, ℕ, zero, suc, ◌+◌, ◌*◌, ◌^◌, ◌<◌, ◌≤◌, List, [], ◌∷◌, refl, sym, subst, length, length-append, All, add-one}
+use Rattle.std.proofs.lemmas.List.Elements.{All-nil, All-cons}
 use Rattle.std.specs.List.{flat_map}
 use Rattle.wa_types.specs.Leb.{shortest}
 use Rattle.wa_types.specs.Syntax.{Func, Module}
@@ -11,17 +11,8 @@ use Rattle.wasm_encode.specs.Modules.{FewLocals}
 use Rattle.emitted_bytes.proofs.EmittedLength.{code_length}
 use Rattle.emitted_bytes.proofs.Grown.{enc_length}
 use Rattle.emitted_bytes.proofs.Lengths.{entries_length, section_length, shortest_length, sized_length}
+use Rattle.generated_runs.proofs.GeneratedLocals.{each}
 use Rattle.gen_module.specs.Generated.{first_code, func_by, func_with, generated, generated_func, generated_funcs, one_local, one_to_one, run_export, sleep}
-
--- what holds of each form of function holds of all
-module _ (P : Func → Type 0) (first : P (func_with [] first_code)) (others : (i r : ℕ) → P (func_by i r)) where
-  one : (i : ℕ) → P (generated_func i)
-  one zero = first
-  one (suc i) = others (suc i) (suc i % 3)
-
-  pub each : (n : ℕ) → All P (generated_funcs n)
-  each zero = All-nil P
-  each (suc n) = All-append P (generated_funcs n) (generated_func n ∷ []) (each n) (All-cons P (generated_func n) [] (one n) (All-nil P))
 
 func_count : (n : ℕ) → length (generated_funcs n) ≡ n
 func_count zero = refl
@@ -46,7 +37,15 @@ few_locals n = each DeclaresFew (omega arith) by_few n
 -- a body of seven instructions at most
 body_short : (f : Func) → length (vector run_bytes (merged f.locals)) ≤ 30 → instructions_and_labels f.body ≤ 7 → length (sized (body_bytes f)) ≤ 230
 body_short f locals few =
-    omega (arith, locals, few, sized_length (body_bytes f), length-append (vector run_bytes (merged f.locals)) (expression_bytes f.body), length-append (code_bytes f.body) (0x0B ∷ []), code_length f.body)
+    omega (
+      arith,
+      locals,
+      few,
+      sized_length (body_bytes f),
+      length-append (vector run_bytes (merged f.locals)) (expression_bytes f.body),
+      length-append (code_bytes f.body) (0x0B ∷ []),
+      code_length f.body,
+    )
 
 abbrev IsShort : Func → Type 0
 IsShort f = length (sized (body_bytes f)) ≤ 230

@@ -1,4 +1,2 @@
 pub mod GeneratedSizes
-pub mod Rewritten
-pub mod Runs
 pub mod Telling

@@ -10,13 +10,15 @@ use Rattle.wa_model.specs.Transcript.{refusal_line, write_fault}
 use Rattle.printing.specs.Refused.{EndsInMemory, PrintsMemory}
 use Rattle.printing.proofs.Printed.{memory_alone}
 use Rattle.gen_module.specs.Generated.{generated}
-use Rattle.gen_command.specs.Playing.{PlaysGenerated}
+use Rattle.generated_runs.specs.Playing.{PlaysGenerated}
 use Rattle.gen_command.specs.Printed.{PrintsGenerated, PrintsLess, RunsOutOfMemory, three_lines}
 
 -- a file that is as before
 pub nothing_held : (name bytes : List ℕ) (old new : Option Files) → new ≡ old → Becomes old new (HoldsFrontAtMost name bytes)
 nothing_held name bytes None None e = tt
-nothing_held name bytes (Some x) (Some y) e = let same : y ≡ x = cc in record { changed = inr (ap (λ (files : Files). files name) same); others = λ other differs. ap (λ (files : Files). files other) same }
+nothing_held name bytes (Some x) (Some y) e =
+    let same : y ≡ x = cc in
+    record { changed = inr (ap (λ (files : Files). files name) same); others = λ other differs. ap (λ (files : Files). files other) same }
 nothing_held name bytes None (Some y) e = cc
 nothing_held name bytes (Some x) None e = cc
 
@@ -38,19 +40,22 @@ memory_any n output None (Some y) h = h
 memory_any n output (Some x) None h = h
 
 -- lines of what was written and run
-pub lines_printed : (n bytes used value : ℕ) (old new : Option (List ℕ)) → bytes ≡ length (Enc (generated n)) → PlaysGenerated n used value → Becomes old new (Appends (three_lines n bytes used value)) → Becomes old new (PrintsGenerated n)
+pub lines_printed : (n bytes used value : ℕ) (old new : Option (List ℕ)) → bytes ≡ length (Enc (generated n)) → PlaysGenerated n used value
+    → Becomes old new (Appends (three_lines n bytes used value)) → Becomes old new (PrintsGenerated n)
 lines_printed n bytes used value None None b p h = tt
 lines_printed n bytes used value (Some x) (Some y) b p h = (three_lines n bytes used value, (used, value, p, ap (λ k. three_lines n k used value) b), h)
 lines_printed n bytes used value None (Some y) b p h = h
 lines_printed n bytes used value (Some x) None b p h = h
 
-pub lines_less : (n bytes used value : ℕ) (old new : Option (List ℕ)) → bytes ≡ length (Enc (generated n)) → PlaysGenerated n used value → Becomes old new (AppendsLess (three_lines n bytes used value)) → Becomes old new (PrintsLess n)
+pub lines_less : (n bytes used value : ℕ) (old new : Option (List ℕ)) → bytes ≡ length (Enc (generated n)) → PlaysGenerated n used value
+    → Becomes old new (AppendsLess (three_lines n bytes used value)) → Becomes old new (PrintsLess n)
 lines_less n bytes used value None None b p h = tt
 lines_less n bytes used value (Some x) (Some y) b p h = (three_lines n bytes used value, (used, value, p, ap (λ k. three_lines n k used value) b), h)
 lines_less n bytes used value None (Some y) b p h = h
 lines_less n bytes used value (Some x) None b p h = h
 
-pub lines_memory : (n bytes used value : ℕ) (output : List ℕ) (old new : Option (List ℕ)) → bytes ≡ length (Enc (generated n)) → PlaysGenerated n used value → Becomes old new (PrintsMemory (three_lines n bytes used value))
+pub lines_memory : (n bytes used value : ℕ) (output : List ℕ) (old new : Option (List ℕ)) → bytes ≡ length (Enc (generated n)) → PlaysGenerated n used value
+    → Becomes old new (PrintsMemory (three_lines n bytes used value))
     → Becomes old new (RunsOutOfMemory n output)
 lines_memory n bytes used value output None None b p h = tt
 lines_memory n bytes used value output (Some x) (Some y) b p h = (three_lines n bytes used value, inl (used, value, p, ap (λ k. three_lines n k used value) b), h)

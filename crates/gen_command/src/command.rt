@@ -9,13 +9,12 @@ ghost use Rattle.wa_model.specs.Transcript.{refusal_line, write_fault};
 ghost use Rattle.wa_types.specs.Encoding.{Enc};
 ghost use Rattle.printing.specs.Refused.{Prints, PrintsMemory};
 ghost use Rattle.gen_module.specs.Generated.{generated};
-ghost use Rattle.gen_command.specs.Playing.{PlaysGenerated};
+ghost use Rattle.generated_runs.specs.Playing.{PlaysGenerated};
 ghost use Rattle.gen_command.specs.Printed.{PrintsGenerated, PrintsLess, RunsOutOfMemory, three_lines};
 
-use crate::playing::play;
-use crate::program::rewritten;
 use crate::writing::{GenFault, write_module};
 use gen_module::generate;
+use generated_runs::play_generated;
 use printing::{out_of_memory, refuse_write};
 use std::alloc::{AllocError, Global};
 use vault_port::{PutFault, Sink, Vault, put_whole};
@@ -89,8 +88,7 @@ fn write_and_play<V: Vault>(
 {
     let module = generate(alloc, number)?;
     let bytes = write_module(alloc, vault, &module, output)?;
-    let rewritten = rewritten(alloc, module)?;
-    let played = play(alloc, &rewritten)?;
+    let played = play_generated(alloc, module)?;
     Ok(Done {
         bytes,
         used: played.used,

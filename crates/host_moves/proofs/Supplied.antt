@@ -38,7 +38,7 @@ module _ (w : Program) (x : Setting) (is : IsSetting w x) (import : ℕ) (i : Ho
       sym (ap (λ ns. name_at ns import) is.bases ∙ ap (λ o. unwrap_or o []) (slice_get-map (λ (j : HostImport). j.base) x.imports.items import ∙ ap (option_map (λ (j : HostImport). j.base)) at))
 
   bound_told : (b : Option (List ℕ)) → b ≡ unwrap_or (slice_get x.binds.items import) None → b ≡ bound_to w import
-  bound_told b e = e ∙ ap (λ bs. unwrap_or (slice_get bs import) None) (sym is.binds)
+  bound_told b e = e ∙ sym (is.binds import)
 
   -- an answer line answers
   pub by_line : (args : List Value) (lines lines' : List AnswerLine) (ds : List Device) (fs : List ℕ) (o : Outcome) (name : List ℕ) → None ≡ unwrap_or (slice_get x.binds.items import) None → name ≡ i.name → MeetsLine import name lines o lines'

@@ -1,6 +1,6 @@
 -- How a program goes from one event to the next.
-use Rattle.std.specs.Prelude.{◌≡◌, ◌≤◌, ℕ, suc, ◌+◌, ◌-◌, List, [], ◌∷◌, length, map, Some, true, All, nat_lt, slice_get}
-use Rattle.std.specs.Option.{option_map, option_to_list}
+use Rattle.std.specs.Prelude.{◌≡◌, ◌≤◌, ℕ, suc, ◌+◌, ◌-◌, List, [], ◌∷◌, length, map, Some, None, true, All, nat_lt, slice_get}
+use Rattle.std.specs.Option.{option_map, option_to_list, unwrap_or}
 use Rattle.wa_types.specs.declared.values.Value.{Value}
 use Rattle.wa_types.specs.Syntax.{Func}
 use Rattle.wa_types.specs.Modules.{all_memories, defined_at, func_imports, func_type_at}
@@ -28,7 +28,7 @@ use Rattle.interp.specs.Instance as I
 use Rattle.interp.specs.Instance.{Waits}
 use Rattle.host_answers.specs.Answering.{IsShort}
 use Rattle.host_turns.specs.Stretch.{meeting, Stretch, IsSpent}
-use Rattle.host_turns.specs.Supplies.{Supply}
+use Rattle.host_turns.specs.Supplies.{Supply, bound_to}
 use Rattle.host_turns.specs.Places.{Place, stands, has_ended, nowhere, TellsFrom}
 use Rattle.host_moves.specs.declared.exports.Exported.{Exported}
 use Rattle.host_moves.specs.declared.exports.Exported.TheVariants as X
@@ -52,7 +52,7 @@ pub record IsSetting (w : Program) (x : Setting) : Type 0 where
   pub steps : w.steps ≡ x.steps
   pub names : import_names w.source ≡ map (λ (i : HostImport). i.name) x.imports.items
   pub bases : base_names w.source ≡ map (λ (i : HostImport). i.base) x.imports.items
-  pub binds : w.binds ≡ x.binds.items
+  pub binds : (import : ℕ) → bound_to w import ≡ unwrap_or (slice_get x.binds.items import) None
   pub results : (import : ℕ) (i : HostImport) → slice_get x.imports.items import ≡ Some i → (func_type_at w.source import).results ≡ option_to_list i.result
   pub all : length x.imports.items ≡ func_imports w.source
 

@@ -10,7 +10,7 @@ use Rattle.wa_model.specs.Outside.{Event, called, answered, paused, returned, en
 use Rattle.wa_model.specs.Script.{ProgramText}
 use Rattle.wa_model.specs.Transcript.{Names, Transcript, event_lines, last_line}
 use Rattle.wa_model.specs.World.{Look, Program, line_at, look_events, looks_after, ticks_in}
-use Rattle.host_turns.specs.Stories.{Unbound, BeginsStory, IsStory, lines_from}
+use Rattle.host_turns.specs.Stories.{BeginsStory, IsStory, lines_from}
 use Rattle.host_turns.proofs.Alone.{story_is_world}
 use Rattle.program_printing.specs.Output.{lines_at, look_line, notes_text, told_from, turn_count, whole_text}
 use Rattle.program_printing.specs.Told.{PrintsPart, look_of}
@@ -61,9 +61,6 @@ module _ (p : Module) (listed : Option (List Bool)) (t : ProgramText) (s : SetUp
   abbrev lines : List Note → List Line
   lines notes = lines_from w 0 notes
 
-  unbound : Unbound w
-  unbound import = refl
-
   module _ (names : Names) (shows : List ShowText) (names_are : names ≡ program_names p t) (shows_are : map show_of shows ≡ t.shows) where
     abbrev looks : List Look
     looks = map look_of shows
@@ -87,7 +84,7 @@ module _ (p : Module) (listed : Option (List Bool)) (t : ProgramText) (s : SetUp
     is_begun notes b = record { notes = notes; begins = b; text_is = begun_text notes }
 
     is_told : (notes : List Note) → IsStory w notes → IsTold p listed t s (whole_text names looks notes)
-    is_told notes story = record { lines = lines notes; world = story_is_world w notes unbound story; text_is = told_text notes }
+    is_told notes story = record { lines = lines notes; world = story_is_world w notes story; text_is = told_text notes }
 
     pub tells : (old new : List ℕ) → (notes : List Note) × IsStory w notes × Appends (whole_text names looks notes) old new → Tells p listed t s old new
     tells old new h = (whole_text names looks h.0, is_told h.0 h.1, h.2)
@@ -109,7 +106,8 @@ module _ (p : Module) (listed : Option (List Bool)) (t : ProgramText) (s : SetUp
     less_told Fault r is e old new h = becomes_by (Part Fault) (TellsLess p listed t s) tells_less old new h
     less_told Memory r is e old new h = cc
 
-    pub front_told : (fault : PutFault) (r : HostFault) → r ≡ host_fault fault → ◌≡◌ {A = Result (Unit {0}) HostFault} (Err r) (Err H.Memory) → (old new : Option (List ℕ)) → Becomes old new (Part fault)
+    pub front_told : (fault : PutFault) (r : HostFault) → r ≡ host_fault fault → ◌≡◌ {A = Result (Unit {0}) HostFault} (Err r) (Err H.Memory) → (old new : Option (List ℕ))
+        → Becomes old new (Part fault)
         → Becomes old new (TellsFront p listed t s)
     front_told Memory r is e old new h = becomes_by (Part Memory) (TellsFront p listed t s) tells_front old new h
     front_told Fault r is e old new h = cc

@@ -1,5 +1,5 @@
 -- A program's story, event by event.
-use Rattle.std.proofs.Common.{◌≡◌, ◌++◌, List, [], ◌∷◌, Option, None, refl, sym, ◌∙◌, subst}
+use Rattle.std.proofs.Common.{◌≡◌, ◌++◌, List, [], ◌∷◌, Option, Some, None, refl, sym, ◌∙◌}
 use Rattle.std.specs.Prelude.{IsSome}
 use Rattle.wa_model.specs.declared.events.End.{End}
 use Rattle.wa_model.specs.declared.events.Event.{Event as EventValue}
@@ -7,41 +7,25 @@ use Rattle.wa_model.specs.Outside.{Event, called, answered, paused, returned, en
 use Rattle.wa_model.specs.View.{event_of}
 use Rattle.wa_model.specs.Blocking.{Note}
 use Rattle.wa_model.specs.World as W
-use Rattle.host_turns.specs.Places.{Place, stands, has_ended, nowhere}
-use Rattle.host_turns.specs.Stories.{Told, BeginsStory, IsStory}
-use Rattle.host_turns.proofs.Tellings.{nothing_told_yet, told_begins, told_whole}
-use Rattle.host_moves.specs.Views.{lines_in}
+use Rattle.host_turns.specs.Stories.{BeginsStory, IsStory}
+use Rattle.host_turns.proofs.Tellings.{nothing_told_alone, told_begins}
 use Rattle.pause_host.specs.declared.program.Program.{Program}
 use Rattle.pause_host.specs.Programs as P
-use Rattle.pause_host.specs.Programs.{Advances, Follows, end_at, ended_as, memory_in, place_of}
+use Rattle.pause_host.specs.Programs.{AdvancesAlone, FollowsAlone, ended_as, memory_in}
+use Rattle.pause_host.proofs.Advancing.{runs_first as none_ended, story_begun, story_told}
 use Rattle.program_printing.specs.Told.{end_in}
-
--- ---- the beginning
 
 -- nothing begins each story
 pub begins_empty : (w : W.Program) → BeginsStory w []
-begins_empty w = told_begins w [] _ _ _ (nothing_told_yet w)
-
-no_last : {X : Type 0} (xs : List X) (x : X) → [] ≡ xs ++ x ∷ [] → ⊥
-no_last [] x e = cc
-no_last (y ∷ ys) x e = cc
+begins_empty w = told_begins w [] _ _ _ (nothing_told_alone w)
 
 -- who has told nothing hasn't told its end
-pub runs_first : (w : W.Program) (x : Program) → Follows w [] x → ended_as x ≡ None
-runs_first w x f = by (place_of x x.state) f.at.told where
-  by : (place : Place) → Told w [] x.steps_left (lines_in x.answers.items) place → end_at place ≡ None
-  by (stands ready h) t = refl
-  by nowhere t = refl
-  by (has_ended how) t = absurd (no_last t.at.before t.at.last t.at.last_is)
+pub runs_first : (w : W.Program) (x : Program) → FollowsAlone w [] x → ended_as x ≡ None
+runs_first w x f = none_ended w f.outcomes x f.follows
 
--- ---- the end
-
-ended_story : (w : W.Program) (notes : List Note) (x : Program) → Follows w notes x → IsSome (ended_as x) → IsStory w notes
-ended_story w notes x f some = by (place_of x x.state) f.at.told some where
-  by : (place : Place) → Told w notes x.steps_left (lines_in x.answers.items) place → IsSome (end_at place) → IsStory w notes
-  by (has_ended how) t s = told_whole w notes _ _ how t
-  by (stands ready h) t s = cc
-  by nowhere t s = cc
+some_end : (w : W.Program) (notes : List Note) (x : Program) (o : Option End) → FollowsAlone w notes x → ended_as x ≡ o → IsSome o → IsStory w notes
+some_end w notes x (Some how) f e some = story_told w notes x how f e
+some_end w notes x None f e some = cc
 
 same_end : (e : Event) → P.end_in e ≡ end_in e
 same_end (called call) = refl
@@ -53,9 +37,9 @@ same_end (shown at bytes) = refl
 
 -- ---- one event more
 
-pub tells_next : (w : W.Program) (notes : List Note) (event : EventValue) (x : Program) → Advances w notes event x
+pub tells_next : (w : W.Program) (notes : List Note) (event : EventValue) (x : Program) → AdvancesAlone w notes event x
     → (n : Note) × (n.event ≡ event_of event) × (n.store.memory ≡ memory_in x) × (ended_as x ≡ end_in n.event)
-    × Follows w (notes ++ n ∷ []) x × BeginsStory w (notes ++ n ∷ []) × (IsSome (end_in n.event) → IsStory w (notes ++ n ∷ []))
+    × FollowsAlone w (notes ++ n ∷ []) x × BeginsStory w (notes ++ n ∷ []) × (IsSome (end_in n.event) → IsStory w (notes ++ n ∷ []))
 tells_next w notes event x a =
     let end : ended_as x ≡ end_in a.note.event = a.ended_is ∙ same_end a.note.event in (
       a.note,
@@ -63,6 +47,6 @@ tells_next w notes event x a =
       sym a.memory_is,
       end,
       a.follows,
-      told_begins w (notes ++ a.note ∷ []) _ _ _ a.follows.at.told,
-      λ some. ended_story w (notes ++ a.note ∷ []) x a.follows (subst (λ (o : Option End). IsSome o) (sym end) some),
+      story_begun w (notes ++ a.note ∷ []) x a.follows,
+      λ some. some_end w (notes ++ a.note ∷ []) x (end_in a.note.event) a.follows end some,
     )

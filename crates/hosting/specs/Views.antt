@@ -8,7 +8,7 @@ use Rattle.wa_model.specs.Fitting.{global_types, types_of}
 use Rattle.wa_model.specs.Script.{ProgramText, ScriptFault, breaks}
 use Rattle.host_setup.specs.SetUp.{set_up}
 use Rattle.host_setup.specs.Views.{entry_of as named_entry_of}
-use Rattle.pause_host.specs.Programs.{Follows}
+use Rattle.pause_host.specs.Programs.{FollowsAlone}
 use Rattle.script_reader.specs.Views.{show_of}
 use Rattle.script_setup.specs.declared.fault.RuleFault.{RuleFault}
 use Rattle.script_setup.specs.declared.setting.SetUp.{SetUp as SetUpValue}
@@ -36,7 +36,7 @@ pub record Suits (p : Module) (t : ProgramText) (x : SetUpValue) : Type 0 where
 
 -- It has told nothing yet of its story, and has the names of its lines and what is shown behind its end.
 pub record Begins (p : Module) (listed : Option (List Bool)) (t : ProgramText) (s : SetUp) (x : Hosted) : Type 0 where
-  pub follows : Follows (hosted_program p listed t s) [] x.story.program
+  pub follows : FollowsAlone (hosted_program p listed t s) [] x.story.program
   pub names : names_of x.names ≡ program_names p t
   pub shows : map show_of x.shows.items ≡ t.shows
 

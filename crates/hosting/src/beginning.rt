@@ -8,7 +8,7 @@ ghost use Rattle.hosting.specs.Hosted.{FitsPlan, IsListing};
 ghost use Rattle.hosting.specs.Views.{Begins, BeginsAs, Suits, listing};
 
 use crate::story::Story;
-use pause_host::{Plan, Program};
+use pause_host::{Plan, Program, unbound};
 use script_reader::{ProgramText, ShowText};
 use script_setup::{RuleFault, SetUp, program_names, set_up_program};
 use std::alloc::{AllocError, Global};
@@ -63,9 +63,11 @@ fn begin_with<'m>(
         funcs: _,
         globals,
     } = made;
+    let binds = unbound(alloc, valid.module())?;
     let plan = Plan {
         module: valid,
         listed,
+        binds,
         area: text.area,
         steps: text.steps,
         globals,

@@ -11,9 +11,9 @@ pub(crate) struct Story<'m> {
 
 impl<'m> Teller for Story<'m> {
     ghost use Rattle.host_turns.specs.Stories.{BeginsStory, IsStory};
-    ghost use Rattle.pause_host.specs.Programs.{Follows, ended_as, memory_in};
+    ghost use Rattle.pause_host.specs.Programs.{FollowsAlone, ended_as, memory_in};
 
-    ghost follows = { λ x w notes. Follows w notes x.program };
+    ghost follows = { λ x w notes. FollowsAlone w notes x.program };
 
     ghost begins = { λ w notes. BeginsStory w notes };
 
@@ -24,7 +24,7 @@ impl<'m> Teller for Story<'m> {
     ghost memory = { λ x. memory_in x.program };
 
     fn advance(&mut self) -> Result<Event, AllocError> {
-        self.program.advance()
+        self.program.advance_alone()
     }
 
     fn show(&self, at: u32, len: u32) -> Option<&[u8]> {

@@ -1,12 +1,13 @@
 -- Functions put as entries, one after the other.
-use Rattle.std.proofs.Common.{◌≡◌, ◌∙◌, ℕ, zero, suc, ◌+◌, ◌-◌, ◌<◌, ◌≤◌, ◌^◌, List, [], ◌∷◌, ◌++◌, length, get_or, drop, Some, Bool, true, false, Err, refl, sym, ap, subst, arith, append_assoc, length-append}
+use Rattle.std.proofs.Common.{◌≡◌, ◌∙◌, ℕ, zero, suc, ◌+◌, ◌-◌, ◌<◌, ◌≤◌, ◌^◌, List, [], ◌∷◌, ◌++◌, length, get_or, drop, Some, Bool, true, false, Ok, Err, refl, sym, ap, subst, arith, append_assoc, length-append}
 use Rattle.std.specs.Prelude.{slice_get}
 use Rattle.std.specs.List.{flat_map}
+use Rattle.std.specs.Vec.{vec_len}
 use Rattle.std.proofs.lemmas.List.{append-nil, drop_all, length-map}
 use Rattle.std.proofs.lemmas.Option.{slice_get-get_or}
 use Rattle.wa_types.specs.Encoding.{Enc}
-use Rattle.wa_types.specs.Frames.{Count, SlotPairs}
-use Rattle.wa_types.specs.Modules.{func_imports, defined_at, locals_of}
+use Rattle.wa_types.specs.Frames.{Count}
+use Rattle.wa_types.specs.Modules.{func_imports, defined_at}
 use Rattle.wa_types.specs.Pausing.{Settings, is_told}
 use Rattle.wa_types.specs.Sizes.{FuncSizes, StrictSizeRule}
 use Rattle.wa_types.specs.Syntax.{Func, Module}
@@ -15,7 +16,6 @@ use Rattle.wa_types.specs.declared.syntax.Func.{Func as FuncValue}
 use Rattle.wa_types.specs.declared.syntax.Module.{Module as ModuleValue}
 use Rattle.wa_types.specs.Validity.{Valid}
 use Rattle.wa_model.specs.Flat.{FlatFunc}
-use Rattle.wa_model.specs.FlatView.{flat_func_of}
 use Rattle.flat_laws.specs.Flatten.{flattened}
 use Rattle.flatten.specs.Whole.{NonePasses, FlatAnswer}
 use Rattle.flatten.specs.declared.whole.Flattened.{Flattened}
@@ -68,16 +68,17 @@ pub record Here (m : Module) (which : List Bool) (i at : ℕ) (f : Func) : Type 
   pub place : at ≡ func_imports m + i
   pub is : slice_get m.funcs i ≡ Some f
 
-pub here : (v z : ModuleValue) (which : List Bool) (i own end : ℕ) (f : FuncValue) → z ≡ v → length which ≡ func_imports (module_of v) + length (module_of v).funcs → own ≡ length z.funcs.items → end ≡ length z.funcs.items → i < end
-    → f ≡ get_or z.funcs.items i f → Here (module_of v) which i (length which - own + i) (func_of f)
+pub here : (v z : ModuleValue) (which : List Bool) (i own end : ℕ) (f : FuncValue) → z ≡ v → length which ≡ func_imports (module_of v) + length (module_of v).funcs
+    → own ≡ vec_len z.funcs → end ≡ vec_len z.funcs → i < end → f ≡ get_or z.funcs.items i f → Here (module_of v) which i (length which - own + i) (func_of f)
 here v z which i own end f same many eo ee lt ef =
     let len = length-map v.funcs.items func_of in
     let count = ap (λ (z : ModuleValue). length z.funcs.items) same in
+    let ok : vec_len z.funcs ≡ length z.funcs.items = let k = z.funcs.ok in omega arith in
     record {
       many = many;
-      within = omega (arith, lt, ee, count, len);
-      place = omega (arith, eo, many, count, len);
-      is = func_at v.funcs.items i f (omega (arith, lt, ee, count)) (ef ∙ ap (λ (z : ModuleValue). get_or z.funcs.items i f) same);
+      within = omega (arith, lt, ee, ok, count, len);
+      place = omega (arith, eo, ok, many, count, len);
+      is = func_at v.funcs.items i f (omega (arith, lt, ee, ok, count)) (ef ∙ ap (λ (z : ModuleValue). get_or z.funcs.items i f) same);
     }
 
 module _ (m : Module) (s : Settings) (which : List Bool) where
@@ -138,7 +139,7 @@ module _ (m : Module) (s : Settings) (which : List Bool) where
     }
 
     -- the flat function of this place
-    module _ (flat : Flattened) (y : ℕ) (ey : y ≡ n + i) (h : (flat_func_of flat.func ≡ flattened m y f) × (Count m f ≤ 50000) × (flat.first_slot ≡ length (locals_of m f)) × (flat.first_result ≡ length (locals_of m f) + length (SlotPairs m f))) where
+    module _ (flat : Flattened) (y : ℕ) (ey : y ≡ n + i) (h : FlatAnswer m y f (Ok flat)) where
       index_is : flat.func.func ≡ n + i
       index_is = ap (λ (z : FlatFunc). z.func) h.0 ∙ ey
 
@@ -163,7 +164,8 @@ module _ (m : Module) (s : Settings) (which : List Bool) where
           let flats : List FlatFunc = g.flats ++ flattened m (n + i) f ∷ [] in
           record {
             flats = flats;
-            sofar = go_put m which n i at g.flats g.sofar p.many p.within p.place flats (flattened m (n + i) f) (n + i) e refl refl (λ k ek. let z : Some f ≡ Some k = sym p.is ∙ ek in let q : f ≡ k = cc in (ap (flattened m (n + i)) q, subst (λ w. Count m w ≤ 50000) q h.1));
+            sofar = go_put m which n i at g.flats g.sofar p.many p.within p.place flats (flattened m (n + i) f) (n + i) e refl refl
+                (λ k ek. let z : Some f ≡ Some k = sym p.is ∙ ek in let q : f ≡ k = cc in (ap (flattened m (n + i)) q, subst (λ w. Count m w ≤ 50000) q h.1));
             put = one_more new (written_func m s which flat.func.func f) (told m s which (n + i) f (ap is_told (bit true e)) ∙ ap (λ k. written_func m s which k f) (sym index_is)) put;
           }
 

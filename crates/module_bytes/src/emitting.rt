@@ -18,7 +18,7 @@ use crate::fault::EmitFault;
 use bytes::BytesMut;
 use call_graph::Settings;
 use flatten::{Flattened, flatten_func};
-use func_rewrite::write_func;
+use func_rewrite::emit_func;
 use local_spill::RuntimeIds;
 use std::alloc::{AllocError, Global};
 use wa_types::{Func, Module};
@@ -52,8 +52,8 @@ fn put_written(
     requires short { length (code_entry (written_func (module_of «module».now) (settings_of settings.now) which.now flat.now.func.func (func_of source.now))) < 2 ^ 64 }
     ensures { OnOk result (out.new.items ≡ out.old.items ++ code_entry (written_func (module_of «module».now) (settings_of settings.now) which.now flat.now.func.func (func_of source.now))) }
 {
-    let written = write_func(alloc, module, settings, which, listed, source, flat, ids)?;
-    put_func(out, &written.func)
+    let written = emit_func(alloc, module, settings, which, listed, source, flat, ids)?;
+    put_func(out, &written)
 }
 
 /// Appends the functions from this place on as entries of the code section.

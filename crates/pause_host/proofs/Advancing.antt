@@ -126,33 +126,44 @@ whole_of_follows w notes os x how f e = by_place (place_of x x.state) f.at.told 
 pub begins_of_follows : (w : W.Program) (notes : List Note) (os : List Outcome) (x : Program) → Follows w notes os x → (more : List Outcome) → IsPrefix notes (protocol_story w (os ++ more))
 begins_of_follows w notes os x f more = place_begins w notes os x.steps_left (place_of x x.state) f.at.told more
 
+-- who has told nothing hasn't told its end
+pub runs_first : (w : W.Program) (os : List Outcome) (x : Program) → Follows w [] os x → ended_as x ≡ None
+runs_first w os x f = by_place (place_of x x.state) f.at.told
+  where
+    no_last : (before : List Note) (last : Note) → [] ≡ before ++ last ∷ [] → ⊥
+    no_last [] last e = cc
+    no_last (y ∷ ys) last e = cc
+
+    by_place : (at : Place) → IsAt w [] os x.steps_left at → end_at at ≡ None
+    by_place (stands ready h) t = refl
+    by_place nowhere t = refl
+    by_place (has_ended how) t = absurd (no_last t.before t.last t.last_is)
+
 -- ---- alone
 
 pub starts_alone : (w : W.Program) (x : Program) → Follows w [] [] x → lines_left x ≡ w.answers → FollowsAlone w [] x
 starts_alone w x f e = record { outcomes = []; meets = (refl, e, refl); follows = f }
 
 pub advances_alone : (w : W.Program) (notes : List Note) (x x' : Program) (event : EventValue) (old new : Supply) (f : FollowsAlone w notes x) → old.lines ≡ lines_left x → old.devices ≡ [] → new.lines ≡ lines_left x'
-    → Advances w notes f.outcomes event old new x' → AdvancesAlone w notes event x' × (new.devices ≡ [])
+    → Advances w notes f.outcomes event old new x' → AdvancesAlone w notes event x'
 advances_alone w notes x x' event old new f old_lines none new_lines a =
     let left_none : new.devices ≡ [] = still_none w (call_in a.note.event) a.met old new a.takes none in
     let chain : CallsMeet w notes f.outcomes w.answers [] [] old.lines old.devices =
     subst (λ ds. CallsMeet w notes f.outcomes w.answers [] [] old.lines ds) (sym none) (subst (λ ls. CallsMeet w notes f.outcomes w.answers [] [] ls []) (sym old_lines) f.meets) in
-    let meets = one_more_met w notes f.outcomes a.met w.answers [] a.note old new chain a.takes in (
-      record {
-        note = a.note;
-        event_is = a.event_is;
-        store_is = a.store_is;
-        memory_is = a.memory_is;
-        ended_is = a.ended_is;
-        follows = record {
-          outcomes = f.outcomes ++ a.met;
-          meets = subst (λ ls. CallsMeet w (notes ++ a.note ∷ []) (f.outcomes ++ a.met) w.answers [] [] ls []) new_lines
-              (subst (λ ds. CallsMeet w (notes ++ a.note ∷ []) (f.outcomes ++ a.met) w.answers [] [] new.lines ds) left_none meets);
-          follows = a.follows;
-        };
-      },
-      left_none,
-    )
+    let meets = one_more_met w notes f.outcomes a.met w.answers [] a.note old new chain a.takes in
+    record {
+      note = a.note;
+      event_is = a.event_is;
+      store_is = a.store_is;
+      memory_is = a.memory_is;
+      ended_is = a.ended_is;
+      follows = record {
+        outcomes = f.outcomes ++ a.met;
+        meets = subst (λ ls. CallsMeet w (notes ++ a.note ∷ []) (f.outcomes ++ a.met) w.answers [] [] ls []) new_lines
+            (subst (λ ds. CallsMeet w (notes ++ a.note ∷ []) (f.outcomes ++ a.met) w.answers [] [] new.lines ds) left_none meets);
+        follows = a.follows;
+      };
+    }
 
 -- what it has told begins a story, and is a whole one once the end was told
 pub story_begun : (w : W.Program) (notes : List Note) (x : Program) → FollowsAlone w notes x → BeginsStory w notes

@@ -1,7 +1,7 @@
 -- A program of a plan that is set up has told nothing yet.
 use Rattle.std.proofs.Common.{◌≡◌, ◌≤◌, ℕ, zero, suc, ◌+◌, ◌*◌, ◌++◌, List, [], ◌∷◌, length, map, Option, Some, None, Ok, Bool, true, false, All, nat_le, refl, sym, ap, ◌∙◌, subst, arith}
 use Rattle.std.specs.Prelude.{◌&&◌, ◌==◌, ◌%◌, nat_lt, slice_get}
-use Rattle.std.specs.Option.{option_map, option_to_list}
+use Rattle.std.specs.Option.{option_map, option_to_list, unwrap_or}
 use Rattle.std.specs.Global.{Vec}
 use Rattle.std.proofs.lemmas.Bool.{leb-true, lt-ltb}
 use Rattle.std.proofs.lemmas.List.{length-map}
@@ -41,7 +41,7 @@ use Rattle.pause_host.specs.declared.plan.Plan.{Plan}
 use Rattle.pause_host.specs.declared.program.Program.{Program}
 use Rattle.pause_host.specs.declared.program.State.TheVariants.{Fresh}
 use Rattle.pause_host.specs.Settings.{calls_of, MakesSetting}
-use Rattle.pause_host.specs.Programs.{source_of, named_entries, IsPlan, world_program, before, place_of, RunsCode, FollowsAt, Follows}
+use Rattle.pause_host.specs.Programs.{source_of, named_entries, IsPlan, BindsAs, world_program, before, place_of, RunsCode, FollowsAt, Follows}
 use Rattle.pause_host.proofs.Making.{SetUpFine, set_up_fine}
 
 both : (a b : Bool) → (a && b) ≡ true → (a ≡ true) × (b ≡ true)
@@ -93,12 +93,12 @@ begin m l g = before (held_begun m.start l (opening m g))
 abbrev left_with : ℕ → List Entry → Left
 left_with n es = record { number = n; entries = es; outcomes = [] }
 
-module _ (x : Plan) (funcs : List ℕ) (looks : List Look) (plan : IsPlan x) (v : Valid (source_of x)) (up : set_up (source_of x) x.area (named_entries x) ≡ Ok funcs) where
+module _ (x : Plan) (funcs : List ℕ) (looks : List Look) (binds : List (Option (List ℕ))) (bound : BindsAs x binds) (plan : IsPlan x) (v : Valid (source_of x)) (up : set_up (source_of x) x.area (named_entries x) ≡ Ok funcs) where
   abbrev p : Module
   p = source_of x
 
   abbrev w : W.Program
-  w = world_program x funcs looks
+  w = world_program x funcs looks binds
 
   fine : SetUpFine p v x.area (named_entries x) funcs
   fine = set_up_fine p v x.area (named_entries x) funcs up
@@ -114,7 +114,7 @@ module _ (x : Plan) (funcs : List ℕ) (looks : List Look) (plan : IsPlan x) (v 
     steps = sym m.steps_are;
     names = sym m.names;
     bases = sym m.bases;
-    binds = sym (ap (λ (b : Vec (Option (List ℕ))). b.items) m.binds_are);
+    binds = λ import. bound import ∙ ap (λ (b : Vec (Option (List ℕ))). unwrap_or (slice_get b.items import) None) (sym m.binds_are);
     results = results_told p v setting.imports.items m.results;
     all = sym (length-map setting.imports.items (λ (i : HostImport). i.result)) ∙ ap length m.results ∙ length-map (imported imported_func p) (λ sort. slice_get (type_at p sort).results 0);
   }

@@ -1,4 +1,5 @@
 pub mod Advancing
 pub mod Beginning
+pub mod Binds
 pub mod Making
 pub mod Parts

@@ -1,8 +1,8 @@
 -- A program as plain data, and what its calls do.
-use Rattle.std.specs.Prelude.{◌≡◌, ◌<◌, ◌≤◌, ◌^◌, ◌++◌, ℕ, List, [], ◌∷◌, length, map, Option, Some, None, All, Bool, Result, Ok, Err}
+use Rattle.std.specs.Prelude.{◌≡◌, ◌<◌, ◌≤◌, ◌^◌, ◌++◌, ℕ, List, [], ◌∷◌, length, map, Option, Some, None, All, Bool, Result, Ok, Err, slice_get}
 use Rattle.std.specs.Option.{option_map, unwrap_or}
 use Rattle.wa_types.specs.Syntax.{Module}
-use Rattle.wa_types.specs.Modules.{imported, imported_global, func_imports}
+use Rattle.wa_types.specs.Modules.{imported, imported_func, imported_global, func_imports}
 use Rattle.wa_types.specs.View.{module_of}
 use Rattle.wa_model.specs.declared.events.End.{End}
 use Rattle.wa_model.specs.declared.events.Event.{Event as EventValue}
@@ -54,16 +54,25 @@ pub record IsPlan (x : Plan) : Type 0 where
   pub entries : length x.entries.items < 2 ^ 32
   pub pokes : All HasShortPokes (map answer_line_of x.answers.items)
 
--- the program of a world that a plan is, where its entries are of these functions and these looks come after its end
-abbrev pub world_program : Plan → List ℕ → List Look → W.Program
-world_program x funcs looks = record {
+-- the program of a world that a plan is, where its entries are of these functions, these looks come after its end and its imports
+-- are bound so
+abbrev pub world_program : Plan → List ℕ → List Look → List (Option (List ℕ)) → W.Program
+world_program x funcs looks binds = record {
   source = source_of x;
   plan = record { globals = x.globals.items; entries = calls_of (named_entries x) funcs; area = x.area; listed = option_map (λ v. v.items) x.listed };
   steps = x.steps;
   answers = map answer_line_of x.answers.items;
-  binds = x.binds.items;
+  binds = binds;
   looks = looks;
 }
+
+-- the imports are bound as the plan has it; one beyond a list is bound to none
+abbrev pub BindsAs : Plan → List (Option (List ℕ)) → Type 0
+BindsAs x binds = (import : ℕ) → unwrap_or (slice_get binds import) None ≡ unwrap_or (slice_get x.binds.items import) None
+
+-- no import of a module is bound
+abbrev pub none_bound : Module → List (Option (List ℕ))
+none_bound p = map (λ sort. None) (imported imported_func p)
 
 -- ---- a program
 
@@ -166,5 +175,5 @@ pub record AdvancesAlone (w : W.Program) (notes : List Note) (event : EventValue
 
 -- Set up is a plan whose area, exports and entries are lawful: the program has told nothing yet. Else the first fault says why.
 abbrev pub SetsUp : Plan → Result Program SetupFault → Type 0
-SetsUp x (Ok program) = (funcs : List ℕ) × (set_up (source_of x) x.area (named_entries x) ≡ Ok funcs) × ((looks : List Look) → Follows (world_program x funcs looks) [] [] program) × (lines_left program ≡ map answer_line_of x.answers.items)
+SetsUp x (Ok program) = (funcs : List ℕ) × (set_up (source_of x) x.area (named_entries x) ≡ Ok funcs) × ((looks : List Look) (binds : List (Option (List ℕ))) → BindsAs x binds → Follows (world_program x funcs looks binds) [] [] program) × (lines_left program ≡ map answer_line_of x.answers.items)
 SetsUp x (Err fault) = Blames fault (set_up (source_of x) x.area (named_entries x))

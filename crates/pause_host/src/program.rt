@@ -93,7 +93,6 @@ impl<'m> Program<'m> {
     pub fn advance(&mut self, devices: &mut Devices<'_>) -> Result<Event, AllocError>
         requires { IsLent }
         ensures next { (w : WorldProgram) (notes : List Note) (os : List Outcome) → Follows w notes os self.old → ended_as self.old ≡ None → IfOk result (λ event. Advances w notes os event (supply_of seen faults self.old devices.old) (supply_of seen faults self.new devices.new) self.new) }
-        ensures alone { (w : WorldProgram) (notes : List Note) → FollowsAlone w notes self.old → ended_as self.old ≡ None → of_all seen devices.old ≡ [] → IfOk result (λ event. AdvancesAlone w notes event self.new × (of_all seen devices.new ≡ [])) }
         ensures again { (how : End) → ended_as self.old ≡ Some how → IfOk result (λ event. (event_of event ≡ ended how) × (self.new ≡ self.old) × (devices.new ≡ devices.old)) }
         ensures same_list { devices.new.list.ghost_name ≡ devices.old.list.ghost_name }
     {
@@ -103,6 +102,15 @@ impl<'m> Program<'m> {
             State::Failed(end) => self.fail(end),
             State::Lost => Err(AllocError),
         }
+    }
+
+    /// The next event of a program that is alone, without devices.
+    pub fn advance_alone(&mut self) -> Result<Event, AllocError>
+        ensures next { (w : WorldProgram) (notes : List Note) → FollowsAlone w notes self.old → ended_as self.old ≡ None → IfOk result (λ event. AdvancesAlone w notes event self.new) }
+        ensures again { (how : End) → ended_as self.old ≡ Some how → IfOk result (λ event. (event_of event ≡ ended how) × (self.new ≡ self.old)) }
+    {
+        let mut none = Vec::new(self.setting.alloc);
+        self.advance(&mut Devices::new(&mut none))
     }
 
     // The module is instantiated, and its start function called where it has one.

@@ -31,7 +31,8 @@ becomes_by P Q f (Some x) None h = h
 
 -- ---- ends
 
-pub played : (c : Call) (status : ℕ) → status ≡ 0 → (play : Play c.way c.files c.name) → Becomes c.taken c.taken' (λ old new. (text : List ℕ) × IsTranscript play text × Appends text old new) → HasEnd c status
+pub played : (c : Call) (status : ℕ) → status ≡ 0 → (play : Play c.way c.files c.name)
+    → Becomes c.taken c.taken' (λ old new. (text : List ℕ) × IsTranscript play text × Appends text old new) → HasEnd c status
 played c status zero play h = record { which = done; by_status = zero; why = (play, h) }
 
 pub cut_off : (c : Call) (status : ℕ) → status ≡ 12 → HasRisen c.sink_faults c.sink_faults' → (play : Play c.way c.files c.name)

@@ -92,7 +92,8 @@ unread_script way files f f' name (Read read) is why = (inl is, subst (λ (n : L
 unread_script way files f f' name (a_script kind) is why = absurd is
 unread_script way files f f' name (a_module kind) is why = absurd is
 
-pub unread_module : (way : Way) (files : Option Files) (f f' : ℕ) (t : ProgramText) (fault : OpenFault) → IsUnread t.path fault → HasRisen f f' ⊎ IsMissing files t.path → BlamesProgram way files f f' t fault
+pub unread_module : (way : Way) (files : Option Files) (f f' : ℕ) (t : ProgramText) (fault : OpenFault) → IsUnread t.path fault → HasRisen f f' ⊎ IsMissing files t.path
+    → BlamesProgram way files f f' t fault
 unread_module way files f f' t Memory is why = tt
 unread_module way files f f' t (Read read) is why = (is, subst (λ (n : List ℕ). HasRisen f f' ⊎ IsMissing files n) (sym is) why)
 unread_module way files f f' t (a_script kind) is why = absurd is

@@ -12,7 +12,13 @@ use Rattle.wa_model.specs.Script.{ProgramText}
 use Rattle.wa_model.specs.Transcript.{Refusal}
 use Rattle.transcript.specs.Printing.{refusal_of}
 use Rattle.call_graph.proofs.GraphLemmas.{listed_count}
+use Rattle.source_modules.specs.Refusals as U
+use Rattle.source_modules.specs.Refusals.{cause_of}
 use Rattle.source_modules.specs.Running.{RunsAs}
+use Rattle.source_modules.specs.Sources.{IsRefusedFor, refusal_for}
+use Rattle.source_modules.specs.declared.refusals.Refusal.{Refusal as SourceRefusal}
+use Rattle.source_modules.specs.declared.refusals.Refusal.TheVariants as R
+use Rattle.source_modules.specs.declared.source.SourceFault.TheVariants as S
 use Rattle.source_modules.proofs.Fronts.{runs_whole, cause_whole}
 use Rattle.host_files.specs.declared.fault.FileFault.{FileFault}
 use Rattle.host_files.specs.declared.fault.FileFault.TheVariants.{Memory, Read, Refused}
@@ -20,7 +26,7 @@ use Rattle.host_files.specs.Views.{Holds, IsToldUnprepared}
 use Rattle.hosting.specs.Hosted.{IsListing}
 use Rattle.script_command.specs.declared.way.Way.TheVariants.{Host, Run}
 use Rattle.script_command.specs.declared.modules.Loaded.{Loaded}
-use Rattle.script_command.specs.Playing.{IsBadModule, IsBadOriginal, RunsFor}
+use Rattle.script_command.specs.Playing.{IsBadModule, IsBadOriginal, IsUnwritten, RunsFor, settings_for}
 use Rattle.script_command.specs.Views.{IsBadModuleFor, IsBadOriginalFor, Loads, Rewritten}
 
 -- each function import of what is run is listed or not
@@ -30,12 +36,28 @@ runs_listing s bytes listed p r = λ l e.
     ap (λ (bs : List Bool). length bs) (sym same ∙ r.listed_is) ∙ listed_count r.source s
     ∙ ap (λ (is : List Import). length (filter_map (λ (i : Import). imported_func i.kind) is)) (sym r.rewrites.imports)
 
+-- what isn't written isn't refused for its length
+unwritten : (refusal : SourceRefusal) → U.IsUnwritten (S.Refused refusal) → IsUnwritten (cause_of refusal)
+unwritten (R.Malformed at) h = tt
+unwritten (R.Float at) h = tt
+unwritten (R.Deep at) h = tt
+unwritten (R.Limit what found) h = tt
+unwritten (R.Reserved name) h = tt
+unwritten (R.Invalid func rule at) h = tt
+unwritten (R.RewrittenLocals found) h = tt
+unwritten (R.Output found) h = h
+
+pub bad_original : (t : ProgramText) (s : Settings) (bytes : List ℕ) (refusal : SourceRefusal) (r : Refusal) → settings_for t ≡ Some s → IsRefusedFor s bytes (cause_of refusal)
+    → U.IsUnwritten (S.Refused refusal)
+    → r ≡ refusal_for (cause_of refusal) → IsBadOriginal t bytes r
+bad_original t s bytes refusal r e why before is = (s, cause_of refusal, e, why, unwritten refusal before, is)
+
 module _ (t : ProgramText) where
   runs_front : (bytes : List ℕ) (listed : List Bool) (p : Module) → RunsFor t (take 8388609 bytes) listed p → RunsFor t bytes listed p
   runs_front bytes listed p h = (h.0, h.1, runs_whole h.0 bytes listed p h.2)
 
   bad_front : (bytes : List ℕ) (r : Refusal) → IsBadOriginal t (take 8388609 bytes) r → IsBadOriginal t bytes r
-  bad_front bytes r h = (h.0, h.1, h.2, cause_whole h.0 bytes h.1 h.3, h.4)
+  bad_front bytes r h = (h.0, h.1, h.2, cause_whole h.0 bytes h.1 h.3, h.4, h.5)
 
   module_run : (files : Option Files) (front : List ℕ) (listed : List Bool) (p : Module) → WhereTold files (λ all. front ≡ take 8388609 (bytes_of all t.path))
       → RunsFor t front listed p → (bytes : List ℕ) × Holds files t.path bytes × RunsFor t bytes listed p

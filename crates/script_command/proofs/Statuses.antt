@@ -58,7 +58,7 @@ script_content bytes r h = elim h [
 
 module_content : (way : Way) (files : Option Files) (t : ProgramText) (r : Refusal) → IsBadModule way files t r → IsOfContent r
 module_content Host files t r h = unprepared_content h.0 r h.2
-module_content Run files t r h = content_of r (refusal_for h.2.1) h.2.4 (cause_content h.2.1)
+module_content Run files t r h = content_of r (refusal_for h.2.1) h.2.5 (cause_content h.2.1)
 
 -- what is told of a fault
 pub told_fault : (way : Way) (files : Option Files) (faults faults' : ℕ) (name : List ℕ) (fault : OpenFault) → Blames way files faults faults' name fault → IsToldFault fault

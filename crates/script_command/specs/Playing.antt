@@ -47,9 +47,14 @@ settings_for t = option_map (λ (c : Choice). record { choice = c; ignore_indire
 abbrev pub RunsFor : ProgramText → List ℕ → List Bool → Module → Type 0
 RunsFor t bytes listed p = (s : Settings) × (settings_for t ≡ Some s) × RunsAs s bytes listed p
 
+-- nothing is written, so that no length is refused
+abbrev pub IsUnwritten : S.Cause → Type 0
+IsUnwritten (S.long_output found) = ⊥
+IsUnwritten _ = Unit {0}
+
 -- the bytes are no original that can be rewritten, for this
 abbrev pub IsBadOriginal : ProgramText → List ℕ → Refusal → Type 0
-IsBadOriginal t bytes r = (s : Settings) × (cause : S.Cause) × (settings_for t ≡ Some s) × IsRefusedFor s bytes cause × (r ≡ refusal_for cause)
+IsBadOriginal t bytes r = (s : Settings) × (cause : S.Cause) × (settings_for t ≡ Some s) × IsRefusedFor s bytes cause × IsUnwritten cause × (r ≡ refusal_for cause)
 
 -- the program's module: as its file spells it, and then no list is told; or the original of its file, rewritten
 abbrev pub IsModule : Way → Option Files → ProgramText → Module → Option (List Bool) → Type 0

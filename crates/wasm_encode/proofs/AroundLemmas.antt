@@ -26,10 +26,12 @@ code_length n entries h =
     let whole = length-append (shortest n) entries in
     ap length (code_some n entries h) ∙ omega (arith, length-append (shortest (length (shortest n ++ entries))) (shortest n ++ entries), whole, ap (λ k. length (shortest k)) whole)
 
-pub code_put : (n : ℕ) (entries old a b c new : List ℕ) → n ≢ 0 → a ≡ old ++ 10 ∷ [] → b ≡ a ++ shortest (length (shortest n) + length entries) → c ≡ b ++ shortest n → new ≡ c ++ entries → new ≡ old ++ code_section n entries
+pub code_put : (n : ℕ) (entries old a b c new : List ℕ) → n ≢ 0 → a ≡ old ++ 10 ∷ []
+    → b ≡ a ++ shortest (length (shortest n) + length entries) → c ≡ b ++ shortest n → new ≡ c ++ entries → new ≡ old ++ code_section n entries
 code_put n entries old a b c new h ea eb ec en =
     let size : List ℕ = shortest (length (shortest n) + length entries) in
-    let same : sized (shortest n ++ entries) ≡ size ++ shortest n ++ entries = ap (λ k. shortest k ++ (shortest n ++ entries)) (length-append (shortest n) entries) ∙ sym (append_assoc size (shortest n) entries) in
+    let same : sized (shortest n ++ entries) ≡ size ++ shortest n ++ entries =
+    ap (λ k. shortest k ++ (shortest n ++ entries)) (length-append (shortest n) entries) ∙ sym (append_assoc size (shortest n) entries) in
     en ∙ ap (λ z. z ++ entries) (ec ∙ ap (λ z. z ++ shortest n) (eb ∙ ap (λ z. z ++ size) ea))
     ∙ ap (λ z. z ++ entries) (append_assoc (old ++ 10 ∷ []) size (shortest n)) ∙ append_assoc (old ++ 10 ∷ []) (size ++ shortest n) entries
     ∙ append_assoc old (10 ∷ []) (size ++ shortest n ++ entries) ∙ ap (λ z. old ++ 10 ∷ z) (sym same) ∙ ap (λ z. old ++ z) (sym (code_some n entries h))
@@ -132,7 +134,8 @@ module _ (m : Module) (entries : List ℕ) (p : Module) (a : IsAround m entries 
   customs_fit id lt le = let k = ap (λ cs. length (customs_behind id cs)) customs_same in let l = more_length p id lt in omega (arith, k, l, le, a.fits)
 
   -- what was counted, with a place more
-  pub count_more : (id len place customs : ℕ) → id < 12 → place ≡ length (section_around id m entries) → customs ≡ length (customs_behind id m.customs) → len + length (places_from id p) ≡ length (Enc p)
+  pub count_more : (id len place customs : ℕ) → id < 12 → place ≡ length (section_around id m entries) → customs ≡ length (customs_behind id m.customs)
+      → len + length (places_from id p) ≡ length (Enc p)
       → len + (place + customs) + length (places_from (id + 1) p) ≡ length (Enc p)
   count_more id len place customs lt ep ec before =
       let s = ap length (section_is id) in

@@ -19,40 +19,38 @@ loop-index-init c = going_first (module_of c.args.valid.now) (settings_of c.args
 
 pub put_func-requires-clause-locals : goal.put_func-requires-clause-locals
 put_func-requires-clause-locals c =
-    let p = here c.args.valid.now c.module-module.result.now c.args.which.now c.loop-index.index c.len.result c.len-index-end.result c.index-source.result.now c.module-module.ensures.same c.requires.which (omega (arith, c.len.ensures)) (omega (arith, c.len-index-end.ensures))
-    c.loop-index-test.true c.index-source.ensures in
+    let p = here _ _ _ _ _ _ _ c.module-module.ensures.same c.requires.which c.len.ensures c.len-index-end.ensures c.loop-index-test.true c.index-source.ensures in
     locals_small (module_of c.args.valid.now) c.loop-index.index (func_of c.index-source.result.now) p.is c.requires.sizes
 
 pub put_func-requires-clause-fits : goal.put_func-requires-clause-fits
 put_func-requires-clause-fits c =
-    let p = here c.args.valid.now c.module-module.result.now c.args.which.now c.loop-index.index c.len.result c.len-index-end.result c.index-source.result.now c.module-module.ensures.same c.requires.which (omega (arith, c.len.ensures)) (omega (arith, c.len-index-end.ensures))
-    c.loop-index-test.true c.index-source.ensures in
+    let p = here _ _ _ _ _ _ _ c.module-module.ensures.same c.requires.which c.len.ensures c.len-index-end.ensures c.loop-index-test.true c.index-source.ensures in
     entry_short (module_of c.args.valid.now) c.loop-index.index (func_of c.index-source.result.now) p.is c.requires.short
 
 pub loop-index-preserved-then-not-which-imports : goal.loop-index-preserved-then-not-which-imports
 loop-index-preserved-then-not-which-imports c =
-    let p = here c.args.valid.now c.module-module.result.now c.args.which.now c.loop-index.index c.len.result c.len-index-end.result c.index-source.result.now c.module-module.ensures.same c.requires.which (omega (arith, c.len.ensures)) (omega (arith, c.len-index-end.ensures))
-    c.loop-index-test.true c.index-source.ensures in
-    going_keep (module_of c.args.valid.now) (settings_of c.args.settings.now) c.args.which.now c.loop-index.index _ c.loop-index.out.items c.loop-index.invariant (func_of c.index-source.result.now) p _ c.if-not-which-imports.true c.in_ok-put_func.ensures
+    let p = here _ _ _ _ _ _ _ c.module-module.ensures.same c.requires.which c.len.ensures c.len-index-end.ensures c.loop-index-test.true c.index-source.ensures in
+    going_keep (module_of c.args.valid.now) (settings_of c.args.settings.now) c.args.which.now c.loop-index.index _ c.loop-index.out.items c.loop-index.invariant
+    (func_of c.index-source.result.now) p _ c.if-not-which-imports.true c.in_ok-put_func.ensures
 
 pub returns-in_err-flat : goal.returns-in_err-flat
 returns-in_err-flat c =
     let m = module_of c.args.valid.now in
     let s = settings_of c.args.settings.now in
     let which = c.args.which.now in
-    let p = here c.args.valid.now c.module-module.result.now c.args.which.now c.loop-index.index c.len.result c.len-index-end.result c.index-source.result.now c.module-module.ensures.same c.requires.which (omega (arith, c.len.ensures)) (omega (arith, c.len-index-end.ensures))
-    c.loop-index-test.true c.index-source.ensures in
+    let p = here _ _ _ _ _ _ _ c.module-module.ensures.same c.requires.which c.len.ensures c.len-index-end.ensures c.loop-index-test.true c.index-source.ensures in
     let r = err_from_is_err_and c.from_residual-in_err-flat.result c.from_residual-in_err-flat.ensures.1 in
     subst (Emits m s which) (sym r.1) (subst (λ z. Emits m s which (Err z)) (sym r.2)
-    (going_stop m s which c.loop-index.index _ _ c.loop-index.out.items c.loop-index.invariant (func_of c.index-source.result.now) p c.if-not-which-imports.false p.place c.in_err-flat.field-0.0 c.in_err-flat.ensures))
+    (going_stop m s which c.loop-index.index _ _ c.loop-index.out.items c.loop-index.invariant
+    (func_of c.index-source.result.now) p c.if-not-which-imports.false p.place c.in_err-flat.field-0.0 c.in_err-flat.ensures))
 
 pub put_written-requires-clause-flat : goal.put_written-requires-clause-flat
 put_written-requires-clause-flat c =
     let f = c.index-source.result.now in
-    let p = here c.args.valid.now c.module-module.result.now c.args.which.now c.loop-index.index c.len.result c.len-index-end.result c.index-source.result.now c.module-module.ensures.same c.requires.which (omega (arith, c.len.ensures)) (omega (arith, c.len-index-end.ensures))
-    c.loop-index-test.true c.index-source.ensures in
+    let p = here _ _ _ _ _ _ _ c.module-module.ensures.same c.requires.which c.len.ensures c.len-index-end.ensures c.loop-index-test.true c.index-source.ensures in
     subst (λ (z : ModuleValue). IsFlattened (module_of z) (func_of f) c.in_ok-flat.flat) (sym c.module-module.ensures.same)
-    (is_flattened (module_of c.args.valid.now) (settings_of c.args.settings.now) c.args.which.now c.loop-index.index _ c.loop-index.out.items c.loop-index.invariant (func_of f) p c.in_ok-flat.flat _ p.place (c.in_ok-flat.ensures (func_of f) p.is))
+    (is_flattened (module_of c.args.valid.now) (settings_of c.args.settings.now) c.args.which.now c.loop-index.index _ c.loop-index.out.items c.loop-index.invariant
+    (func_of f) p c.in_ok-flat.flat _ p.place (c.in_ok-flat.ensures (func_of f) p.is))
 
 pub put_written-requires-clause-locals : goal.put_written-requires-clause-locals
 put_written-requires-clause-locals c =
@@ -60,11 +58,11 @@ put_written-requires-clause-locals c =
     let s = settings_of c.args.settings.now in
     let which = c.args.which.now in
     let same = c.module-module.ensures.same in
-    let p = here c.args.valid.now c.module-module.result.now c.args.which.now c.loop-index.index c.len.result c.len-index-end.result c.index-source.result.now c.module-module.ensures.same c.requires.which (omega (arith, c.len.ensures)) (omega (arith, c.len-index-end.ensures))
-    c.loop-index-test.true c.index-source.ensures in
+    let p = here _ _ _ _ _ _ _ c.module-module.ensures.same c.requires.which c.len.ensures c.len-index-end.ensures c.loop-index-test.true c.index-source.ensures in
     let valid = subst (λ (z : ModuleValue). Valid (module_of z)) same c.module-module.ensures.valid in
     subst (λ (z : ModuleValue). local_count (written_func (module_of z) s which c.in_ok-flat.flat.func.func (func_of f)).locals < 2 ^ 32) (sym same)
-    (written_small (module_of c.args.valid.now) s which c.loop-index.index _ c.loop-index.out.items c.loop-index.invariant (func_of f) p c.in_ok-flat.flat _ p.place (c.in_ok-flat.ensures (func_of f) p.is) valid c.requires.sizes)
+    (written_small (module_of c.args.valid.now) s which c.loop-index.index _ c.loop-index.out.items c.loop-index.invariant
+    (func_of f) p c.in_ok-flat.flat _ p.place (c.in_ok-flat.ensures (func_of f) p.is) valid c.requires.sizes)
 
 pub put_written-requires-clause-short : goal.put_written-requires-clause-short
 put_written-requires-clause-short c =
@@ -72,25 +70,27 @@ put_written-requires-clause-short c =
     let s = settings_of c.args.settings.now in
     let which = c.args.which.now in
     let same = c.module-module.ensures.same in
-    let p = here c.args.valid.now c.module-module.result.now c.args.which.now c.loop-index.index c.len.result c.len-index-end.result c.index-source.result.now c.module-module.ensures.same c.requires.which (omega (arith, c.len.ensures)) (omega (arith, c.len-index-end.ensures))
-    c.loop-index-test.true c.index-source.ensures in
+    let p = here _ _ _ _ _ _ _ c.module-module.ensures.same c.requires.which c.len.ensures c.len-index-end.ensures c.loop-index-test.true c.index-source.ensures in
     let valid = subst (λ (z : ModuleValue). Valid (module_of z)) same c.module-module.ensures.valid in
     subst (λ (z : ModuleValue). length (code_entry (written_func (module_of z) s which c.in_ok-flat.flat.func.func (func_of f))) < 2 ^ 64) (sym same)
-    (written_short (module_of c.args.valid.now) s which c.loop-index.index _ c.loop-index.out.items c.loop-index.invariant (func_of f) p c.in_ok-flat.flat _ p.place (c.in_ok-flat.ensures (func_of f) p.is) valid c.requires.sizes)
+    (written_short (module_of c.args.valid.now) s which c.loop-index.index _ c.loop-index.out.items c.loop-index.invariant
+    (func_of f) p c.in_ok-flat.flat _ p.place (c.in_ok-flat.ensures (func_of f) p.is) valid c.requires.sizes)
 
 pub loop-index-preserved : goal.loop-index-preserved
 loop-index-preserved c =
     let f = c.index-source.result.now in
     let s = settings_of c.args.settings.now in
     let which = c.args.which.now in
-    let p = here c.args.valid.now c.module-module.result.now c.args.which.now c.loop-index.index c.len.result c.len-index-end.result c.index-source.result.now c.module-module.ensures.same c.requires.which (omega (arith, c.len.ensures)) (omega (arith, c.len-index-end.ensures))
-    c.loop-index-test.true c.index-source.ensures in
-    let put = c.in_ok-put_written.ensures ∙ ap (λ (z : ModuleValue). c.loop-index.out.items ++ code_entry (written_func (module_of z) s which c.in_ok-flat.flat.func.func (func_of f))) c.module-module.ensures.same in
-    going_written (module_of c.args.valid.now) s which c.loop-index.index _ c.loop-index.out.items c.loop-index.invariant (func_of f) p c.in_ok-flat.flat _ p.place (c.in_ok-flat.ensures (func_of f) p.is) _ c.if-not-which-imports.false put
+    let p = here _ _ _ _ _ _ _ c.module-module.ensures.same c.requires.which c.len.ensures c.len-index-end.ensures c.loop-index-test.true c.index-source.ensures in
+    let put = c.in_ok-put_written.ensures
+    ∙ ap (λ (z : ModuleValue). c.loop-index.out.items ++ code_entry (written_func (module_of z) s which c.in_ok-flat.flat.func.func (func_of f))) c.module-module.ensures.same in
+    going_written (module_of c.args.valid.now) s which c.loop-index.index _ c.loop-index.out.items c.loop-index.invariant
+    (func_of f) p c.in_ok-flat.flat _ p.place (c.in_ok-flat.ensures (func_of f) p.is) _ c.if-not-which-imports.false put
 
 pub returns : goal.returns
 returns c =
     let v = c.args.valid.now in
     let many = ap (λ (z : ModuleValue). length z.funcs.items) c.module-module.ensures.same in
     let len = length-map v.funcs.items func_of in
-    going_end (module_of v) (settings_of c.args.settings.now) c.args.which.now c.loop-index.index c.loop-index.out.items c.loop-index.invariant (omega (arith, c.loop-index-test.false, c.len-index-end.ensures, many, len))
+    going_end (module_of v) (settings_of c.args.settings.now) c.args.which.now c.loop-index.index c.loop-index.out.items c.loop-index.invariant
+    (omega (arith, c.loop-index-test.false, c.len-index-end.ensures, many, len))

@@ -22,7 +22,8 @@ pub loop-index-preserved : goal.loop-index-preserved
 loop-index-preserved c =
     let l = entry_length (λ (f : FuncValue). code_entry (func_of f)) c.args.funcs.now c.loop-index.index c.index-funcs-index.result c.loop-index-test.true c.index-funcs-index.is in
     record {
-      put = put_step (λ (f : FuncValue). code_entry (func_of f)) c.args.funcs.now c.loop-index.index c.index-funcs-index.result c.loop-index.out.items c.put_func.new.out.items _ c.loop-index-test.true c.index-funcs-index.is
+      put = put_step (λ (f : FuncValue). code_entry (func_of f)) c.args.funcs.now c.loop-index.index c.index-funcs-index.result c.loop-index.out.items c.put_func.new.out.items _
+          c.loop-index-test.true c.index-funcs-index.is
           c.in_ok-put_func.ensures c.loop-index.invariant.put;
       left = omega (arith, l, c.loop-index.invariant.left);
     }

@@ -6,10 +6,10 @@ use Rattle.wasm_encode.specs.Around.{code_entry}
 use Rattle.module_bytes.proofs.emitting.put_written.Goals as goal
 
 pub put_func-requires-clause-locals : goal.put_func-requires-clause-locals
-put_func-requires-clause-locals c = subst (λ (f : Func). local_count f.locals < 2 ^ 32) (sym c.in_ok-written.ensures.func) c.requires.locals
+put_func-requires-clause-locals c = subst (λ (f : Func). local_count f.locals < 2 ^ 32) (sym c.in_ok-written.ensures) c.requires.locals
 
 pub put_func-requires-clause-fits : goal.put_func-requires-clause-fits
-put_func-requires-clause-fits c = subst (λ (f : Func). length (code_entry f) < 2 ^ 64) (sym c.in_ok-written.ensures.func) c.requires.short
+put_func-requires-clause-fits c = subst (λ (f : Func). length (code_entry f) < 2 ^ 64) (sym c.in_ok-written.ensures) c.requires.short
 
 pub returns : goal.returns
-returns c = on_ok_weaker c.put_func.result (λ e. e ∙ ap (λ f. c.args.out.now.items ++ code_entry f) c.in_ok-written.ensures.func) c.put_func.ensures
+returns c = on_ok_weaker c.put_func.result (λ e. e ∙ ap (λ f. c.args.out.now.items ++ code_entry f) c.in_ok-written.ensures) c.put_func.ensures

@@ -26,7 +26,9 @@ returns-in-Err-Memory-clause-end g c = λ files name f f' opens.
 
 pub returns-clause-end : goal.returns-clause-end
 returns-clause-end g c = λ files name f f' opens.
-    let rules = subst (λ (x : HostFault). KeepsRules {X = Unit {0}} (Err x) (set_up_rules c.asks_all-runs.result (module_of c.args.program.valid) (program_of c.args.program.text))) c.in-Err-Rule.field-0-is c.in-Err-Rule.ensures.rules in
+    let rules = subst (λ (x : HostFault). KeepsRules {X = Unit {0}} (Err x) (set_up_rules c.asks_all-runs.result (module_of c.args.program.valid) (program_of c.args.program.text)))
+    c.in-Err-Rule.field-0-is c.in-Err-Rule.ensures.rules in
     let same = c.in-Err-Rule.ensures.refused _ rules in
     program_broken c.args.way name files f f' _ _ c.args.program opens c.asks_all-runs.result c.asks_all-runs.ensures c.in-Err-Rule.line c.in-Err-Rule.rule c.refuse.result rules
-    _ (g.S.Sink.taken c.host_program.new.out) _ (g.S.Sink.faults c.host_program.new.out) (ap g.S.Sink.taken same) (ap g.S.Sink.faults same) c.refuse.ensures.status c.refuse.ensures.printed c.refuse.ensures.memory
+    _ (g.S.Sink.taken c.host_program.new.out) _ (g.S.Sink.faults c.host_program.new.out) (ap g.S.Sink.taken same) (ap g.S.Sink.faults same) c.refuse.ensures.status
+    c.refuse.ensures.printed c.refuse.ensures.memory

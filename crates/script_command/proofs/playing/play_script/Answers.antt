@@ -19,5 +19,6 @@ returns-in-Ok-clause-status g c =
 
 pub returns-in-Err-clause-status : goal.returns-in-Err-clause-status
 returns-in-Err-clause-status g c =
-    end_status (call c.args.way c.args.script.now (g.V.Vault.files c.args.vault.now) (g.V.Vault.fetch_faults c.args.vault.now) (g.V.Vault.fetch_faults c.open_script.new.vault) _ _ _ _) c.refuse_script.result
+    end_status (call c.args.way c.args.script.now (g.V.Vault.files c.args.vault.now) (g.V.Vault.fetch_faults c.args.vault.now) (g.V.Vault.fetch_faults c.open_script.new.vault) _ _ _ _)
+    c.refuse_script.result
     (c.refuse_script.ensures.end c.args.way _ c.args.script.now _ _ c.in-Err.ensures.refused)

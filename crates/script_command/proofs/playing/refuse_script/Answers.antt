@@ -18,10 +18,12 @@ returns-in-Read-clause-end g c = λ way files name f f' b.
 
 pub returns-in-Script-clause-end : goal.returns-in-Script-clause-end
 returns-in-Script-clause-end g c = λ way files name f f' b.
-    refused_for (call way name files f f' _ _ _ _) c.refuse-in-Script.result (bad_script (refusal_of c.in-Script.kind)) (subst (Blames way files f f' name) c.in-Script.is b) c.refuse-in-Script.ensures.status
+    refused_for (call way name files f f' _ _ _ _) c.refuse-in-Script.result (bad_script (refusal_of c.in-Script.kind)) (subst (Blames way files f f' name) c.in-Script.is b)
+    c.refuse-in-Script.ensures.status
     c.refuse-in-Script.ensures.printed c.refuse-in-Script.ensures.memory
 
 pub returns-in-Module-clause-end : goal.returns-in-Module-clause-end
 returns-in-Module-clause-end g c = λ way files name f f' b.
-    refused_for (call way name files f f' _ _ _ _) c.refuse_program.result (bad_module (refusal_of c.in-Module.kind)) (subst (Blames way files f f' name) c.in-Module.is b) c.refuse_program.ensures.status
+    refused_for (call way name files f f' _ _ _ _) c.refuse_program.result (bad_module (refusal_of c.in-Module.kind)) (subst (Blames way files f f' name) c.in-Module.is b)
+    c.refuse_program.ensures.status
     c.refuse_program.ensures.printed c.refuse_program.ensures.memory

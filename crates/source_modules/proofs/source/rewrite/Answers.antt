@@ -26,7 +26,8 @@ emit_module-requires-clause-short c = few_bytes c.args.bytes.now (module_of c.in
 
 pub returns-in-Err-clause-refused : goal.returns-in-Err-clause-refused
 returns-in-Err-clause-refused c =
-    emit_refused (settings_of c.args.settings.now) c.args.bytes.now (module_of c.in_ok-valid.valid) c.in-Err.fault c.emit_fault.result c.in_ok-valid.ensures.source c.in-Err.ensures c.emit_fault.ensures
+    emit_refused (settings_of c.args.settings.now) c.args.bytes.now (module_of c.in_ok-valid.valid) c.in-Err.fault c.emit_fault.result
+    c.in_ok-valid.ensures.source c.in-Err.ensures c.emit_fault.ensures
 
 pub returns-clause-done : goal.returns-clause-done
 returns-clause-done c =
@@ -44,5 +45,6 @@ returns-clause-done c =
       count,
       e.text,
       source_prepared c.args.bytes.now m c.in_ok-valid.ensures.source s which few (λ i. omega (arith, c.type_inv.bytes i)) e.short,
-      sources_rewritten m s which c.in_ok-valid.ensures.source.valid c.in_ok-valid.ensures.source.unreserved.free (strict c.args.bytes.now m c.in_ok-valid.ensures.source) (few_written m which few) (ap policy_of c.requires) e.can.tells,
+      sources_rewritten m s which c.in_ok-valid.ensures.source.valid c.in_ok-valid.ensures.source.unreserved.free (strict c.args.bytes.now m c.in_ok-valid.ensures.source)
+          (few_written m which few) (ap policy_of c.requires) e.can.tells,
     )

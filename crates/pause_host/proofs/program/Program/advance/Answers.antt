@@ -1,9 +1,9 @@
-use Rattle.std.proofs.Common.{refl, sym, ap, ◌∙◌, subst}
+use Rattle.std.proofs.Common.{sym, ap, ◌∙◌, subst}
 use Rattle.interp.specs.Host.{store_in, waits_in}
 use Rattle.host_moves.specs.Views.{exports_in, left_of}
-use Rattle.pause_host.specs.Programs.{RunsCode, supply_of, FollowsAt, place_of, end_at}
-use Rattle.pause_host.specs.declared.program.State.TheVariants.{Fresh, Live}
-use Rattle.pause_host.proofs.Advancing.{advances_alone, in_state, ended_stage}
+use Rattle.pause_host.specs.Programs.{RunsCode, FollowsAt, place_of, end_at}
+use Rattle.pause_host.specs.declared.program.State.TheVariants.{Live}
+use Rattle.pause_host.proofs.Advancing.{in_state, ended_stage}
 use Rattle.std.proofs.lemmas.Result.{IfOk-weaker}
 use Rattle.pause_host.proofs.program.Program.advance.Goals as goal
 
@@ -26,27 +26,3 @@ returns-in-Live-clause-again g c = λ how told.
     let is = sym c.replace.ensures.value ∙ c.in-Live.is in
     let e = sym (ended_stage (exports_in x.setting.exports) x.setting.area (left_of x.left) (store_in i) (waits_in i) st) ∙ ap (λ z. end_at (place_of x z)) (sym is) ∙ told in
     IfOk-weaker c.live.result _ _ (λ event h. (h.0, h.1 ∙ ap (λ z. record x { state = z }) (sym is), h.2)) (c.live.ensures.again how e)
-
-pub returns-in-Fresh-clause-alone : goal.returns-in-Fresh-clause-alone
-returns-in-Fresh-clause-alone g c = λ w notes f none no_devices.
-    let x = c.args.self.now in
-    let is = sym c.replace.ensures.value ∙ c.in-Fresh.is in
-    let at = subst (λ z. FollowsAt w notes f.outcomes x (place_of x z)) is f.follows.at in
-    let old = supply_of (λ z. (goal.Device-dyn g z).seen z.1) (λ z. (goal.Device-dyn g z).faults z.1) x c.args.devices.now in
-    let new = supply_of (λ z. (goal.Device-dyn g z).seen z.1) (λ z. (goal.Device-dyn g z).faults z.1) c.open.new.self c.open.new.devices in
-    IfOk-weaker c.open.result _ _ (λ event a. advances_alone w notes x c.open.new.self event old new f refl no_devices refl a)
-    (c.open.ensures.next w notes f.outcomes (in_state w notes f.outcomes x c.replace.new.dest (place_of x Fresh) at))
-
-pub returns-in-Live-clause-alone : goal.returns-in-Live-clause-alone
-returns-in-Live-clause-alone g c = λ w notes f none no_devices.
-    let x = c.args.self.now in
-    let i = c.in-Live.instance in
-    let st = c.in-Live.stage in
-    let is = sym c.replace.ensures.value ∙ c.in-Live.is in
-    let at = subst (λ z. FollowsAt w notes f.outcomes x (place_of x z)) is f.follows.at in
-    let code = subst (RunsCode w.source) is f.follows.code in
-    let more = sym (ended_stage (exports_in x.setting.exports) x.setting.area (left_of x.left) (store_in i) (waits_in i) st) ∙ ap (λ z. end_at (place_of x z)) (sym is) ∙ none in
-    let old = supply_of (λ z. (goal.Device-dyn g z).seen z.1) (λ z. (goal.Device-dyn g z).faults z.1) x c.args.devices.now in
-    let new = supply_of (λ z. (goal.Device-dyn g z).seen z.1) (λ z. (goal.Device-dyn g z).faults z.1) c.live.new.self c.live.new.devices in
-    IfOk-weaker c.live.result _ _ (λ event a. advances_alone w notes x c.live.new.self event old new f refl no_devices refl a)
-    (c.live.ensures.next w notes f.outcomes (in_state w notes f.outcomes x c.replace.new.dest (place_of x (Live i st)) at) code more)

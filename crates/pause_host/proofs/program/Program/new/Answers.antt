@@ -17,4 +17,4 @@ returns c =
     let v = subst (λ m. Valid (module_of m)) c.module.ensures.same c.module.ensures.valid in
     let made = subst (λ m. MakesSetting (module_of m) x.listed x.binds x.area x.steps c.in_ok-setting.setting) c.module.ensures.same c.in_ok-setting.ensures in
     let calls = c.in_ok-entries.ensures ∙ ap (calls_of (map named_of x.entries.items)) c.deref-2.ensures.value in
-    (funcs, up, λ looks. follows x funcs looks c.requires v up _ refl refl made refl calls c.from_vec.ensures.items refl refl, ap (map answer_line_of) c.from_vec.ensures.items)
+    (funcs, up, λ looks binds bound. follows x funcs looks binds bound c.requires v up _ refl refl made refl calls c.from_vec.ensures.items refl refl, ap (map answer_line_of) c.from_vec.ensures.items)

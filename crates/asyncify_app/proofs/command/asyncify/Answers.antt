@@ -1,0 +1,44 @@
+-- The line on memory alone, where the words weren't read; and the one end of a call.
+use Rattle.std.proofs.Common.{◌≡◌, ◌∙◌, Err, None, Some, ap, map, refl, subst}
+use Rattle.std.specs.String.{string_bytes}
+use Rattle.call_graph.specs.Settings.{settings_of}
+use Rattle.wa_model.specs.Command.{transform}
+use Rattle.wa_model.specs.Spelled.{rewrites, spelled}
+use Rattle.wa_model.specs.Transcript.{refusal_line, usage}
+use Rattle.command_words.specs.declared.words.WordsFault.{WordsFault}
+use Rattle.command_words.specs.declared.words.Command.{Command}
+use Rattle.command_words.specs.Words.{Reads, spelled_of}
+use Rattle.printing.proofs.Printed.{memory_alone}
+use Rattle.asyncify_app.proofs.OneEnd.{memory_ends, memory_unread_words, spelled_ends}
+use Rattle.asyncify_app.proofs.Statuses.{script_status}
+use Rattle.script_command.specs.declared.way.Way.TheVariants.{Host, Run}
+use Rattle.transform_command.proofs.OneEnd.{transform_ends}
+use Rattle.asyncify_app.proofs.command.asyncify.Goals as goal
+
+pub returns-in-Err-Memory-clause-prints_usage_memory : goal.returns-in-Err-Memory-clause-prints_usage_memory
+returns-in-Err-Memory-clause-prints_usage_memory g c = λ e n. memory_alone (refusal_line None usage) _ _ c.out_of_memory.ensures.printed
+
+pub returns-in-Err-Memory-clause-prints_memory : goal.returns-in-Err-Memory-clause-prints_memory
+returns-in-Err-Memory-clause-prints_memory g c = memory_unread_words (spelled (map string_bytes c.args.words.now)) _ _ _ _ c.out_of_memory.ensures.printed
+
+pub returns-in-Err-Usage-clause-one_end : goal.returns-in-Err-Usage-clause-one_end
+returns-in-Err-Usage-clause-one_end g c =
+    spelled_ends _ c.refuse.result None
+    (subst (λ (f : WordsFault). Reads spelled_of (Err f) (spelled (map string_bytes c.args.words.now))) c.in-Err-Usage.field-0-is c.in-Err-Usage.ensures.command) c.refuse.ensures.status
+
+pub returns-in-Err-Memory-clause-one_end : goal.returns-in-Err-Memory-clause-one_end
+returns-in-Err-Memory-clause-one_end g c = memory_ends _ c.out_of_memory.result c.out_of_memory.ensures.status refl c.out_of_memory.ensures.printed
+
+pub returns-in-Ok-Transform-clause-one_end : goal.returns-in-Ok-Transform-clause-one_end
+returns-in-Ok-Transform-clause-one_end g c =
+    let e = c.run_transform.ensures in
+    spelled_ends _ c.run_transform.result (Some (rewrites (transform (settings_of c.in-Ok-Transform.settings) c.in-Ok-Transform.input.now c.in-Ok-Transform.output.now)))
+    (c.in-Ok-Transform.ensures.command ∙ ap (λ (x : Command). Some (spelled_of x)) c.in-Ok-Transform.field-0-is)
+    (transform_ends _ c.run_transform.result
+    (record { statuses = e.status; done = e.done; read = e.read_fault; refused = e.refused; held = e.built; write = e.write_fault; sink = e.sink_fault }))
+
+pub returns-in-Ok-Host-clause-status : goal.returns-in-Ok-Host-clause-status
+returns-in-Ok-Host-clause-status g c = script_status Host c.play_script.result c.play_script.ensures.status
+
+pub returns-in-Ok-Run-clause-status : goal.returns-in-Ok-Run-clause-status
+returns-in-Ok-Run-clause-status g c = script_status Run c.play_script-in-Ok-Run.result c.play_script-in-Ok-Run.ensures.status

@@ -1,0 +1,66 @@
+use Rattle.std.proofs.Common.{arith, refl, ap, sym, subst, length, get_or, take, drop, map, Bool, false, All, ◌∙◌, ◌≡◌, ◌+◌, ◌<◌, ◌++◌, ◌∷◌, []}
+use Rattle.wa_types.specs.declared.values.ValType.TheVariants.{I32, I64}
+use Rattle.wa_model.specs.FlatFits.{one_run}
+use Rattle.local_spill.specs.Laying.{in_a_row, row_size}
+use Rattle.written_frames.specs.Frames.{numbered_places}
+use Rattle.wa_types.specs.Pausing.{places_from}
+use Rattle.wa_types.specs.View.{func_of, module_of}
+use Rattle.wa_model.specs.FlatView.{flat_func_of}
+use Rattle.call_graph.specs.Settings.{settings_of}
+use Rattle.call_numbers.specs.Numbering.{callees, gets_number}
+use Rattle.flow_rewrite.specs.Emitting.{Rises}
+use Rattle.local_spill.specs.declared.frames.Place.{Place}
+use Rattle.rewrite_form.specs.Emitted.{is_kept, written_func}
+use Rattle.func_rewrite.proofs.CallNumbers.{places_rise}
+use Rattle.func_rewrite.proofs.WrittenFuncs.{fits, few_calls, stacks, numbers, own_few, saved_few, places_few, row_fits, kept_is, body_same, runs_same, func_is}
+use Rattle.func_rewrite.proofs.function.emit_func.Goals as goal
+
+pub number_calls-requires : goal.number_calls-requires
+number_calls-requires c = few_calls (module_of c.args._module.now) (settings_of c.args.settings.now) c.args.which.now (func_of c.args.source.now) c.args.flat.now c.requires.valid c.requires.sizes c.requires.flat
+
+pub kept_locals-requires-clause-rises : goal.kept_locals-requires-clause-rises
+kept_locals-requires-clause-rises c = subst Rises (sym (c.deref.ensures.value ∙ c.in_ok-numbers.ensures)) (places_rise (gets_number c.args.which.now c.args.listed.now c.args.settings.now.ignore_indirect) 0 (callees (flat_func_of c.args.flat.now.func).body))
+
+pub kept_locals-requires-clause-fits : goal.kept_locals-requires-clause-fits
+kept_locals-requires-clause-fits c = stacks (module_of c.args._module.now) (settings_of c.args.settings.now) c.args.which.now (func_of c.args.source.now) c.args.flat.now c.requires.valid c.requires.sizes c.requires.flat
+
+pub kept_locals-requires-clause-few : goal.kept_locals-requires-clause-few
+kept_locals-requires-clause-few c = few_calls (module_of c.args._module.now) (settings_of c.args.settings.now) c.args.which.now (func_of c.args.source.now) c.args.flat.now c.requires.valid c.requires.sizes c.requires.flat
+
+pub kept_locals-requires-clause-own : goal.kept_locals-requires-clause-own
+kept_locals-requires-clause-own c = own_few (module_of c.args._module.now) (settings_of c.args.settings.now) c.args.which.now (func_of c.args.source.now) c.args.flat.now c.requires.valid c.requires.sizes c.requires.flat
+
+pub saved_places-requires : goal.saved_places-requires
+saved_places-requires c = let e = ap length c.deref-2.ensures.value in let k = saved_few (module_of c.args._module.now) (settings_of c.args.settings.now) c.args.which.now (func_of c.args.source.now) c.args.flat.now c.requires.valid c.requires.sizes c.requires.flat in omega (arith, e, k)
+
+pub layout-requires : goal.layout-requires
+layout-requires c = let e = ap length c.deref-3.ensures.value in let k = places_few (module_of c.args._module.now) (settings_of c.args.settings.now) c.args.which.now (func_of c.args.source.now) c.args.flat.now c.requires.valid c.requires.sizes c.requires.flat c.in_ok-saved.saved.items (c.in_ok-saved.ensures ∙ ap (λ xs. numbered_places 0 (take c.args.flat.now.first_result xs)) c.deref-2.ensures.value) in omega (arith, e, k)
+
+pub chosen_frame-requires : goal.chosen_frame-requires
+chosen_frame-requires c =
+    let len : length c.deref-4.result.now ≡ length c.args.flat.now.func.locals.items = ap length c.deref-4.ensures.value ∙ c.in_ok-kept.ensures.size in
+    let row : c.in_ok-layout.field-0.places.items ≡ in_a_row 0 c.in_ok-saved.saved.items = c.in_ok-layout.ensures.places ∙ ap (in_a_row 0) c.deref-3.ensures.value in
+    subst (λ n. All (λ (p : Place). p.local < n) c.in_ok-layout.field-0.places.items) (sym len)
+    (subst (All (λ (p : Place). p.local < length c.args.flat.now.func.locals.items)) (sym row) (row_fits (module_of c.args._module.now) (settings_of c.args.settings.now) c.args.which.now (func_of c.args.source.now) c.args.flat.now c.requires.valid c.requires.sizes c.requires.flat c.in_ok-saved.saved.items (c.in_ok-saved.ensures ∙ ap (λ xs. numbered_places 0 (take c.args.flat.now.first_result xs)) c.deref-2.ensures.value)))
+
+pub written_body-requires-clause-fits : goal.written_body-requires-clause-fits
+written_body-requires-clause-fits c = fits (module_of c.args._module.now) (settings_of c.args.settings.now) c.args.which.now (func_of c.args.source.now) c.args.flat.now c.requires.valid c.requires.sizes c.requires.flat
+
+pub written_body-requires-clause-rises : goal.written_body-requires-clause-rises
+written_body-requires-clause-rises c = subst Rises (sym (c.deref-5.ensures.value ∙ c.in_ok-numbers.ensures)) (places_rise (gets_number c.args.which.now c.args.listed.now c.args.settings.now.ignore_indirect) 0 (callees (flat_func_of c.args.flat.now.func).body))
+
+pub written_body-requires-clause-few : goal.written_body-requires-clause-few
+written_body-requires-clause-few c = few_calls (module_of c.args._module.now) (settings_of c.args.settings.now) c.args.which.now (func_of c.args.source.now) c.args.flat.now c.requires.valid c.requires.sizes c.requires.flat
+
+pub returns : goal.returns
+returns c =
+    let g = written_func (module_of c.args._module.now) (settings_of c.args.settings.now) c.args.which.now c.args.flat.now.func.func (func_of c.args.source.now) in
+    let kept : Place → Bool = λ (p : Place). get_or c.deref-4.result.now p.local false in
+    let row : c.in_ok-layout.field-0.places.items ≡ in_a_row 0 c.in_ok-saved.saved.items = c.in_ok-layout.ensures.places ∙ ap (in_a_row 0) c.deref-3.ensures.value in
+    let rows : c.in_ok-layout.field-0.size ≡ row_size c.in_ok-saved.saved.items + 4 = c.in_ok-layout.ensures.size ∙ ap (λ xs. row_size xs + 4) c.deref-3.ensures.value in
+    let same : (p : Place) → kept p ≡ is_kept (module_of c.args._module.now) (settings_of c.args.settings.now) c.args.which.now c.args.flat.now.func.func (func_of c.args.source.now) p.local =
+    λ p. ap (λ xs. get_or xs p.local false) c.deref-4.ensures.value ∙ c.in_ok-kept.ensures.kept p.local ∙ kept_is (module_of c.args._module.now) (settings_of c.args.settings.now) c.args.which.now (func_of c.args.source.now) c.args.flat.now c.requires.valid c.requires.sizes c.requires.flat c.in_ok-saved.saved.items (c.in_ok-saved.ensures ∙ ap (λ xs. numbered_places 0 (take c.args.flat.now.first_result xs)) c.deref-2.ensures.value) c.args.flat.now.first_slot c.deref.result.now p.local refl (c.deref.ensures.value ∙ (c.in_ok-numbers.ensures ∙ ap (λ l. places_from (gets_number c.args.which.now l c.args.settings.now.ignore_indirect) 0 (callees (flat_func_of c.args.flat.now.func).body)) c.requires.listed ∙ numbers (module_of c.args._module.now) (settings_of c.args.settings.now) c.args.which.now (func_of c.args.source.now) c.args.flat.now c.requires.valid c.requires.sizes c.requires.flat)) in
+    let body = c.in_ok-body.ensures ∙ body_same (module_of c.args._module.now) (settings_of c.args.settings.now) c.args.which.now (func_of c.args.source.now) c.args.flat.now c.requires.valid c.requires.sizes c.requires.flat c.in_ok-saved.saved.items (c.in_ok-saved.ensures ∙ ap (λ xs. numbered_places 0 (take c.args.flat.now.first_result xs)) c.deref-2.ensures.value) c.args.ids.now c.deref-5.result.now c.in_ok-frame.frame.places.items c.in_ok-layout.field-0.places.items kept c.in_ok-frame.frame.size c.in_ok-layout.field-0.size c.requires.ids (c.deref-5.ensures.value ∙ (c.in_ok-numbers.ensures ∙ ap (λ l. places_from (gets_number c.args.which.now l c.args.settings.now.ignore_indirect) 0 (callees (flat_func_of c.args.flat.now.func).body)) c.requires.listed ∙ numbers (module_of c.args._module.now) (settings_of c.args.settings.now) c.args.which.now (func_of c.args.source.now) c.args.flat.now c.requires.valid c.requires.sizes c.requires.flat)) row rows c.in_ok-frame.ensures.size same c.in_ok-frame.ensures.places in
+    let locals = c.in_ok-locals.ensures ∙ ap (λ rs. rs ++ map one_run (drop c.args.flat.now.first_slot c.deref-7.result.now ++ I32 ∷ I32 ∷ I64 ∷ [])) c.deref-6.ensures.value
+    ∙ ap (λ ls. c.args.source.now.locals.items ++ map one_run (drop c.args.flat.now.first_slot ls ++ I32 ∷ I32 ∷ I64 ∷ [])) c.deref-7.ensures.value ∙ runs_same (module_of c.args._module.now) (settings_of c.args.settings.now) c.args.which.now (func_of c.args.source.now) c.args.flat.now c.requires.valid c.requires.sizes c.requires.flat c.args.flat.now.first_slot refl in
+    func_is g c.args.source.now.sort _ _ refl locals body

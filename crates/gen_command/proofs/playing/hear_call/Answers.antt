@@ -1,9 +1,0 @@
-use Rattle.std.proofs.Common.{ap}
-use Rattle.wa_model.specs.Outside.{called}
-use Rattle.wa_model.specs.View.{call_of, event_of}
-use Rattle.gen_command.proofs.Runs.{tells}
-use Rattle.gen_command.proofs.playing.hear_call.Goals as goal
-
-pub returns-in-Called : goal.returns-in-Called
-returns-in-Called c = λ w notes f none.
-    (call_of c.in-Called.field-0, tells w c.advance.new.self notes c.in_ok-advance.field-0 (called (call_of c.in-Called.field-0)) (ap event_of c.in-Called.is) (c.in_ok-advance.ensures.next w notes f none))

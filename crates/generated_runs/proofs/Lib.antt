@@ -1,0 +1,3 @@
+pub mod GeneratedLocals
+pub mod Rewritten
+pub mod Runs

@@ -1,0 +1,4 @@
+pub mod Exports
+pub mod Entries
+pub mod Values
+pub mod Originals

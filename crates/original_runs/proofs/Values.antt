@@ -1,0 +1,117 @@
+-- Values of a program's globals and the memory that it shows, by the rules that it keeps.
+use Rattle.std.proofs.Common.{◌≡◌, ℕ, ◌+◌, List, [], ◌∷◌, length, map, nat_lt, Option, Some, None, Bool, true, false}
+use Rattle.std.proofs.Common.{cond, ◌&&◌, refl, sym, ap, ◌∙◌, subst, arith, All, position, Result, Ok, Err, if◌then◌else◌, ltb-false}
+use Rattle.std.specs.List.{cons_option, position_or_len}
+use Rattle.std.specs.Option.{unwrap_or}
+use Rattle.std.specs.Str.{bytes_eq}
+use Rattle.std.proofs.lemmas.List.Elements.{All-nil, All-cons, All-head, All-tail}
+use Rattle.std.proofs.lemmas.List.Sums.{fails_before_first}
+use Rattle.wa_types.specs.declared.syntax.Import.{Import}
+use Rattle.wa_types.specs.declared.values.ValType.{ValType}
+use Rattle.wa_types.specs.declared.values.ValType.TheVariants.{I32, I64}
+use Rattle.wa_types.specs.declared.values.Value.{Value}
+use Rattle.wa_types.specs.Encoding.{same_type}
+use Rattle.wa_types.specs.Modules.{imported_global}
+use Rattle.wa_types.specs.Pausing.{joined_name}
+use Rattle.wa_types.specs.Sizes.{value_fits}
+use Rattle.wa_types.specs.Syntax.{Module}
+use Rattle.wa_types.specs.Typing.{GlobalType, type_of}
+use Rattle.wa_ops.specs.Operate.{are_of}
+use Rattle.wa_model.specs.declared.answers.Area.{Area}
+use Rattle.wa_model.specs.Fitting.{types_of}
+use Rattle.wa_model.specs.Script.{GlobalText, ProgramText, ShowText}
+use Rattle.wa_model.specs.ScriptLines.{or_else}
+use Rattle.wa_model.specs.Step.{zero_of}
+use Rattle.host_setup.specs.SetUp as H
+use Rattle.script_setup.specs.SetUpRules.{SetUp, bad_global, bad_show, global_line, global_values, last_value, named_entry, overlaps}
+use Rattle.script_setup.specs.SetUpRules.{set_up_rules, show_line, told_at, told_funcs, unless_told, value_or_zero, with_lines}
+use Rattle.world_laws.specs.Originals.{ShowsOff}
+use Rattle.hosting.specs.Hosted.{look_at}
+
+-- ---- what the rules tell
+
+pub record Kept (p : Module) (t : ProgramText) (s : SetUp) : Type 0 where
+  pub globals : s.globals ≡ global_values p.imports t.globals
+  pub shows : position (overlaps t.area) t.shows ≡ None
+
+unbroken : (o q : Option ℕ) (t : ProgramText) (x y : SetUp) → unless_told (or_else (told_at 14 (global_line t) o) (told_at 15 (show_line t) q)) x ≡ Ok y → (q ≡ None) × (x ≡ y)
+unbroken (Some i) q t x y e = cc
+unbroken None (Some i) t x y e = cc
+unbroken None None t x y e = (refl, cc)
+
+pub kept_by_rules : (p : Module) (t : ProgramText) (s : SetUp) → set_up_rules true p t ≡ Ok s → Kept p t s
+kept_by_rules p t s e = by (H.set_up p t.area (map named_entry t.entries)) e where
+  by : (r : Result (List ℕ) H.Fault) → with_lines true p.imports t (told_funcs t r) ≡ Ok s → Kept p t s
+  by (Err f) h = cc
+  by (Ok funcs) h =
+      let n = unbroken (bad_global p.imports t.globals) (bad_show true t.area t.shows) t (record { funcs = funcs; globals = global_values p.imports t.globals }) s h in
+      record { globals = sym (ap (λ (x : SetUp). x.globals) n.1); shows = n.0 }
+
+-- ---- values in range
+
+zero_fits : (ty : ValType) → value_fits (zero_of ty)
+zero_fits I32 = omega arith
+zero_fits I64 = omega arith
+
+abbrev GlobalOk : GlobalText → Type 0
+GlobalOk g = value_fits g.value
+
+last_fits : (name : List ℕ) (gs : List GlobalText) (v : Value) → All GlobalOk gs → last_value name gs ≡ Some v → value_fits v
+last_fits name [] v h e = cc
+last_fits name (g ∷ gs) v h e = by (last_value name gs) refl e (last_fits name gs v (All-tail GlobalOk g gs h)) where
+  own : (b : Bool) → (if b then Some g.value else None) ≡ Some v → value_fits v
+  own true k =
+      let same : g.value ≡ v = cc in
+      subst value_fits same (All-head GlobalOk g gs h)
+  own false k = cc
+
+  by : (o : Option Value) → last_value name gs ≡ o → or_else o (if bytes_eq g.name name then Some g.value else None) ≡ Some v → (last_value name gs ≡ Some v → value_fits v) → value_fits v
+  by (Some w) later k more = more (later ∙ k)
+  by None later k more = own (bytes_eq g.name name) k
+
+pub globals_fit : (gs : List GlobalText) → All GlobalOk gs → (imports : List Import) → All value_fits (global_values imports gs)
+globals_fit gs h [] = All-nil value_fits
+globals_fit gs h (i ∷ is) = by (imported_global i.kind) (globals_fit gs h is) where
+  value : (ty : ValType) (o : Option Value) → last_value (joined_name i) gs ≡ o → value_fits (unwrap_or o (zero_of ty))
+  value ty None z = zero_fits ty
+  value ty (Some v) z = last_fits (joined_name i) gs v h z
+
+  by : (o : Option GlobalType) → All value_fits (global_values is gs) → All value_fits (cons_option (value_or_zero o (last_value (joined_name i) gs)) (global_values is gs))
+  by None more = more
+  by (Some g) more = All-cons value_fits (unwrap_or (last_value (joined_name i) gs) (zero_of g.ty)) (global_values is gs) (value g.ty (last_value (joined_name i) gs) refl) more
+
+-- values of these types
+same_is : (ty : ValType) → same_type ty ty ≡ true
+same_is I32 = refl
+same_is I64 = refl
+
+pub are_typed : (ts : List ValType) (vs : List Value) → types_of vs ≡ ts → are_of ts vs ≡ true
+are_typed [] [] e = refl
+are_typed [] (v ∷ vs) e = cc
+are_typed (t ∷ ts) [] e = cc
+are_typed (t ∷ ts) (v ∷ vs) e =
+    let head : type_of v ≡ t = cc in
+    let rest : types_of vs ≡ ts = cc in
+    ap (λ (ty : ValType). same_type ty (type_of v) && are_of ts vs) (sym head) ∙ ap (λ (b : Bool). b && are_of ts vs) (same_is (type_of v)) ∙ are_typed ts vs rest
+
+-- ---- what is shown
+
+pub none_passes : {X : Type 0} (p : X → Bool) (xs : List X) → position p xs ≡ None → All (λ x. p x ≡ false) xs
+none_passes p xs e = by (nat_lt (position_or_len p xs) (length xs)) refl e where
+  by : (b : Bool) → nat_lt (position_or_len p xs) (length xs) ≡ b → cond b (Some (position_or_len p xs)) None ≡ None → All (λ x. p x ≡ false) xs
+  by true z k = cc
+  by false z k = λ i d lt. let le = ltb-false (position_or_len p xs) (length xs) z in fails_before_first p xs i d (omega (arith, le, lt))
+
+off : (a b c d : Bool) → (c && d) ≡ false → (a && b && c && d) ≡ false
+off true true c d h = h
+off true false c d h = refl
+off false b c d h = refl
+
+pub shows_off : (area : Area) (shows : List ShowText) → position (overlaps area) shows ≡ None → All (ShowsOff area) (map look_at shows)
+shows_off area shows e = by shows (none_passes (overlaps area) shows e) where
+  by : (xs : List ShowText) → All (λ x. overlaps area x ≡ false) xs → All (ShowsOff area) (map look_at xs)
+  by [] h = All-nil (ShowsOff area)
+  by (x ∷ xs) h =
+      All-cons (ShowsOff area) (look_at x) (map look_at xs)
+      (off (nat_lt 0 x.len) (nat_lt 0 area.len) (nat_lt x.at (area.at + area.len)) (nat_lt area.at (x.at + x.len)) (All-head (λ (y : ShowText). overlaps area y ≡ false) x xs h))
+      (by xs (All-tail (λ (y : ShowText). overlaps area y ≡ false) x xs h))

@@ -1,0 +1,8 @@
+//! Laws of what is told. Each is the contract of a function that does nothing.
+
+ghost use Rattle.original_runs.specs.OriginalRuns.{ToldOfOriginals};
+
+/// What is told of a rewritten module is told of its original.
+pub fn told_of_originals()
+    ensures { ToldOfOriginals }
+{}
