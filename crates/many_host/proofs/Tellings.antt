@@ -1,5 +1,5 @@
 -- A program of a host, note by note.
-use Rattle.std.proofs.Common.{◌≡◌, ◌<◌, ℕ, List, [], ◌∷◌, ◌++◌, length, map, Option, Some, None, Bool, true, false, slice_get, refl, sym, ap, ◌∙◌, subst}
+use Rattle.std.proofs.Common.{◌≡◌, ℕ, List, [], ◌∷◌, ◌++◌, length, map, Option, Some, None, Bool, true, false, slice_get, refl, sym, ap, ◌∙◌, subst}
 use Rattle.std.specs.Prelude.{MatchBool}
 use Rattle.std.specs.Option.{is_some, option_map}
 use Rattle.std.proofs.lemmas.List.{length-map}
@@ -20,7 +20,7 @@ use Rattle.event_order.specs.declared.shows.Show.{Show}
 use Rattle.told_worlds.specs.Turns.{Teller, ends_program, starting}
 use Rattle.told_notes.specs.Notes.{OnStory}
 use Rattle.pause_host.specs.declared.program.Program.{Program}
-use Rattle.pause_host.specs.Programs.{Advances, Follows, end_at, end_in, ended_as, lines_left, memory_in, place_of, supply_with}
+use Rattle.pause_host.specs.Programs.{Advances, Follows, end_at, end_in, ended_as, lines_left, place_of, supply_with}
 use Rattle.turn_taking.specs.Telling.{TellsNote, supply}
 use Rattle.turn_taking.specs.Standing.{AllStart, IsHeld}
 use Rattle.many_host.specs.declared.hosted.Hosted.{Hosted}

@@ -1,13 +1,12 @@
 -- What a host has told, as a beginning of a world's run.
-use Rattle.std.proofs.Common.{arith, ◌≡◌, ℕ, List, ◌∷◌, [], ◌++◌, length, map, Option, Some, None, slice_get, refl, sym, ap, ◌∙◌, subst, append_assoc}
+use Rattle.std.proofs.Common.{arith, ◌≡◌, ℕ, List, Option, Some, None, slice_get, subst, append_assoc}
 use Rattle.std.specs.List.{AllZip}
 use Rattle.std.proofs.lemmas.Option.{slice_get_within}
 use Rattle.wa_model.specs.declared.answers.Detach.{Detach}
 use Rattle.wa_model.specs.declared.events.Line.{Line as LineValue}
 use Rattle.wa_model.specs.Outside.{Line}
-use Rattle.wa_model.specs.World.{Device, Program, ProtocolWorld, line_at}
+use Rattle.wa_model.specs.World.{Device, Program, ProtocolWorld}
 use Rattle.event_order.specs.Dues.{HaveEnded}
-use Rattle.event_order.specs.Looks.{looks_of}
 use Rattle.told_worlds.specs.Turns.{Teller}
 use Rattle.told_worlds.proofs.Places.{item, zipped}
 use Rattle.told_notes.specs.Notes.{OnStory}
@@ -15,10 +14,10 @@ use Rattle.told_notes.specs.Laws.{BeginsWorld}
 use Rattle.told_notes.proofs.Worlds.{begun_begins, told_begins, told_whole}
 use Rattle.turn_taking.specs.declared.turns.Stage.{Stage}
 use Rattle.turn_taking.specs.declared.turns.Stage.TheVariants.{Between, Telling, Showing}
-use Rattle.turn_taking.specs.Standing.{AllTold, Held, Standing, StandsAt, TellsNext, held_of}
+use Rattle.turn_taking.specs.Standing.{AllTold, Held, Standing, TellsNext, held_of}
 use Rattle.many_host.specs.declared.hosted.Hosted.{Hosted}
 use Rattle.many_host.specs.declared.host.Host.{Host}
-use Rattle.many_host.specs.Hosts.{HostNext, HostTold, follows, has_ended, memory_of}
+use Rattle.many_host.specs.Hosts.{HostNext, follows, has_ended, memory_of}
 use Rattle.many_host.specs.Laws.{ToldBeginsWorld}
 use Rattle.many_host.proofs.Tellings.{on_story}
 
