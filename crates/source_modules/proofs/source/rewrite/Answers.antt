@@ -46,5 +46,5 @@ returns-clause-done c =
       e.text,
       source_prepared c.args.bytes.now m c.in_ok-valid.ensures.source s which few (λ i. omega (arith, c.type_inv.bytes i)) e.short,
       sources_rewritten m s which c.in_ok-valid.ensures.source.valid c.in_ok-valid.ensures.source.unreserved.free (strict c.args.bytes.now m c.in_ok-valid.ensures.source)
-      (few_written m which few) (ap policy_of c.requires) e.can.tells,
+          (few_written m which few) (ap policy_of c.requires) e.can.tells,
     )
