@@ -109,7 +109,8 @@ module _ (p : Module) (listed : Option (List Bool)) (t : ProgramText) (s : SetUp
     less_told Fault r is e old new h = becomes_by (Part Fault) (TellsLess p listed t s) tells_less old new h
     less_told Memory r is e old new h = cc
 
-    pub front_told : (fault : PutFault) (r : HostFault) → r ≡ host_fault fault → ◌≡◌ {A = Result (Unit {0}) HostFault} (Err r) (Err H.Memory) → (old new : Option (List ℕ)) → Becomes old new (Part fault)
+    pub front_told : (fault : PutFault) (r : HostFault) → r ≡ host_fault fault → ◌≡◌ {A = Result (Unit {0}) HostFault} (Err r) (Err H.Memory) → (old new : Option (List ℕ))
+        → Becomes old new (Part fault)
         → Becomes old new (TellsFront p listed t s)
     front_told Memory r is e old new h = becomes_by (Part Memory) (TellsFront p listed t s) tells_front old new h
     front_told Fault r is e old new h = cc

@@ -1,5 +1,6 @@
 -- What the lines of a script tell of a program fits a plan.
-use Rattle.std.proofs.Common.{pow_pos, option_map, ◌==◌, ◌∙◌, arith, ◌≡◌, ℕ, ◌+◌, ◌-◌, ◌*◌, ◌<◌, ◌≤◌, ◌^◌, ◌&&◌, nat_le, Bool, true, false, Option, Some, None, Ok, Err, List, [], ◌∷◌, length, subst, refl, if◌then◌else◌, codes, All}
+use Rattle.std.proofs.Common.{pow_pos, option_map, ◌==◌, ◌∙◌, arith, ◌≡◌, ℕ, ◌+◌, ◌-◌, ◌*◌, ◌<◌, ◌≤◌, ◌^◌, ◌&&◌, nat_le, Bool}
+use Rattle.std.proofs.Common.{true, false, Option, Some, None, Ok, Err, List, [], ◌∷◌, length, subst, refl, if◌then◌else◌, codes, All}
 use Rattle.std.specs.Str.{bytes_eq}
 use Rattle.std.proofs.lemmas.Bool.{leb-true}
 use Rattle.std.proofs.lemmas.List.Elements.{All-nil, All-cons, All-weaker}
@@ -10,9 +11,11 @@ use Rattle.wa_model.specs.Command.{behind}
 use Rattle.wa_model.specs.Plan.{AnswerFits, PokeFits, ValueFits}
 use Rattle.wa_model.specs.Outside.{Poke}
 use Rattle.wa_model.specs.ScriptLines.{Statement, begins_program, lists_imports, ignores_imports, saves, has_area, has_steps, sets_global, binds, enters, answers, shows, detaches}
-use Rattle.wa_model.specs.ScriptLines.{Keyword, program_word, imports_word, ignore_imports_word, save_word, area_word, steps_word, global_word, device_word, enter_word, answer_word, show_word, detach_word}
+use Rattle.wa_model.specs.ScriptLines.{Keyword, program_word, imports_word, ignore_imports_word, save_word, area_word, steps_word}
+use Rattle.wa_model.specs.ScriptLines.{global_word, device_word, enter_word, answer_word, show_word, detach_word}
 use Rattle.wa_model.specs.ScriptLines as L
-use Rattle.wa_model.specs.ScriptLines.{Said, PokeWords, hex_value, joined_digits, hex_bytes, hex_in, if_within, number_in, number_within, integer_in, negative, i32_in, i64_in, u32_in, all_values, value_in, unless_none, says_two, says_policy}
+use Rattle.wa_model.specs.ScriptLines.{Said, PokeWords, hex_value, joined_digits, hex_bytes, hex_in, if_within, number_in, number_within, integer_in}
+use Rattle.wa_model.specs.ScriptLines.{negative, i32_in, i64_in, u32_in, all_values, value_in, unless_none, says_two, says_policy}
 use Rattle.wa_model.specs.ScriptLines.{pokes_in, poke_of, all_pokes, result_in, answer_with, says_answer, says, says_with, keyword_in, words_say, line_words, line_says}
 use Rattle.host_answers.specs.Answering.{IsShort}
 use Rattle.host_moves.specs.Moves.{HasShortPokes}
@@ -115,7 +118,8 @@ told_values [] vs e =
     let same : [] ≡ vs = cc in
     subst (All value_fits) same (All-nil value_fits)
 told_values (word ∷ words) vs e = by (value_in word) (all_values words) refl refl e (told_values words) where
-  by : (o : Option Value) (r : Option (List Value)) → value_in word ≡ o → all_values words ≡ r → L.onto o r ≡ Some vs → ((more : List Value) → all_values words ≡ Some more → All value_fits more) → All value_fits vs
+  by : (o : Option Value) (r : Option (List Value)) → value_in word ≡ o → all_values words ≡ r → L.onto o r ≡ Some vs
+      → ((more : List Value) → all_values words ≡ Some more → All value_fits more) → All value_fits vs
   by (Some v) (Some more) one is k rest =
       let same : v ∷ more ≡ vs = cc in
       subst (All value_fits) same (All-cons value_fits v more (told_value word v one) (rest more is))
@@ -256,7 +260,8 @@ pokes_told [] qs e =
     let same : [] ≡ qs = cc in
     subst (All IsPoke) same (All-nil IsPoke)
 pokes_told (p ∷ ps) qs e = by (poke_of (u32_in p.at) (hex_in p.bytes)) (all_pokes ps) refl refl e (pokes_told ps) where
-  by : (o : Option Poke) (r : Option (List Poke)) → poke_of (u32_in p.at) (hex_in p.bytes) ≡ o → all_pokes ps ≡ r → L.onto o r ≡ Some qs → ((more : List Poke) → all_pokes ps ≡ Some more → All IsPoke more)
+  by : (o : Option Poke) (r : Option (List Poke)) → poke_of (u32_in p.at) (hex_in p.bytes) ≡ o → all_pokes ps ≡ r → L.onto o r ≡ Some qs
+      → ((more : List Poke) → all_pokes ps ≡ Some more → All IsPoke more)
       → All IsPoke qs
   by (Some q) (Some more) one is k rest =
       let same : q ∷ more ≡ qs = cc in
@@ -265,7 +270,8 @@ pokes_told (p ∷ ps) qs e = by (poke_of (u32_in p.at) (hex_in p.bytes)) (all_po
   by None (Some more) one is k rest = cc
   by None None one is k rest = cc
 
-answer_said : (name : List ℕ) (result : Option (Option Value)) (ticks : Option ℕ) (pokes : Option (List Poke)) → ((v : Option Value) → result ≡ Some v → ValueFits v) → ((n : ℕ) → ticks ≡ Some n → n < 2 ^ 32)
+answer_said : (name : List ℕ) (result : Option (Option Value)) (ticks : Option ℕ) (pokes : Option (List Poke)) → ((v : Option Value) → result ≡ Some v → ValueFits v)
+    → ((n : ℕ) → ticks ≡ Some n → n < 2 ^ 32)
     → ((qs : List Poke) → pokes ≡ Some qs → All IsPoke qs) → SaidFits (L.answer_of name result ticks pokes)
 answer_said name (Some v) (Some n) (Some qs) r t h =
     (All-weaker IsPoke IsShort (λ p k. k.short) qs (h qs refl), record { value = r v refl; pokes = All-weaker IsPoke PokeFits (λ p k. k.fits) qs (h qs refl); ticks = t n refl })

@@ -10,7 +10,8 @@ use Rattle.wa_model.specs.Outside.{AnswerLine}
 use Rattle.wa_model.specs.Script.{EntryText, GlobalText, ProgramText, Script, ScriptFault}
 use Rattle.wa_model.specs.ScriptLines.{Statement, begins_program, lists_imports, ignores_imports, saves, has_area, has_steps, sets_global, binds, enters, answers, shows, detaches, line_says}
 use Rattle.wa_model.specs.ScriptText.{Numbered, Group, Grouped, AreaText, fault_of, unless_fault, with_line, statements, grouped_with, grouped}
-use Rattle.wa_model.specs.ScriptText.{default_steps, steps_of, entry_of, global_of, answer_of, area_of, detach_of, told_by, lines_by, program_of, with_program, programs_of, with_programs, script_of, script_text}
+use Rattle.wa_model.specs.ScriptText.{default_steps, steps_of, entry_of, global_of, answer_of, area_of, detach_of, told_by}
+use Rattle.wa_model.specs.ScriptText.{lines_by, program_of, with_program, programs_of, with_programs, script_of, script_text}
 use Rattle.wa_types.specs.Sizes.{value_fits}
 use Rattle.wa_model.specs.Plan.{AnswerFits}
 use Rattle.host_moves.specs.Moves.{HasShortPokes}
@@ -62,7 +63,8 @@ record GroupedFits (most count : ℕ) (g : Grouped) : Type 0 where
   first : All NumberedFits g.first
   groups : All (GroupFits most) g.groups
 
-first_more : (most count line : ℕ) (s : Statement) (g : Grouped) → SaysFit s → GroupedFits most count g → GroupedFits most (suc count) (record { first = record { line = line; says = s } ∷ g.first; groups = g.groups })
+first_more : (most count line : ℕ) (s : Statement) (g : Grouped) → SaysFit s → GroupedFits most count g
+    → GroupedFits most (suc count) (record { first = record { line = line; says = s } ∷ g.first; groups = g.groups })
 first_more most count line s g h f = record {
   few = omega (arith, f.few);
   first = All-cons NumberedFits (record { line = line; says = s }) g.first h f.first;
@@ -95,14 +97,16 @@ grouped_fits most (s ∷ ss) le h =
 -- ---- programs
 
 -- what fitting statements tell has P
-told_all : {A : Type 0} (P : A → Type 0) (tells : Statement → Option A) → ((s : Statement) (x : A) → SaysFit s → tells s ≡ Some x → P x) → (ss : List Numbered) → All NumberedFits ss → All P (told_by tells ss)
+told_all : {A : Type 0} (P : A → Type 0) (tells : Statement → Option A) → ((s : Statement) (x : A) → SaysFit s → tells s ≡ Some x → P x) → (ss : List Numbered) → All NumberedFits ss
+    → All P (told_by tells ss)
 told_all P tells f [] h = All-nil P
 told_all P tells f (s ∷ ss) h = by (tells s.says) refl (told_all P tells f ss (All-tail NumberedFits s ss h)) where
   by : (o : Option _) → tells s.says ≡ o → All P (told_by tells ss) → All P (cons_option o (told_by tells ss))
   by None is more = more
   by (Some x) is more = All-cons P x (told_by tells ss) (f s.says x (All-head NumberedFits s ss h) is) more
 
-lines_all : {A : Type 0} (P : A → Type 0) (tells : ℕ → Statement → Option A) → ((line : ℕ) (s : Statement) (x : A) → SaysFit s → tells line s ≡ Some x → P x) → (ss : List Numbered) → All NumberedFits ss
+lines_all : {A : Type 0} (P : A → Type 0) (tells : ℕ → Statement → Option A) → ((line : ℕ) (s : Statement) (x : A) → SaysFit s → tells line s ≡ Some x → P x) → (ss : List Numbered)
+    → All NumberedFits ss
     → All P (lines_by tells ss)
 lines_all P tells f [] h = All-nil P
 lines_all P tells f (s ∷ ss) h = by (tells s.line s.says) refl (lines_all P tells f ss (All-tail NumberedFits s ss h)) where

@@ -25,7 +25,8 @@ use Rattle.hosting.specs.Hosted.{FitsPlan, IsListing, hosted_program, look_at}
 use Rattle.hosting.specs.Views.{Suits, listing}
 
 -- what is made by the rules suits
-pub suits_by_rules : (runs : Bool) (p : Module) (t : ProgramText) (made : SetUpValue) → set_up_rules runs p t ≡ Ok (set_up_of made) → map named_entry_of made.entries.items ≡ map named_entry t.entries → Suits p t made
+pub suits_by_rules : (runs : Bool) (p : Module) (t : ProgramText) (made : SetUpValue) → set_up_rules runs p t ≡ Ok (set_up_of made)
+    → map named_entry_of made.entries.items ≡ map named_entry t.entries → Suits p t made
 suits_by_rules runs p t made e entries =
     let given = given_by_rules runs p t (set_up_of made) e in
     record { entries = entries; funcs = given.funcs; globals = given.globals }
@@ -45,7 +46,8 @@ module _ (t : ProgramText) (made : SetUpValue) (x : Plan) (of : IsPlanOf t made 
   -- the plan can be set up
   pub is_plan : IsListing (source_of x) (listing x.listed) → FitsPlan t → IsPlan x
   is_plan listed fits =
-      let few : length x.entries.items ≡ length t.entries = sym (length-map x.entries.items named_entry_of) ∙ ap (λ (es : List NamedEntry). length es) same_entries ∙ length-map t.entries named_entry in
+      let few : length x.entries.items ≡ length t.entries =
+      sym (length-map x.entries.items named_entry_of) ∙ ap (λ (es : List NamedEntry). length es) same_entries ∙ length-map t.entries named_entry in
       let below = fits.entries in
       record {
         listed = listed;

@@ -1,5 +1,6 @@
 -- Entries of a program over a rewritten module fit the original.
-use Rattle.std.proofs.Common.{◌≡◌, ℕ, zero, suc, ◌+◌, ◌-◌, ◌*◌, ◌%◌, ◌<◌, ◌≤◌, ◌==◌, List, [], ◌∷◌, ◌++◌, length, map, nat_lt, nat_le, Option, Some, None, Bool, true, false, ◌&&◌, is_none, refl, sym, ap, ◌∙◌, subst, append_assoc, arith, All, Contains, slice_get, if◌then◌else◌, ltb-false, leb-true, eqb-true}
+use Rattle.std.proofs.Common.{◌≡◌, ℕ, zero, suc, ◌+◌, ◌-◌, ◌*◌, ◌%◌, ◌<◌, ◌≤◌, ◌==◌, List, [], ◌∷◌, ◌++◌, length, map, nat_lt, nat_le, Option, Some}
+use Rattle.std.proofs.Common.{None, Bool, true, false, ◌&&◌, is_none, refl, sym, ap, ◌∙◌, subst, append_assoc, arith, All, Contains, slice_get, if◌then◌else◌, ltb-false, leb-true, eqb-true}
 use Rattle.std.specs.List.{filter_map, find, flat_map}
 use Rattle.std.specs.Option.{unwrap_or}
 use Rattle.std.proofs.lemmas.List.Elements.{All-nil, All-cons, All-head, All-tail, All-contains}
@@ -88,7 +89,9 @@ module _ (m p : Module) (settings : Settings) (rw : Rewrites m settings p) (whic
       let f_at : slice_get m.funcs (x - func_imports m) ≡ Some f = inner_at m x f fe in
       let g_at : slice_get p.funcs (x - func_imports m) ≡ Some g = ap (λ (k : ℕ). slice_get p.funcs (x - k)) (sym count_same) ∙ inner_at p x g ge in
       let sorts : Each (λ x. x < length m.types) (func_sorts m) = each_below (length m.types) (func_sorts m) rw.valid.sorts in
-      let there : f.sort < length m.types = sort_below (length m.types) m.funcs (x - func_imports m) f (each_behind (length m.types) (imported imported_func m) (map (λ (h : Func). h.sort) m.funcs) sorts) f_at in
+      let own : Each (λ x. x < length m.types) (map (λ (h : Func). h.sort) m.funcs) =
+      each_behind (length m.types) (imported imported_func m) (map (λ (h : Func). h.sort) m.funcs) sorts in
+      let there : f.sort < length m.types = sort_below (length m.types) m.funcs (x - func_imports m) f own f_at in
       defined_type p x g ge
       ∙ ap (type_at p) (same_sort (x - func_imports m) f g f_at g_at)
       ∙ ap (λ (ts : List FuncType). or_empty (slice_get ts f.sort)) types_grow
@@ -125,9 +128,11 @@ module _ (m p : Module) (settings : Settings) (rw : Rewrites m settings p) (whic
     fits found =
         let there : Contains m.exports found.export = contains_found (named name) m.exports found.export found.found in
         let f = defined found in
+        let free : Contains runtime_names found.export.name → ⊥ =
+        All-contains (λ (y : Export). Contains runtime_names y.name → ⊥) m.exports found.export (exports_free m p rw.exports rw.valid_rewritten) there in
         record {
           defined = f;
-          exported = (found.export, there, record { space = found.space; index = found.index; name = All-contains (λ (y : Export). Contains runtime_names y.name → ⊥) m.exports found.export (exports_free m p rw.exports rw.valid_rewritten) there });
+          exported = (found.export, there, record { space = found.space; index = found.index; name = free });
           args = record { typed = are_typed (func_type_at m x).params args (typed.1 ∙ ap (λ (t : FuncType). t.params) (same_type_at x f.0 typed.0.0 f.1 typed.0.1)); ranges = ranges };
         }
 

@@ -91,7 +91,8 @@ contains_found q (z ∷ es) y e = by (q z) e (contains_found q es y) where
 abbrev index_in : Export → Option ℕ
 index_in e = cond (same_space e.space Sp.Func) (Some e.index) None
 
-pub below_found : (q : Export → Bool) (n : ℕ) (es : List Export) (rest : List ℕ) (y : Export) → Each (λ x. x < n) (filter_map index_in es ++ rest) → find q es ≡ Some y → y.space ≡ Sp.Func → y.index < n
+pub below_found : (q : Export → Bool) (n : ℕ) (es : List Export) (rest : List ℕ) (y : Export) → Each (λ x. x < n) (filter_map index_in es ++ rest) → find q es ≡ Some y
+    → y.space ≡ Sp.Func → y.index < n
 below_found q n [] rest y h e s = cc
 below_found q n (z ∷ es) rest y h e s = by (q z) e (first (same_space z.space Sp.Func) h) (λ h' e'. below_found q n es rest y h' e' s) where
   first : (b : Bool) → Each (λ x. x < n) (cons_option (cond b (Some z.index) None) (filter_map index_in es) ++ rest) → (b ≡ true → z.index < n) × Each (λ x. x < n) (filter_map index_in es ++ rest)

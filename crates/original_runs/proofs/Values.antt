@@ -1,5 +1,6 @@
 -- Values of a program's globals and the memory that it shows, by the rules that it keeps.
-use Rattle.std.proofs.Common.{◌≡◌, ℕ, ◌+◌, List, [], ◌∷◌, length, map, nat_lt, Option, Some, None, Bool, true, false, cond, ◌&&◌, refl, sym, ap, ◌∙◌, subst, arith, All, position, Result, Ok, Err, if◌then◌else◌, ltb-false}
+use Rattle.std.proofs.Common.{◌≡◌, ℕ, ◌+◌, List, [], ◌∷◌, length, map, nat_lt, Option, Some, None, Bool, true, false}
+use Rattle.std.proofs.Common.{cond, ◌&&◌, refl, sym, ap, ◌∙◌, subst, arith, All, position, Result, Ok, Err, if◌then◌else◌, ltb-false}
 use Rattle.std.specs.List.{cons_option, position_or_len}
 use Rattle.std.specs.Option.{unwrap_or}
 use Rattle.std.specs.Str.{bytes_eq}
@@ -22,7 +23,8 @@ use Rattle.wa_model.specs.Script.{GlobalText, ProgramText, ShowText}
 use Rattle.wa_model.specs.ScriptLines.{or_else}
 use Rattle.wa_model.specs.Step.{zero_of}
 use Rattle.host_setup.specs.SetUp as H
-use Rattle.script_setup.specs.SetUpRules.{SetUp, bad_global, bad_show, global_line, global_values, last_value, named_entry, overlaps, set_up_rules, show_line, told_at, told_funcs, unless_told, value_or_zero, with_lines}
+use Rattle.script_setup.specs.SetUpRules.{SetUp, bad_global, bad_show, global_line, global_values, last_value, named_entry, overlaps}
+use Rattle.script_setup.specs.SetUpRules.{set_up_rules, show_line, told_at, told_funcs, unless_told, value_or_zero, with_lines}
 use Rattle.world_laws.specs.Originals.{ShowsOff}
 use Rattle.hosting.specs.Hosted.{look_at}
 

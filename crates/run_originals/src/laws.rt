@@ -1,0 +1,8 @@
+//! Laws of what is run. Each is the contract of a function that does nothing.
+
+ghost use Rattle.run_originals.specs.RunOriginals.{RunsAreOfOriginals};
+
+/// What `run` tells of a program is told of its original.
+pub fn runs_are_of_originals()
+    ensures { RunsAreOfOriginals }
+{}
