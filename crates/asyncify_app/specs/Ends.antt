@@ -21,6 +21,12 @@ abbrev pub rewriting : Option Spelled → Option Command
 rewriting (Some (rewrites command)) = Some command
 rewriting _ = None
 
+-- this holds where words play a script
+abbrev pub OnScript : Option Spelled → Type 0 → Type 0
+OnScript (Some (hosts script)) P = P
+OnScript (Some (runs script)) P = P
+OnScript _ P = Unit {0}
+
 -- A call: what its words spell; the files, the counts of faults and what the sink has taken, before and after it.
 pub record Call : Type 0 where
   pub spelled : Option Spelled

@@ -10,7 +10,7 @@ ghost use Rattle.wa_model.specs.Transcript.{read_fault, refusal_line, usage, wri
 ghost use Rattle.printing.specs.Refused.{Prints, PrintsMemory};
 ghost use Rattle.transform_command.specs.Ends.{IsRefusal};
 ghost use Rattle.transform_command.specs.Transforms.{HasCause, HoldsSource, IsCutShort, IsTransformed, PrintsRefusal, PrintsDone, PrintsLess, RunsOutOfMemory};
-ghost use Rattle.asyncify_app.specs.Ends.{HasOneEnd, rewriting};
+ghost use Rattle.asyncify_app.specs.Ends.{HasOneEnd, OnScript, rewriting};
 
 use command_words::{Command, WordsFault, read_words};
 use gen_command::run_generated;
@@ -71,6 +71,8 @@ pub fn asyncify<V: Vault, S: Sink>(
     ensures kept { (result ≡ 10) ⊎ IsRefusal result → V.files vault.new ≡ V.files vault.old }
     ensures cut { OnTransform (rewriting (spelled (map string_bytes words.now))) (λ settings input output.
         (result ≡ 9) ⊎ (result ≡ 11) → Becomes (V.files vault.old) (V.files vault.new) (IsCutShort settings input output)) }
+
+    ensures scripts_kept { OnScript (spelled (map string_bytes words.now)) (V.files vault.new ≡ V.files vault.old) }
 
     // What is printed.
     ensures prints_done { OnTransform (rewriting (spelled (map string_bytes words.now))) (λ settings input output.
