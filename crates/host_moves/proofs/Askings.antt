@@ -23,12 +23,12 @@ use Rattle.host_turns.specs.Supplies.{Supply, Answers}
 use Rattle.host_turns.specs.Stretch.{meeting}
 use Rattle.host_turns.specs.Places.{stands, nowhere, goes_on}
 use Rattle.host_turns.proofs.Stretches.{on_last}
-use Rattle.host_moves.specs.declared.stages.Moved.{Moved}
-use Rattle.host_moves.specs.declared.stages.Stage.TheVariants as S
-use Rattle.host_moves.specs.declared.stages.Task.{Task}
-use Rattle.host_moves.specs.declared.stages.Task.TheVariants as T
-use Rattle.host_moves.specs.Views.{entry_of, with_asker, answering, place_in, starts, stage_after}
-use Rattle.host_moves.specs.Moves.{Comes, Asks, IsAsking}
+use Rattle.host_stages.specs.declared.stages.Moved.{Moved}
+use Rattle.host_stages.specs.declared.stages.Stage.TheVariants as S
+use Rattle.host_stages.specs.declared.stages.Task.{Task}
+use Rattle.host_stages.specs.declared.stages.Task.TheVariants as T
+use Rattle.host_stages.specs.Views.{entry_of, with_asker, answering, place_in, starts, stage_after}
+use Rattle.host_stages.specs.Moves.{Comes, Asks, IsAsking}
 
 -- who waits stands at the instance's store
 pub asking_store : (task : Task) (waits : Waits) (s : Store) (who : Asker) → IsAsking task waits s who → store_at who ≡ s

@@ -1,11 +1,2 @@
 pub mod Askings
-pub mod Comings
-pub mod Fronts
-pub mod Outcomes
-pub mod Pauses
-pub mod Results
-pub mod Stagings
 pub mod Supplied
-pub mod Tables
-pub mod Tasks
-pub mod Ways

@@ -14,10 +14,10 @@ use Rattle.wa_model.specs.Plan.{Outcome, given, refused, ValueFits}
 use Rattle.wa_model.specs.World.{Program, Device, Reply, base_names, import_names, name_at, is_named, journaled, MeetsLine, MeetsDevice, MeetsBound}
 use Rattle.host_answers.specs.Answering.{IsShort}
 use Rattle.host_turns.specs.Supplies.{Supply, Counts, none_asked, bound_to, Answers}
-use Rattle.host_moves.specs.declared.stages.HostImport.{HostImport}
-use Rattle.host_moves.specs.declared.stages.Setting.{Setting}
-use Rattle.host_moves.specs.Moves.{IsSetting, HasShortPokes}
-use Rattle.host_moves.proofs.Tables.{name_told, short_given}
+use Rattle.host_stages.specs.declared.stages.HostImport.{HostImport}
+use Rattle.host_stages.specs.declared.stages.Setting.{Setting}
+use Rattle.host_stages.specs.Moves.{IsSetting, HasShortPokes}
+use Rattle.host_stages.proofs.Tables.{name_told, short_given}
 
 pub both_ok : {T F : Type 0} {P Q R : T → Type 0} (r : Result T F) → ((x : T) → P x → Q x → R x) → IfOk r P → IfOk r Q → IfOk r R
 both_ok (Ok x) f p q = f x p q

@@ -4,12 +4,12 @@ ghost use Rattle.wa_model.specs.View.{call_of};
 ghost use Rattle.wa_model.specs.World.{Program};
 ghost use Rattle.host_answers.specs.Answering.{outcome_of};
 ghost use Rattle.host_turns.specs.Supplies.{Answers};
-ghost use Rattle.host_moves.specs.Moves.{IsSetting};
-ghost use Rattle.host_moves.specs.Views.{supply_in};
+ghost use Rattle.host_stages.specs.Moves.{IsSetting};
+ghost use Rattle.host_stages.specs.Views.{supply_in};
 
-use crate::stages::{HostImport, Setting};
 use device_port::Devices;
 use host_answers::{Met, device_outcome, next_answer};
+use host_stages::{HostImport, Setting};
 use std::alloc::AllocError;
 use std::collections::VecDeque;
 use wa_model::{AnswerLine, Call};

@@ -2,15 +2,13 @@ ghost use Rattle.std.specs.Prelude.{◌≡◌, ◌<◌, ◌≤◌, ◌+◌, ◌-
 ghost use Rattle.wa_model.specs.Protocol.{exports_of};
 ghost use Rattle.wa_model.specs.World.{Program};
 ghost use Rattle.interp.specs.Host.{code_in, store_in, waits_in};
-ghost use Rattle.host_moves.specs.Moves.{ComesFrom, HasShortPokes, IsSetting, PlaceFits};
-ghost use Rattle.host_moves.specs.Views.{end_of, left_of, lines_in, place_in, supply_in};
+ghost use Rattle.host_stages.specs.Moves.{ComesFrom, HasShortPokes, IsSetting, PlaceFits};
+ghost use Rattle.host_stages.specs.Views.{end_of, left_of, lines_in, place_in, supply_in};
 
-use crate::ends::ended;
-use crate::rewinding::rewind;
 use crate::running::{call_next, give, tell_answer};
-use crate::stages::{Left, Moved, Setting, Stage};
-use crate::unwinding::unwind;
 use device_port::Devices;
+use host_pauses::{rewind, unwind};
+use host_stages::{Left, Moved, Setting, Stage, ended};
 use interp::{Instance, Steps};
 use std::alloc::AllocError;
 use std::collections::VecDeque;

@@ -11,15 +11,15 @@ ghost use Rattle.interp.specs.Host.{code_in, store_in, waits_in};
 ghost use Rattle.interp.specs.Instance.{Calls};
 ghost use Rattle.host_answers.specs.Answering.{IsShort, listed_of};
 ghost use Rattle.host_turns.specs.Supplies.{Supply};
-ghost use Rattle.host_moves.specs.Moves.{Asks, Comes, ComesFrom, HasShortPokes, IsAsking, IsSetting, IsTask, PlaceFits, TaskTurn};
-ghost use Rattle.host_moves.specs.Views.{entry_of, free_place, left_of, lines_in, place_in, stage_after, stage_told, starts, supply_in};
+ghost use Rattle.host_stages.specs.Moves.{Asks, Comes, ComesFrom, HasShortPokes, IsAsking, IsSetting, IsTask, PlaceFits, TaskTurn};
+ghost use Rattle.host_stages.specs.Views.{entry_of, free_place, left_of, lines_in, place_in, stage_after, stage_told, starts, supply_in};
 
 use crate::asking::next_outcome;
-use crate::ends::ended;
-use crate::memory::write_pokes;
-use crate::stages::{EntryCall, HostImport, Left, Moved, Pause, Setting, Stage, Task};
 use device_port::Devices;
 use host_answers::{Met, answer_fault};
+use host_stages::{
+    EntryCall, HostImport, Left, Moved, Pause, Setting, Stage, Task, ended, write_pokes,
+};
 use interp::{Instance, Steps, Turn};
 use std::alloc::AllocError;
 use std::collections::VecDeque;

@@ -14,7 +14,7 @@ use Rattle.wa_model.specs.ScriptText.{default_steps, steps_of, entry_of, global_
 use Rattle.wa_model.specs.ScriptText.{lines_by, program_of, with_program, programs_of, with_programs, script_of, script_text}
 use Rattle.wa_types.specs.Sizes.{value_fits}
 use Rattle.wa_model.specs.Plan.{AnswerFits}
-use Rattle.host_moves.specs.Moves.{HasShortPokes}
+use Rattle.host_stages.specs.Moves.{HasShortPokes}
 use Rattle.hosting.specs.Hosted.{FitsPlan, HasRanges}
 use Rattle.hosting.specs.Laws.{ScriptsFit, ScriptsInRange}
 use Rattle.hosting.proofs.ScriptPlans.{SaysFit, line_fits}

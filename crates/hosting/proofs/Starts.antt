@@ -14,7 +14,7 @@ use Rattle.wa_model.specs.View.{answer_line_of}
 use Rattle.wa_model.specs.World as W
 use Rattle.host_setup.specs.SetUp.{NamedEntry, Fault, set_up}
 use Rattle.host_setup.specs.Views.{entry_of as named_entry_of}
-use Rattle.host_moves.specs.Moves.{HasShortPokes}
+use Rattle.host_stages.specs.Moves.{HasShortPokes}
 use Rattle.pause_host.specs.declared.plan.Plan.{Plan}
 use Rattle.pause_host.specs.declared.program.Program.{Program}
 use Rattle.pause_host.specs.Programs.{FollowsAlone, IsPlan, SetsUp, none_bound, named_entries, source_of, world_program}

@@ -9,7 +9,7 @@ use Rattle.wa_model.specs.Plan.{AnswerFits}
 use Rattle.wa_model.specs.Script.{EntryText, GlobalText, ProgramText, ShowText}
 use Rattle.wa_model.specs.Transcript.{Transcript, event_lines}
 use Rattle.wa_model.specs.World.{Look, Program, ProtocolWorld}
-use Rattle.host_moves.specs.Moves.{HasShortPokes}
+use Rattle.host_stages.specs.Moves.{HasShortPokes}
 use Rattle.host_turns.specs.Stories.{BeginsStory, lines_from}
 use Rattle.pause_host.specs.Settings.{calls_of}
 use Rattle.program_printing.specs.Output.{turn_count}

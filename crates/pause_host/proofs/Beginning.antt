@@ -33,10 +33,10 @@ use Rattle.host_setup.specs.SetUp.{is_area_in, set_up}
 use Rattle.host_turns.specs.Places.{Place, stands}
 use Rattle.host_turns.specs.Stories.{opened, IsAt}
 use Rattle.host_turns.proofs.Tellings.{nothing_told_yet}
-use Rattle.host_moves.specs.declared.stages.HostImport.{HostImport}
-use Rattle.host_moves.specs.declared.stages.Setting.{Setting}
-use Rattle.host_moves.specs.Views.{entry_of, left_of, lines_in}
-use Rattle.host_moves.specs.Moves.{IsSetting, PlaceFits, HasShortPokes}
+use Rattle.host_stages.specs.declared.stages.HostImport.{HostImport}
+use Rattle.host_stages.specs.declared.stages.Setting.{Setting}
+use Rattle.host_stages.specs.Views.{entry_of, left_of, lines_in}
+use Rattle.host_stages.specs.Moves.{IsSetting, PlaceFits, HasShortPokes}
 use Rattle.pause_host.specs.declared.plan.Plan.{Plan}
 use Rattle.pause_host.specs.declared.program.Program.{Program}
 use Rattle.pause_host.specs.declared.program.State.TheVariants.{Fresh}

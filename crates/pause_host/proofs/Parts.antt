@@ -14,8 +14,8 @@ use Rattle.wa_model.specs.Protocol as P
 use Rattle.host_setup.specs.SetUp.{NamedEntry}
 use Rattle.host_setup.specs.declared.entries.Entry.{Entry as EntryValue}
 use Rattle.host_setup.specs.Views as V
-use Rattle.host_moves.specs.declared.stages.EntryCall.{EntryCall}
-use Rattle.host_moves.specs.Views.{entry_of}
+use Rattle.host_stages.specs.declared.stages.EntryCall.{EntryCall}
+use Rattle.host_stages.specs.Views.{entry_of}
 use Rattle.pause_host.specs.Settings.{calls_of}
 
 -- ---- exports

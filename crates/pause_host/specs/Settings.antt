@@ -8,9 +8,9 @@ use Rattle.wa_model.specs.Plan.{Entry}
 use Rattle.wa_model.specs.Protocol.{exports_of}
 use Rattle.wa_model.specs.World.{base_names, import_names}
 use Rattle.host_setup.specs.SetUp.{NamedEntry}
-use Rattle.host_moves.specs.declared.stages.HostImport.{HostImport}
-use Rattle.host_moves.specs.declared.stages.Setting.{Setting}
-use Rattle.host_moves.specs.Views.{exports_in}
+use Rattle.host_stages.specs.declared.stages.HostImport.{HostImport}
+use Rattle.host_stages.specs.declared.stages.Setting.{Setting}
+use Rattle.host_stages.specs.Views.{exports_in}
 
 -- the entry calls of these functions
 abbrev pub calls_of : List NamedEntry → List ℕ → List Entry

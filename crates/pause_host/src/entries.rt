@@ -1,10 +1,10 @@
 ghost use Rattle.std.specs.Prelude.{◌≡◌, IfOk, map};
 ghost use Rattle.host_setup.specs.Views.{entry_of as named_of};
-ghost use Rattle.host_moves.specs.Views.{entry_of};
+ghost use Rattle.host_stages.specs.Views.{entry_of};
 ghost use Rattle.pause_host.specs.Settings.{calls_of};
 
-use host_moves::EntryCall;
 use host_setup::Entry;
+use host_stages::EntryCall;
 use std::alloc::{AllocError, Global};
 use std::collections::VecDeque;
 

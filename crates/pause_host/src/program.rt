@@ -6,8 +6,9 @@ use crate::entries::entry_calls;
 use crate::plan::Plan;
 use crate::setting::setting_of;
 use device_port::Devices;
-use host_moves::{Left, Setting, Stage, copy_end, next_event, start};
+use host_moves::{next_event, start};
 use host_setup::{SetupFault, set_up};
+use host_stages::{Left, Setting, Stage, copy_end};
 use interp::{Instance, MakeFault, Steps};
 use std::alloc::{AllocError, Global};
 use std::collections::VecDeque;
@@ -55,7 +56,7 @@ impl<'m> Program<'m> {
     ghost use Rattle.device_port.specs.Listed.{of_all};
     ghost use Rattle.host_turns.specs.Places.{stands};
     ghost use Rattle.host_turns.specs.Supplies.{IsLent};
-    ghost use Rattle.host_moves.specs.Views.{end_of, left_of};
+    ghost use Rattle.host_stages.specs.Views.{end_of, left_of};
     ghost use Rattle.pause_host.specs.Programs.{Advances, AdvancesAlone, Follows, FollowsAlone, FollowsAt, IsPlan, RunsCode, SetsUp, ended_as, memory_in, place_of, supply_of, supply_with};
 
     /// A program of a plan, before its instantiation, or the first fault of the plan.

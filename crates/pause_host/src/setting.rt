@@ -9,11 +9,11 @@ ghost use Rattle.wa_types.specs.Validity.{same_name};
 ghost use Rattle.wa_types.specs.View.{module_of};
 ghost use Rattle.wa_model.specs.Protocol.{exports_of, index_of};
 ghost use Rattle.wa_model.specs.World.{base_names, import_names, name_if};
-ghost use Rattle.host_moves.specs.Views.{exports_in};
-ghost use Rattle.host_moves.specs.declared.stages.HostImport.{HostImport};
+ghost use Rattle.host_stages.specs.Views.{exports_in};
+ghost use Rattle.host_stages.specs.declared.stages.HostImport.{HostImport};
 ghost use Rattle.pause_host.specs.Settings.{MakesSetting};
 
-use host_moves::{Exports, HostImport, Setting};
+use host_stages::{Exports, HostImport, Setting};
 use std::alloc::{AllocError, Global};
 use wa_model::Area;
 use wa_types::{Export, Import, ImportKind, Module, Name, ValType};

@@ -1,12 +1,12 @@
 use Rattle.std.proofs.Common.{arith, ◌≡◌, ◌-◌, IfOk, Some, None, sym, ap, ◌∙◌, subst}
 use Rattle.wa_model.specs.Protocol.{exports_of}
 use Rattle.interp.specs.Host.{store_in, waits_in}
-use Rattle.host_moves.specs.Views.{end_of, left_of, supply_in, place_in}
-use Rattle.host_moves.specs.Moves.{ComesFrom}
-use Rattle.host_moves.specs.declared.stages.Stage.TheVariants as S
-use Rattle.host_moves.proofs.Results.{ending_ok}
-use Rattle.host_moves.specs.Moves.{PlaceFits}
-use Rattle.host_moves.specs.declared.stages.Stage.{Stage}
+use Rattle.host_stages.specs.Views.{end_of, left_of, supply_in, place_in}
+use Rattle.host_stages.specs.Moves.{ComesFrom}
+use Rattle.host_stages.specs.declared.stages.Stage.TheVariants as S
+use Rattle.host_pauses.proofs.Results.{ending_ok}
+use Rattle.host_stages.specs.Moves.{PlaceFits}
+use Rattle.host_stages.specs.declared.stages.Stage.{Stage}
 use Rattle.host_moves.proofs.events.next_event.Goals as goal
 
 pub returns-in-Free-clause-comes : goal.returns-in-Free-clause-comes

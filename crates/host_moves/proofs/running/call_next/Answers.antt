@@ -3,10 +3,10 @@ use Rattle.wa_types.specs.Modules.{func_type_at}
 use Rattle.wa_model.specs.Fitting.{types_of, StoreFits}
 use Rattle.interp.specs.Host.{code_in, store_in, waits_in}
 use Rattle.interp.specs.Instance.{Calls}
-use Rattle.host_moves.specs.Views.{entry_of, left_of, supply_in}
-use Rattle.host_moves.specs.Moves.{ComesFrom}
-use Rattle.host_moves.proofs.Results.{done_ok, free_is, free_fits, none_left}
-use Rattle.host_moves.proofs.Tasks.{entry_turn}
+use Rattle.host_stages.specs.Views.{entry_of, left_of, supply_in}
+use Rattle.host_stages.specs.Moves.{ComesFrom}
+use Rattle.host_pauses.proofs.Results.{done_ok, free_is, free_fits, none_left}
+use Rattle.host_pauses.proofs.Tasks.{entry_turn}
 use Rattle.wa_model.specs.Protocol.{free}
 use Rattle.host_moves.proofs.running.call_next.Goals as goal
 

@@ -1,9 +1,9 @@
 use Rattle.std.proofs.Common.{refl, subst}
 use Rattle.wa_model.specs.Blocking.{an_entry}
 use Rattle.interp.specs.Host.{store_in, waits_in}
-use Rattle.host_moves.specs.Views.{entry_of, left_of, supply_in}
-use Rattle.host_moves.specs.Moves.{TaskTurn}
-use Rattle.host_moves.proofs.Results.{returned_ok}
+use Rattle.host_stages.specs.Views.{entry_of, left_of, supply_in}
+use Rattle.host_stages.specs.Moves.{TaskTurn}
+use Rattle.host_pauses.proofs.Results.{returned_ok}
 use Rattle.host_moves.proofs.running.entry_ran.Goals as goal
 
 pub returns-in-Returned-clause-comes : goal.returns-in-Returned-clause-comes

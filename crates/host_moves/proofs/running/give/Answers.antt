@@ -5,15 +5,15 @@ use Rattle.wa_model.specs.Blocking.{the_start, an_entry}
 use Rattle.wa_model.specs.Protocol.{exports_of, busy}
 use Rattle.interp.specs.Host.{store_in, waits_in}
 use Rattle.interp.specs.Instance.{Resumes}
-use Rattle.host_moves.specs.Views.{entry_of, left_of, supply_in, place_in}
-use Rattle.host_moves.specs.Moves.{Comes, ComesFrom}
-use Rattle.host_moves.specs.declared.stages.Stage.TheVariants as S
-use Rattle.host_moves.specs.declared.stages.Task.TheVariants as T
+use Rattle.host_stages.specs.Views.{entry_of, left_of, supply_in, place_in}
+use Rattle.host_stages.specs.Moves.{Comes, ComesFrom}
+use Rattle.host_stages.specs.declared.stages.Stage.TheVariants as S
+use Rattle.host_stages.specs.declared.stages.Task.TheVariants as T
 use Rattle.wa_model.specs.Blocking.{resumed}
 use Rattle.wa_model.specs.Protocol.{is_running}
 use Rattle.interp.specs.Instance.{Awaits}
-use Rattle.host_moves.specs.Moves.{PlaceFits}
-use Rattle.host_moves.proofs.Stagings.{gives, gives_awaits, gives_store, gives_turn}
+use Rattle.host_stages.specs.Moves.{PlaceFits}
+use Rattle.host_pauses.proofs.Stagings.{gives, gives_awaits, gives_store, gives_turn}
 use Rattle.host_moves.proofs.running.give.Goals as goal
 
 pub returns-in-Entry-clause-comes : goal.returns-in-Entry-clause-comes

@@ -4,9 +4,9 @@ use Rattle.wa_model.specs.Fitting.{StoreFits}
 use Rattle.wa_model.specs.Protocol.{starting}
 use Rattle.interp.specs.Host.{code_in, store_in, waits_in}
 use Rattle.interp.specs.Instance.{Calls}
-use Rattle.host_moves.specs.Views.{left_of, supply_in}
-use Rattle.host_moves.specs.Moves.{Comes}
-use Rattle.host_moves.proofs.Tasks.{start_turn, start_defined}
+use Rattle.host_stages.specs.Views.{left_of, supply_in}
+use Rattle.host_stages.specs.Moves.{Comes}
+use Rattle.host_pauses.proofs.Tasks.{start_turn, start_defined}
 use Rattle.host_moves.proofs.running.start.Goals as goal
 
 pub returns-then-func-len-clause-comes : goal.returns-then-func-len-clause-comes

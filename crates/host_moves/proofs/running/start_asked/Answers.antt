@@ -4,11 +4,11 @@ use Rattle.wa_model.specs.Blocking.{outermost}
 use Rattle.wa_model.specs.Protocol.{starting}
 use Rattle.interp.specs.Host.{store_in, waits_in}
 use Rattle.interp.specs.Instance.{Calls}
-use Rattle.host_moves.specs.Views.{supply_in}
-use Rattle.host_moves.specs.Moves.{EndsAt, IsAsking}
-use Rattle.host_moves.specs.declared.stages.Task.TheVariants as T
-use Rattle.host_moves.proofs.Results.{ended_ok}
-use Rattle.host_moves.proofs.Tasks.{import_asks, import_spent}
+use Rattle.host_stages.specs.Views.{supply_in}
+use Rattle.host_stages.specs.Moves.{EndsAt, IsAsking}
+use Rattle.host_stages.specs.declared.stages.Task.TheVariants as T
+use Rattle.host_pauses.proofs.Results.{ended_ok}
+use Rattle.host_pauses.proofs.Tasks.{import_asks, import_spent}
 use Rattle.host_moves.proofs.running.start_asked.Goals as goal
 
 pub returns-in-Waiting-clause-comes : goal.returns-in-Waiting-clause-comes

@@ -2,11 +2,11 @@ use Rattle.std.proofs.Common.{arith, ◌≡◌, ◌+◌, ◌-◌, [], IfOk, refl
 use Rattle.wa_model.specs.Blocking.{the_start, done_notes}
 use Rattle.wa_model.specs.Protocol.{held_on}
 use Rattle.interp.specs.Host.{store_in, waits_in}
-use Rattle.host_moves.specs.Views.{left_of, supply_in}
-use Rattle.host_moves.specs.Moves.{Comes, TaskTurn}
-use Rattle.host_moves.proofs.Results.{behind_sum}
-use Rattle.host_moves.proofs.Tasks.{start_returned}
-use Rattle.host_moves.proofs.Comings.{fits_on}
+use Rattle.host_stages.specs.Views.{left_of, supply_in}
+use Rattle.host_stages.specs.Moves.{Comes, TaskTurn}
+use Rattle.host_pauses.proofs.Results.{behind_sum}
+use Rattle.host_pauses.proofs.Tasks.{start_returned}
+use Rattle.host_pauses.proofs.Comings.{fits_on}
 use Rattle.host_moves.proofs.running.start_ran.Goals as goal
 
 pub returns-in-Returned-clause-comes : goal.returns-in-Returned-clause-comes

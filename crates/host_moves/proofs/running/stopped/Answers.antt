@@ -2,10 +2,10 @@ use Rattle.std.proofs.Common.{subst}
 use Rattle.wa_model.specs.declared.events.End.TheVariants as E
 use Rattle.wa_model.specs.Blocking.{inside}
 use Rattle.interp.specs.Host.{store_in, waits_in}
-use Rattle.host_moves.specs.Views.{supply_in}
-use Rattle.host_moves.specs.Moves.{EndsAt, TaskTurn}
-use Rattle.host_moves.proofs.Results.{ended_ok, task_asking}
-use Rattle.host_moves.proofs.Tasks.{task_trapped, task_spent, task_asks}
+use Rattle.host_stages.specs.Views.{supply_in}
+use Rattle.host_stages.specs.Moves.{EndsAt, TaskTurn}
+use Rattle.host_pauses.proofs.Results.{ended_ok, task_asking}
+use Rattle.host_pauses.proofs.Tasks.{task_trapped, task_spent, task_asks}
 use Rattle.host_moves.proofs.running.stopped.Goals as goal
 
 pub returns-in-Trapped-clause-comes : goal.returns-in-Trapped-clause-comes

@@ -1,14 +1,14 @@
-use Rattle.host_moves.specs.declared.stages.Moved.{Moved}
+use Rattle.host_stages.specs.declared.stages.Moved.{Moved}
 use Rattle.std.proofs.Common.{map, ◌∙◌, ap, refl, sym, subst}
 use Rattle.wa_model.specs.declared.events.Event.TheVariants as EV
 use Rattle.wa_model.specs.Blocking.{poked}
 use Rattle.wa_model.specs.Protocol.{exports_of}
 use Rattle.wa_model.specs.View.{answer_of, poke_of}
 use Rattle.interp.specs.Host.{store_in, waits_in}
-use Rattle.host_moves.specs.Moves.{ComesFrom}
-use Rattle.host_moves.specs.Views.{place_in}
-use Rattle.host_moves.specs.declared.stages.Stage.TheVariants as S
-use Rattle.host_moves.proofs.Stagings.{tell_comes}
+use Rattle.host_stages.specs.Moves.{ComesFrom}
+use Rattle.host_stages.specs.Views.{place_in}
+use Rattle.host_stages.specs.declared.stages.Stage.TheVariants as S
+use Rattle.host_pauses.proofs.Stagings.{tell_comes}
 use Rattle.host_moves.proofs.running.tell_answer.Goals as goal
 
 pub returns-clause-comes : goal.returns-clause-comes

@@ -1,7 +1,7 @@
 use Rattle.std.proofs.Common.{◌++◌, ◌∷◌, map, drop, get_or, drop-cons, add-one, refl, sym, ap, ◌∙◌, append-nil}
 use Rattle.host_setup.specs.Views.{entry_of as named_of}
-use Rattle.host_moves.specs.declared.stages.EntryCall.{EntryCall}
-use Rattle.host_moves.specs.Views.{entry_of}
+use Rattle.host_stages.specs.declared.stages.EntryCall.{EntryCall}
+use Rattle.host_stages.specs.Views.{entry_of}
 use Rattle.pause_host.specs.Settings.{calls_of}
 use Rattle.pause_host.proofs.Parts.{call_more, no_funcs, dropped_all}
 use Rattle.pause_host.proofs.entries.entry_calls.Goals as goal

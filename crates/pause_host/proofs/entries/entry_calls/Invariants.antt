@@ -1,6 +1,6 @@
 use Rattle.std.proofs.Common.{◌≡◌, ◌++◌, map, drop}
 use Rattle.host_setup.specs.Views.{entry_of as named_of}
-use Rattle.host_moves.specs.Views.{entry_of}
+use Rattle.host_stages.specs.Views.{entry_of}
 use Rattle.pause_host.specs.Settings.{calls_of}
 use Rattle.pause_host.proofs.entries.entry_calls.Given as goal
 

@@ -6,7 +6,7 @@ use Rattle.wa_types.specs.Modules.{imported_func, type_at}
 use Rattle.wa_types.specs.Pausing.{joined_name}
 use Rattle.wa_types.specs.View.{module_of}
 use Rattle.wa_model.specs.World.{name_if}
-use Rattle.host_moves.specs.declared.stages.HostImport.{HostImport}
+use Rattle.host_stages.specs.declared.stages.HostImport.{HostImport}
 use Rattle.pause_host.proofs.setting.host_imports.Given as goal
 
 abbrev pub invariant-loop-import : goal.invariant-loop-import

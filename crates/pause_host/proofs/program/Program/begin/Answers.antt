@@ -2,8 +2,8 @@ use Rattle.std.proofs.Common.{◌-◌, [], refl, ◌∙◌, subst, arith}
 use Rattle.wa_model.specs.Protocol.{exports_of, starting}
 use Rattle.interp.specs.Host.{store_in, waits_in}
 use Rattle.host_turns.specs.Places.{stands}
-use Rattle.host_moves.specs.Moves.{Moves}
-use Rattle.host_moves.specs.Views.{left_of, lines_in, place_in}
+use Rattle.host_stages.specs.Moves.{Moves}
+use Rattle.host_stages.specs.Views.{left_of, lines_in, place_in}
 use Rattle.pause_host.specs.Programs.{supply_of}
 use Rattle.host_turns.specs.Supplies.{Supply}
 use Rattle.device_port.specs.Listed.{of_all}

@@ -1,0 +1,4 @@
+pub mod Outcomes
+pub mod Pauses
+pub mod Tables
+pub mod Ways
