@@ -27,6 +27,8 @@ mod pages;
 #[cfg(test)]
 mod pausing;
 #[cfg(test)]
+mod pieces;
+#[cfg(test)]
 mod running;
 #[cfg(test)]
 mod runtime;

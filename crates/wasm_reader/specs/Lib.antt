@@ -11,6 +11,7 @@ pub mod Locals
 pub mod Machine
 pub mod Marking
 pub mod Passing
+pub mod Pieces
 pub mod Places
 pub mod Scanning
 pub mod Shapes

@@ -16,9 +16,11 @@ mod locals;
 mod marks;
 mod numbers;
 mod opcodes;
+mod pieces;
 mod read_fault;
 mod reader;
 mod scan;
 
+pub use pieces::Reader;
 pub use read_fault::ReadFault;
 pub use reader::read;

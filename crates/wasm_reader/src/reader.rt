@@ -47,12 +47,15 @@ pub fn read(alloc: Global, bytes: &[u8], bounds: &Bounds) -> Result<Module, Read
     }
 }
 
-// The module of a whole file, or why it is refused.
-fn read_whole(alloc: Global, bytes: &[u8], bounds: &Bounds) -> Result<Module, ReadFault>
+/// The module of a whole file, or why it is refused.
+pub(crate) fn read_whole(alloc: Global, bytes: &[u8], bounds: &Bounds) -> Result<Module, ReadFault>
     requires few { length bytes.now ≤ bounds.now.file }
     requires columns { (bounds.now ≡ source_bounds) ⊎ (bounds.now ≡ prepared_bounds) }
     requires whole { IsWhole bytes.now }
     ensures ok { IfOk result (λ r. IsAccepted bounds.now bytes.now (module_of r)) }
+    ensures sizes { IfOk result (λ r. SizeRule (module_of r)) }
+    ensures source_sizes { bounds.now ≡ source_bounds → IfOk result (λ r. StrictSizeRule (module_of r)) }
+    ensures short { IfOk result (λ r. length (Enc (module_of r)) ≤ length bytes.now) }
     ensures refused { IfErr result (λ fault. IsRefused bounds.now bytes.now fault) }
 {
     let Ok(marks) = scan(bytes, bounds) else {

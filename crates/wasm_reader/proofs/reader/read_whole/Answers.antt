@@ -1,6 +1,7 @@
 use Rattle.std.proofs.Common.{◌≡◌, ◌≤◌, ap, sym, ◌∙◌, arith, length, inl, inr}
 use Rattle.wa_types.specs.View.{module_of}
-use Rattle.wasm_reader.proofs.Accepting.{file_of, module_in, spelled_in, Stands, stands, few_runs, few_bytes, accepted, too_many, accepted_sizes, accepted_strictly}
+use Rattle.wasm_reader.proofs.Accepting.{file_of, module_in, spelled_in, Stands, stands, few_runs, few_bytes, accepted, accepted_spelled, too_many, accepted_sizes, accepted_strictly}
+use Rattle.wasm_reader.proofs.ShortFile.{written_short}
 use Rattle.wasm_reader.proofs.reader.read_whole.Goals as goal
 
 pub unreachable-requires : goal.unreachable-requires
@@ -38,3 +39,24 @@ returns-clause-ok c =
     let s = stands c.args.bounds.now c.args.bytes.now (module_of c.in-Ok-build.module) c.requires.few c.requires.whole
     (λ ss f. c.in_default-judge.ensures c.args.bytes.now ss f (c.in-Ok.ensures ss f.spells)) c.in-Ok-build.ensures in
     accepted c.args.bounds.now c.args.bytes.now (module_of c.in-Ok-build.module) c.locals.result s c.locals.ensures c.in_default-locals_above.ensures
+
+pub returns-clause-sizes : goal.returns-clause-sizes
+returns-clause-sizes c =
+    let s = stands c.args.bounds.now c.args.bytes.now (module_of c.in-Ok-build.module) c.requires.few c.requires.whole
+    (λ ss f. c.in_default-judge.ensures c.args.bytes.now ss f (c.in-Ok.ensures ss f.spells)) c.in-Ok-build.ensures in
+    accepted_sizes c.args.bounds.now c.args.bytes.now (module_of c.in-Ok-build.module) c.requires.columns
+    (accepted c.args.bounds.now c.args.bytes.now (module_of c.in-Ok-build.module) c.locals.result s c.locals.ensures c.in_default-locals_above.ensures)
+
+pub returns-clause-source_sizes : goal.returns-clause-source_sizes
+returns-clause-source_sizes c = λ source.
+    let s = stands c.args.bounds.now c.args.bytes.now (module_of c.in-Ok-build.module) c.requires.few c.requires.whole
+    (λ ss f. c.in_default-judge.ensures c.args.bytes.now ss f (c.in-Ok.ensures ss f.spells)) c.in-Ok-build.ensures in
+    accepted_strictly c.args.bounds.now c.args.bytes.now (module_of c.in-Ok-build.module) source
+    (accepted c.args.bounds.now c.args.bytes.now (module_of c.in-Ok-build.module) c.locals.result s c.locals.ensures c.in_default-locals_above.ensures)
+
+pub returns-clause-short : goal.returns-clause-short
+returns-clause-short c =
+    let s = stands c.args.bounds.now c.args.bytes.now (module_of c.in-Ok-build.module) c.requires.few c.requires.whole
+    (λ ss f. c.in_default-judge.ensures c.args.bytes.now ss f (c.in-Ok.ensures ss f.spells)) c.in-Ok-build.ensures in
+    written_short c.args.bytes.now (module_of c.in-Ok-build.module) (accepted_spelled c.args.bounds.now c.args.bytes.now (module_of c.in-Ok-build.module)
+    (accepted c.args.bounds.now c.args.bytes.now (module_of c.in-Ok-build.module) c.locals.result s c.locals.ensures c.in_default-locals_above.ensures))
