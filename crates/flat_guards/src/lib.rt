@@ -9,4 +9,4 @@
 
 mod laws;
 
-pub use laws::staying_behave;
+pub use laws::{emitted_behave, staying_behave};
