@@ -147,7 +147,8 @@ module _ (m : Module) (s : Settings) (which : List Bool) (frames : (index : ℕ)
 
   module _ (st k : ℕ) (call_slots : List ℕ) (x : Callee) (to : Option ℕ) (behind : Code) (rest : Units) (xs : List Enclosing)
       (pl : BodyPlace st (guarded_of m s which frames a.func num.func) k (call_unit call_slots x to behind rest) xs)
-      (left : length (calls_of (set_to to (followed_by behind (flat_units rest)))) + calls_behind (flat_labels (guarded_of m s which frames a.func num.func) xs) ≡ call_count a.code + calls_outside a.labels) where
+      (left : length (calls_of (set_to to (followed_by behind (flat_units rest)))) + calls_behind (flat_labels (guarded_of m s which frames a.func num.func) xs)
+      ≡ call_count a.code + calls_outside a.labels) where
     abbrev gf : GuardedFunc
     gf = guarded_of m s which frames a.func num.func
 
@@ -177,7 +178,8 @@ module _ (m : Module) (s : Settings) (which : List Bool) (frames : (index : ℕ)
 
     slots_are : call_slots ≡ reverse (take (length a.taken) (slots (names (Base m) num.func) (types_of (a.taken ++ a.operands))))
     slots_are =
-        let e = slots_there m s which frames a.func num.func (body_typed b (base_valid m valid) a.func num.func num.is) st k (place_of (Some num.func) a.code a.labels) call_slots x to behind rest xs (types_of all) pl number num.call num.at num.points in
+        let e = slots_there m s which frames a.func num.func (body_typed b (base_valid m valid) a.func num.func num.is) st k
+        (place_of (Some num.func) a.code a.labels) call_slots x to behind rest xs (types_of all) pl number num.call num.at num.points in
         let l = slots_long (names b num.func) (types_of all) in let l2 = length-map all type_of in let l3 = length-append a.taken a.operands in
         e ∙ ap (λ i. last_of i (reverse (slots (names b num.func) (types_of all)))) (sym took_args) ∙ last_reverse (length a.taken) (slots (names b num.func) (types_of all)) (omega arith)
 
@@ -192,7 +194,8 @@ module _ (m : Module) (s : Settings) (which : List Bool) (frames : (index : ℕ)
     kept_slots keep stacked =
         let sl = slots (names b num.func) (types_of all) in
         let fs = fields_of keep (Saved (Base m) s.policy num.func here) in
-        subst (λ xs. AllKept xs (fields_of keep (Saved (Base m) s.policy num.func here))) (sym slots_are) (kept_reverse (take (length a.taken) sl) fs (kept_take (length a.taken) sl fs (all_kept keep stacked)))
+        subst (λ xs. AllKept xs (fields_of keep (Saved (Base m) s.policy num.func here))) (sym slots_are)
+        (kept_reverse (take (length a.taken) sl) fs (kept_take (length a.taken) sl fs (all_kept keep stacked)))
 
     pub took : a.taken ≡ slot_values (a.locals ++ pr.extra) call_slots []
     took =

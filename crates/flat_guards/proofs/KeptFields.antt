@@ -44,14 +44,16 @@ each_onto : (P : Place → Type 0) (b : Bool) (x : ℕ) (t : ValType) (qs : List
 each_onto P true x t qs p h = (p, h)
 each_onto P false x t qs p h = h
 
-named_each : (P : Place → Type 0) (test : ℕ → Bool) (x : ℕ) (ts : List ValType) → ((y : ℕ) (t : ValType) → slice_get ts y ≡ Some t → P (record { local = x + y; ty = t })) → EachPlace P (named_places test x ts)
+named_each : (P : Place → Type 0) (test : ℕ → Bool) (x : ℕ) (ts : List ValType) → ((y : ℕ) (t : ValType) → slice_get ts y ≡ Some t → P (record { local = x + y; ty = t }))
+    → EachPlace P (named_places test x ts)
 named_each P test x [] h = tt
 named_each P test x (t ∷ ts) h =
     let z : x + 0 ≡ x = omega arith in
     each_onto P (test x) x t (named_places test (suc x) ts) (subst (λ y. P (record { local = y; ty = t })) z (h 0 t refl))
     (named_each P test (suc x) ts (λ y u e. let w : x + suc y ≡ suc x + y = omega arith in subst (λ y. P (record { local = y; ty = u })) w (h (suc y) u e)))
 
-slot_each : (P : Place → Type 0) (test : Pair → Bool) (x : ℕ) (ps : List Pair) → ((k : ℕ) (p : Pair) → slice_get ps k ≡ Some p → P (record { local = x + k; ty = p.ty })) → EachPlace P (slot_places test x ps)
+slot_each : (P : Place → Type 0) (test : Pair → Bool) (x : ℕ) (ps : List Pair) → ((k : ℕ) (p : Pair) → slice_get ps k ≡ Some p → P (record { local = x + k; ty = p.ty }))
+    → EachPlace P (slot_places test x ps)
 slot_each P test x [] h = tt
 slot_each P test x (p ∷ ps) h =
     let z : x + 0 ≡ x = omega arith in
@@ -66,7 +68,8 @@ places_by test test_slot ts ps = named_places test 0 ts ++ slot_places test_slot
 abbrev pub all_places : List ValType → List Pair → List Place
 all_places ts ps = places_by (λ y. true) (λ p. true) ts ps
 
-pub places_each : (P : Place → Type 0) (test : ℕ → Bool) (test_slot : Pair → Bool) (ts : List ValType) (ps : List Pair) → ((y : ℕ) (t : ValType) → slice_get ts y ≡ Some t → P (record { local = y; ty = t }))
+pub places_each : (P : Place → Type 0) (test : ℕ → Bool) (test_slot : Pair → Bool) (ts : List ValType) (ps : List Pair)
+    → ((y : ℕ) (t : ValType) → slice_get ts y ≡ Some t → P (record { local = y; ty = t }))
     → ((k : ℕ) (p : Pair) → slice_get ps k ≡ Some p → P (record { local = length ts + k; ty = p.ty })) → EachPlace P (places_by test test_slot ts ps)
 places_each P test test_slot ts ps own slot =
     each_both P (named_places test 0 ts) (slot_places test_slot (length ts) ps)
@@ -271,7 +274,8 @@ module _ (n : Names) (extra : List Value) (keep : ℕ → Bool) where
 -- the slots of operands are kept, where those are that hold an operand of this stack
 pub slots_kept : (n : Names) (extra : List Value) (keep : ℕ → Bool) (fs : List FrameField) (stack : List ValType)
     → ((k : ℕ) (p : Pair) → slice_get n.slots k ≡ Some p → stands_at p.number p.ty stack ≡ true → keep (n.first + k) ≡ true → IsKept (n.first + k) fs) → (ops : List Value)
-    → ((h : ℕ) → h < length ops → slice_get (reverse stack) h ≡ slice_get (reverse (types_of ops)) h) → Holds n extra ops → All (λ y. keep y ≡ true) (slots n (types_of ops)) → AllKept (slots n (types_of ops)) fs
+    → ((h : ℕ) → h < length ops → slice_get (reverse stack) h ≡ slice_get (reverse (types_of ops)) h) → Holds n extra ops → All (λ y. keep y ≡ true) (slots n (types_of ops))
+    → AllKept (slots n (types_of ops)) fs
 slots_kept n extra keep fs stack each [] front holds ks = tt
 slots_kept n extra keep fs stack each (w ∷ ops) front holds ks =
     let i = place (length (types_of ops)) (type_of w) n.slots in
@@ -295,7 +299,8 @@ saved_each P m save_all f at own slot = places_each P (λ y. true) (λ p. true) 
 saved_each P m save_live f at own slot = places_each P (is_live_after f at) (is_on_stack (slice_get (func_call_points m f) at)) (locals_of m f) (SlotPairs m f) own slot
 
 -- a slot of an operand on the stack is saved
-pub saved_slot : (m : Module) (policy : Policy) (f : Func) (at : ℕ) (keep : ℕ → Bool) (ops : List ValType) (k : ℕ) (p : Pair) → slice_get (func_call_points m f) at ≡ Some ops → slice_get (SlotPairs m f) k ≡ Some p
+pub saved_slot : (m : Module) (policy : Policy) (f : Func) (at : ℕ) (keep : ℕ → Bool) (ops : List ValType) (k : ℕ) (p : Pair) → slice_get (func_call_points m f) at ≡ Some ops
+    → slice_get (SlotPairs m f) k ≡ Some p
     → stands_at p.number p.ty ops ≡ true → keep (length (locals_of m f) + k) ≡ true → IsKept (length (locals_of m f) + k) (fields_of keep (Saved m policy f at))
 saved_slot m save_all f at keep ops k p points e stands kk = slot_kept keep (λ y. true) (λ p. true) (locals_of m f) (SlotPairs m f) k p e refl kk
 saved_slot m save_live f at keep ops k p points e stands kk =

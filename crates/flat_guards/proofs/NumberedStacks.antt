@@ -108,7 +108,8 @@ space_of m = refl
 pub space_below : (m : Module) → Valid m → (x : ℕ) (f : Func) → defined_at (Base m) x ≡ Some f → x < func_space m
 space_below m valid x f e = subst (λ i. x < i) (space_of m) (defined_below (Base m) [] [] [] [] (valid_named (Base m) (base_valid m valid)) x f e)
 
-module _ (m : Module) (s : Settings) (which : List Bool) (frames : (index : ℕ) → Framing) (plan : Plan) (p : Module) (valid : Valid m) (tells : TellsMayPause m s which) (em : Emitted m s which frames p)
+module _ (m : Module) (s : Settings) (which : List Bool) (frames : (index : ℕ) → Framing) (plan : Plan) (p : Module) (valid : Valid m) (tells : TellsMayPause m s which)
+    (em : Emitted m s which frames p)
     (plan_fits : L.Fits m plan) (codes : CodesIn (Base m)) (top : ℕ) where
   abbrev fits : CoreFits (core_of m s which frames plan p)
   fits = core_fits m s which frames plan p valid tells em plan_fits codes
@@ -119,7 +120,8 @@ module _ (m : Module) (s : Settings) (which : List Bool) (frames : (index : ℕ)
   -- the type of a function as the guards' laws have it
   params_same : (g : ℕ) → g < func_space m → param_count (func_type_at v.flat g) ≡ param_count (func_type_at (Base m) g)
   params_same g lt =
-      ap param_count (grown_func_type (core_of m s which frames plan p) fits g (subst (λ i. g < i) (sym (funcs_are (core_of m s which frames plan p) fits)) lt) ∙ func_type_same (core_of m s which frames plan p) fits g)
+      ap param_count (grown_func_type (core_of m s which frames plan p) fits g (subst (λ i. g < i) (sym (funcs_are (core_of m s which frames plan p) fits)) lt)
+      ∙ func_type_same (core_of m s which frames plan p) fits g)
 
   -- whatever such operands may have called has a number
   goes_numbered : (g : ℕ) (taken ops : List Value) (x c : Callee) (table : List (Option ℕ)) → g < func_space m → has_number m s which x ≡ true → LeadsTo (Base m) table x (taken ++ ops) g
@@ -138,7 +140,8 @@ module _ (m : Module) (s : Settings) (which : List Bool) (frames : (index : ℕ)
   stack_numbered table g _ _ lt (above_same {fn = fn} told is under act) h = let e = (h.0).told in let bad : true ≡ false = ap is_told (sym e) ∙ told in cc
 
   -- THE NUMBERS of a stack that waits
-  pub numbers : (i : ℕ) (d f : Configuration) → LinkedWaits (core_of m s which frames plan p) (Beside (Base m) which) (Asked (Base m) which) i d f → All (StandsNumbered m s which) (stack_of (Base m) d) → AllNumbered v i (f.here ∷ f.under)
+  pub numbers : (i : ℕ) (d f : Configuration) → LinkedWaits (core_of m s which frames plan p) (Beside (Base m) which) (Asked (Base m) which) i d f
+      → All (StandsNumbered m s which) (stack_of (Base m) d) → AllNumbered v i (f.here ∷ f.under)
   numbers i d f l nums =
       let few = Rattle.flat_links.proofs.Spaces.imports_few (core_of m s which frames plan p) fits in
       let kn = l.known in

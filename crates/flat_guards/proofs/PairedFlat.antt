@@ -151,7 +151,8 @@ not_numbered m s which x f place c tells there untold at = by_callee c at
         by_ignore true e = ap Rattle.std.specs.Prelude.not e
         by_ignore false e = absurd (never (calls_indirectly x f place sort there at e))
 
-module _ (m : Module) (s : Settings) (which : List Bool) (frames : (index : ℕ) → Framing) (plan : Plan) (p : Module) (valid : Valid m) (tells : TellsMayPause m s which) (em : Emitted m s which frames p)
+module _ (m : Module) (s : Settings) (which : List Bool) (frames : (index : ℕ) → Framing) (plan : Plan) (p : Module) (valid : Valid m) (tells : TellsMayPause m s which)
+    (em : Emitted m s which frames p)
     (plan_fits : L.Fits m plan) (codes : CodesIn (Base m)) where
   abbrev b : Module
   b = Base m
@@ -250,7 +251,8 @@ module _ (m : Module) (s : Settings) (which : List Bool) (frames : (index : ℕ)
         sized h1 h2 h3 h4 = omega arith
 
     -- by whether it is told
-    same_func : (told : Bool) (x : ℕ) (f g g' : Func) → IsPlaced told b x f (Some g) → func_type_at v.flat x ≡ type_at b f.sort → WrittenAs m s which frames told x f g' → v.role x ≡ role_at m s which frames told x (Some f)
+    same_func : (told : Bool) (x : ℕ) (f g g' : Func) → IsPlaced told b x f (Some g) → func_type_at v.flat x ≡ type_at b f.sort → WrittenAs m s which frames told x f g'
+        → v.role x ≡ role_at m s which frames told x (Some f)
         → SameFunction v x g g'
     same_func true x f g g' h ty wr role = guarded_same x f g g' h ty wr role
     same_func false x f g g' h ty wr role = stays_same x f g g' (the_same g f h) ty wr role

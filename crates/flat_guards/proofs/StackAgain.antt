@@ -77,8 +77,10 @@ module _ (m : Module) (s : Settings) (which : List Bool) (keep : (func local : �
       let sp2 = split m s which keep valid keeps a table g num told extra held0 c.locals sm.size kept in
       let held2 = held_again m s which keep valid keeps a table g num told extra held0 c.locals sm.size kept in
       subst (λ z. Callers (Base m) which g (a ∷ under) (z ∷ cs))
-      (act_is c fn (ls ++ Rattle.flat_guards.proofs.StandingAgain.extra2 m s which keep valid keeps a table g num told extra held0 c.locals sm.size kept) [] taken code' labels' sm.func sp2 sm.operands sm.taken sm.code sm.labels)
-      (above told is (callers_again table fn under under' cs us nums.1 same.1) (subst (λ (z : Func). Locals (Base m) z ls (Rattle.flat_guards.proofs.StandingAgain.extra2 m s which keep valid keeps a table g num told extra held0 c.locals sm.size kept) (taken ++ ops)) (sym same_f) held2) sp)
+      (act_is c fn (ls ++ Rattle.flat_guards.proofs.StandingAgain.extra2 m s which keep valid keeps a table g num told extra held0 c.locals sm.size kept)
+      [] taken code' labels' sm.func sp2 sm.operands sm.taken sm.code sm.labels)
+      (above told is (callers_again table fn under under' cs us nums.1 same.1) (subst (λ (z : Func). Locals (Base m) z ls
+      (Rattle.flat_guards.proofs.StandingAgain.extra2 m s which keep valid keeps a table g num told extra held0 c.locals sm.size kept) (taken ++ ops)) (sym same_f) held2) sp)
   callers_again table g _ _ cs (above_same told is under act) nums same = let e = (nums.0).told in let bad : true ≡ Rattle.std.proofs.Common.false = ap is_told (sym e) ∙ told in cc
 
   again : (top i : ℕ) (d f : Configuration) (a : Activation) (us : List Activation) → LinkedWaits k B A i d f → All (StandsNumbered m s which) (stack_of (Base m) d) → AllSameFlat k.lay (f.here ∷ f.under) (a ∷ us)

@@ -56,7 +56,8 @@ none_below f (in_a_loop height k0 first body k behind rest ∷ xs) h = (h.0, non
 the_guards : (x y : GuardedFunc) → with_guards x ≡ with_guards y → x ≡ y
 the_guards x y e = cc
 
-module _ (m : Module) (s : Settings) (which : List Bool) (frames : (index : ℕ) → Framing) (plan : Plan) (p : Module) (valid : Valid m) (tells : TellsMayPause m s which) (em : Emitted m s which frames p)
+module _ (m : Module) (s : Settings) (which : List Bool) (frames : (index : ℕ) → Framing) (plan : Plan) (p : Module) (valid : Valid m) (tells : TellsMayPause m s which)
+    (em : Emitted m s which frames p)
     (plan_fits : P.Fits m plan) (codes : CodesIn (Base m)) (framed : FramedCalls m s which frames) where
   abbrev b : Module
   b = Base m
@@ -181,7 +182,8 @@ module _ (m : Module) (s : Settings) (which : List Bool) (frames : (index : ℕ)
       f_is : guarded_of m s which frames a.func num.func ≡ f
       f_is =
           the_guards (guarded_of m s which frames a.func num.func) f
-          (sym (ap (λ t. role_at m s which frames t a.func (defined_at m a.func)) pr.told ∙ ap (λ o. role_at m s which frames true a.func o) defined) ∙ subst (λ y. v.role y ≡ with_guards f) func_is is)
+          (sym (ap (λ t. role_at m s which frames t a.func (defined_at m a.func)) pr.told ∙ ap (λ o. role_at m s which frames true a.func o) defined)
+          ∙ subst (λ y. v.role y ≡ with_guards f) func_is is)
 
       -- the flat activation, and the frame of its call
       abbrev act : Activation
@@ -222,7 +224,8 @@ module _ (m : Module) (s : Settings) (which : List Bool) (frames : (index : ℕ)
       params_are : param_count (func_type_at v.flat fn) ≡ param_count (func_type_at (Base m) a.func)
       params_are = ap (λ y. param_count (func_type_at v.flat y)) func_is ∙ params_same a.func num.func num.is
 
-      weighs_enough : param_count (func_type_at v.flat fn) + (unwinding (written_of st f (k.lay act)) 4 + 1 + (2 * length slots + 1) + rewinding (written_of st f (k.lay act)) (passing f.first f.body)) ≤ activation_bound m (suspended (Base m) a)
+      weighs_enough : param_count (func_type_at v.flat fn)
+          + (unwinding (written_of st f (k.lay act)) 4 + 1 + (2 * length slots + 1) + rewinding (written_of st f (k.lay act)) (passing f.first f.body)) ≤ activation_bound m (suspended (Base m) a)
       weighs_enough = let w = level.weighs in let e = bound_is in let q = params_are in omega arith
 
     abbrev level_at : (fn : ℕ) (f : GuardedFunc) (n h : ℕ) (slots : List ℕ) (x : Callee) (to : Option ℕ) (behind : Code) (rest : Units) (xs : List Enclosing) (ls extra ops taken : List Value) → Level

@@ -91,7 +91,8 @@ module _ (m : Module) (s : Settings) (which : List Bool) (keep : (func local : �
 
   slot_same : (i : ℕ) (q : Pair) → slice_get pairs i ≡ Some q → keep a.func (length own + i) ≡ true → value_at extra2 i ≡ value_at extra i
   slot_same i q e k =
-      sym (extra_got a.locals extra2 (length own) i own_size) ∙ ap (λ ls. value_at ls (length own + i)) (sym split) ∙ same (length own + i) (slot_kept (keep a.func) (λ x. true) (λ q. true) own pairs i q e refl k) ∙ extra_got a.locals extra (length own) i own_size
+      sym (extra_got a.locals extra2 (length own) i own_size) ∙ ap (λ ls. value_at ls (length own + i)) (sym split)
+      ∙ same (length own + i) (slot_kept (keep a.func) (λ x. true) (λ q. true) own pairs i q e refl k) ∙ extra_got a.locals extra (length own) i own_size
 
   pub held_again : Locals (Base m) num.func a.locals extra2 (a.taken ++ a.operands)
   held_again = record {

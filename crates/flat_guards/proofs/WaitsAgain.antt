@@ -68,7 +68,8 @@ named_again n lay (a ∷ vs) (c ∷ cs) same h =
       named_again n lay vs cs same.1 h.1,
     )
 
-module _ (m : Module) (s : Settings) (which : List Bool) (frames : (index : ℕ) → Framing) (plan : Plan) (p : Module) (valid : Valid m) (tells : TellsMayPause m s which) (em : Emitted m s which frames p)
+module _ (m : Module) (s : Settings) (which : List Bool) (frames : (index : ℕ) → Framing) (plan : Plan) (p : Module) (valid : Valid m) (tells : TellsMayPause m s which)
+    (em : Emitted m s which frames p)
     (plan_fits : P.Fits m plan) (codes : CodesIn (Base m)) where
   abbrev b : Module
   b = Base m
@@ -113,7 +114,8 @@ module _ (m : Module) (s : Settings) (which : List Bool) (frames : (index : ℕ)
                 ∙ ap (λ z. z ++ Rattle.guard_form.specs.Functions.extra_types (k.role x)) (sym (locals_by k.flat x h eh)),
           )
 
-  pub fits_again : (outs types : List ValType) (us vs cs : List Activation) → AllPairs (Base m) which us vs → CallersFit k.flat outs types vs → AllSameFlat k.lay vs cs → AllMore p cs → CallersFit k.flat outs types cs
+  pub fits_again : (outs types : List ValType) (us vs cs : List Activation) → AllPairs (Base m) which us vs → CallersFit k.flat outs types vs → AllSameFlat k.lay vs cs → AllMore p cs
+      → CallersFit k.flat outs types cs
   fits_again outs types us [] [] ps h same more = h
   fits_again outs types us [] (c ∷ cs) ps h same more = absurd same
   fits_again outs types us (v ∷ vs) [] ps h same more = absurd same
@@ -149,14 +151,16 @@ module _ (m : Module) (s : Settings) (which : List Bool) (frames : (index : ℕ)
   all_told table g [] h = tt
   all_told table g (a ∷ us) h = (ap is_told (h.0).told, all_told table a.func us h.1)
 
-  pub numbers_at : (i : ℕ) (d f : Configuration) → (l : LinkedWaits k B A i d f) → All (StandsNumbered m s which) (stack_of (Base m) d) → AllAtNumbers m s which valid d.store.table i (d.here ∷ d.under)
+  pub numbers_at : (i : ℕ) (d f : Configuration) → (l : LinkedWaits k B A i d f) → All (StandsNumbered m s which) (stack_of (Base m) d)
+      → AllAtNumbers m s which valid d.store.table i (d.here ∷ d.under)
   numbers_at i d f l nums = at_numbers m s which valid d.store.table l.root i (d.here ∷ d.under) l.spots.waits l.stands.stack nums
 
   pub pairs_at : (i : ℕ) (d f : Configuration) → (l : LinkedWaits k B A i d f) → All (StandsNumbered m s which) (stack_of (Base m) d) → AllPairs (Base m) which (d.here ∷ d.under) (f.here ∷ f.under)
   pairs_at i d f l nums = pairs (Base m) which i (d.here ∷ d.under) (f.here ∷ f.under) l.beside.waits (all_told d.store.table i (d.here ∷ d.under) (numbers_at i d f l nums))
 
   -- a flat stack that came back fits its module again, and names what is there
-  pub flat_again : (top i : ℕ) (d f : Configuration) (a : Activation) (us : List Activation) → (l : LinkedWaits k B A i d f) → All (StandsNumbered m s which) (stack_of (Base m) d) → AllSameFlat k.lay (f.here ∷ f.under) (a ∷ us)
+  pub flat_again : (top i : ℕ) (d f : Configuration) (a : Activation) (us : List Activation) → (l : LinkedWaits k B A i d f) → All (StandsNumbered m s which) (stack_of (Base m) d)
+      → AllSameFlat k.lay (f.here ∷ f.under) (a ∷ us)
       → (us' : List Activation) → Stopped (setting (world_of k) top) i (a ∷ us) us' → AllLocalsFit p us'
       → WaitingFits k.flat l.flat_outs i (record { store = f.store; here = a; under = us }) × ConfigNamed (spaces_of k.flat) (record { store = f.store; here = a; under = us })
   flat_again top i d f a us l nums same us' st fit =
@@ -165,14 +169,17 @@ module _ (m : Module) (s : Settings) (which : List Bool) (frames : (index : ℕ)
       let na = named_again (spaces_of k.flat) k.lay (f.here ∷ f.under) (a ∷ us) same (nm.here, nm.under) in (
         record {
           store = ff.store;
-          waits = fits_again l.flat_outs (results_of k.flat i) (d.here ∷ d.under) (f.here ∷ f.under) (a ∷ us) (pairs_at i d f l nums) ff.waits same (written_fit (setting (world_of k) top) p i (a ∷ us) us' st fit);
+          waits = fits_again l.flat_outs (results_of k.flat i) (d.here ∷ d.under) (f.here ∷ f.under) (a ∷ us) (pairs_at i d f l nums) ff.waits same
+              (written_fit (setting (world_of k) top) p i (a ∷ us) us' st fit);
         },
         record { store = nm.store; here = na.0; under = na.1 },
       )
 
   -- a suspended stack stands as frames, whatever step a policy puts in between
-  pub stands : (Live : Configuration → Configuration → Type 0) → FramedCalls m s which frames → (top i : ℕ) (d f : Configuration) (us' : List Activation) (st : Stopped (setting (world_of k) top) i (f.here ∷ f.under) us')
+  pub stands : (Live : Configuration → Configuration → Type 0) → FramedCalls m s which frames
+      → (top i : ℕ) (d f : Configuration) (us' : List Activation) (st : Stopped (setting (world_of k) top) i (f.here ∷ f.under) us')
       → LinkedWaits k B A i d f → All (StandsNumbered m s which) (stack_of (Base m) d) → AllLocalsFit p us' → FlatStands (world_of k) Live (N.L k B A) (N.W k B A) (GoodStore k) top i d f us' st
   stands Live framed top i d f us' st l nums fit =
-      let r = stands_so m s which frames plan p valid tells em plan_fits codes framed top d.store.table i i (d.here ∷ d.under) (f.here ∷ f.under) us' st (pairs_at i d f l nums) (numbers_at i d f l nums) fit in
+      let r = stands_so m s which frames plan p valid tells em plan_fits codes framed top d.store.table i i (d.here ∷ d.under) (f.here ∷ f.under) us' st (pairs_at i d f l nums)
+      (numbers_at i d f l nums) fit in
       record { may = r.0; stand = r.1; weigh = r.2 }

@@ -86,8 +86,10 @@ slots_once : (m : Module) (f : Func) → StandOnce (SlotPairs m f)
 slots_once m f = stand_once (SlotPairs m f) (pairs_ascend (λ h t. Rattle.std.specs.List.list_any (stands_at h t) (func_points m f)) 0 (greatest (func_points m f)))
 
 module _ (m : Module) (s : Settings) (which : List Bool) (frames : (index : ℕ) → Framing) (p : Module) (valid : Valid m) (em : Emitted m s which frames p)
-    (a a' : Activation) (pr : PairAt (Base m) which a a') (table : List (Option ℕ)) (g : ℕ) (num : AtNumber m s which valid table g a) (more : List Value) (fit : LocalsFit p a.func ((a.locals ++ pr.extra) ++ more))
-    (keep : ℕ → Bool) (keeps_own : (y : ℕ) → y < length (locals_of m num.func) → keep y ≡ true) (stacked : All (λ y. keep y ≡ true) (slots (names (Base m) num.func) (types_of (a.taken ++ a.operands)))) where
+    (a a' : Activation) (pr : PairAt (Base m) which a a') (table : List (Option ℕ)) (g : ℕ) (num : AtNumber m s which valid table g a) (more : List Value)
+    (fit : LocalsFit p a.func ((a.locals ++ pr.extra) ++ more))
+    (keep : ℕ → Bool) (keeps_own : (y : ℕ) → y < length (locals_of m num.func) → keep y ≡ true)
+    (stacked : All (λ y. keep y ≡ true) (slots (names (Base m) num.func) (types_of (a.taken ++ a.operands)))) where
   abbrev b : Module
   b = Base m
 

@@ -22,7 +22,8 @@ use Rattle.flat_guards.proofs.WantedFields.{number_is}
 use Rattle.live_guards.specs.ByCallFraming.{FramesByCallAreLive, PartsKeepLive, framing_by_call}
 use Rattle.live_guards.specs.LiveFraming.{LiveFrame}
 
-module _ (m : Module) (s : Settings) (which : List Bool) (x : ℕ) (f : Func) (c : CallFrames) (h : PartsKeepLive m s which x f c) (k place : ℕ) (at : slice_get (Numbered m s which f) k ≡ Some place) where
+module _ (m : Module) (s : Settings) (which : List Bool) (x : ℕ) (f : Func) (c : CallFrames) (h : PartsKeepLive m s which x f c) (k place : ℕ)
+    (at : slice_get (Numbered m s which f) k ≡ Some place) where
   -- the function, and the frame of a call
   abbrev guards : Framing → GuardedFunc
   guards z = record {

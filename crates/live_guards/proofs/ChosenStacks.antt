@@ -52,7 +52,8 @@ callers_ranged m p which g _ _ (above_same {fn = fn} {under = under} {under' = u
 -- ---- the chosen stack
 
 -- it is one of a configuration that differs only there
-pub chosen_live : (s : Store) (a b : Activation) (us cs : List Activation) → SameUnder (a ∷ us) (b ∷ cs) → SameLive (record { store = s; here = a; under = us }) (record { store = s; here = b; under = cs })
+pub chosen_live : (s : Store) (a b : Activation) (us cs : List Activation) → SameUnder (a ∷ us) (b ∷ cs)
+    → SameLive (record { store = s; here = a; under = us }) (record { store = s; here = b; under = cs })
 chosen_live s _ _ _ _ (also same rest) = alike same rest
 
 pub chosen_count : (us cs : List Activation) → SameUnder us cs → length cs ≡ length us

@@ -57,7 +57,8 @@ own_types n cs own rest more size le e =
     (sym (append_assoc (types_of (take n cs)) (types_of (drop n cs)) more) ∙ ap (λ ts. ts ++ more) both ∙ e)
     (length-map (take n cs) type_of ∙ length-take-le n cs le ∙ size)
 
-module _ (m : Module) (s : Settings) (which : List Bool) (frames : (index : ℕ) → Framing) (plan : Plan) (p : Module) (valid : Valid m) (tells : TellsMayPause m s which) (em : Emitted m s which frames p)
+module _ (m : Module) (s : Settings) (which : List Bool) (frames : (index : ℕ) → Framing) (plan : Plan) (p : Module) (valid : Valid m) (tells : TellsMayPause m s which)
+    (em : Emitted m s which frames p)
     (plan_fits : P.Fits m plan) (codes : CodesIn (Base m)) (policy : s.policy ≡ save_live) (live : LiveFraming m s which frames) where
   abbrev k : Core
   k = core_of m s which frames plan p
@@ -94,15 +95,18 @@ module _ (m : Module) (s : Settings) (which : List Bool) (frames : (index : ℕ)
         let long = sm.size in
         let l = ap length pr.locals in
         let l2 = length-append a.locals pr.extra in
-        own_types (length a.locals) c.locals (locals_of (Base m) num.func) (map (λ (q : Pair). q.ty) (SlotPairs (Base m) num.func) ++ written.0) (types_of more) size (omega arith) (sym (map-append type_of c.locals more) ∙ fit.typed ∙ written.1)
+        own_types (length a.locals) c.locals (locals_of (Base m) num.func) (map (λ (q : Pair). q.ty) (SlotPairs (Base m) num.func) ++ written.0) (types_of more) size (omega arith)
+        (sym (map-append type_of c.locals more) ∙ fit.typed ∙ written.1)
 
     framed_back : (f : Func) → defined_at (Base m) a.func ≡ Some f
         → ((k.lay v).layout.fields ≡ fields_at (Base m) f (place_of (Some f) a.code a.labels)) × (types_of (take (length a.locals) c.locals) ≡ locals_of (Base m) f)
     framed_back f e =
         let same : num.func ≡ f = the_func num.func f (sym num.is ∙ e) in
-        subst (λ (z : Func). ((k.lay v).layout.fields ≡ fields_at (Base m) z (place_of (Some z) a.code a.labels)) × (types_of (take (length a.locals) c.locals) ≡ locals_of (Base m) z)) same (keeps_saved, typed_back)
+        subst (λ (z : Func). ((k.lay v).layout.fields ≡ fields_at (Base m) z (place_of (Some z) a.code a.labels)) × (types_of (take (length a.locals) c.locals) ≡ locals_of (Base m) z)) same
+        (keeps_saved, typed_back)
 
-  all_framed : (table : List (Option ℕ)) (g : ℕ) (us vs cs : List Activation) → AllPairs (Base m) which us vs → AllAtNumbers m s which valid table g us → AllSameFlat k.lay vs cs → AllMore p cs → AllFramed (Base m) k.lay us vs cs
+  all_framed : (table : List (Option ℕ)) (g : ℕ) (us vs cs : List Activation) → AllPairs (Base m) which us vs → AllAtNumbers m s which valid table g us → AllSameFlat k.lay vs cs → AllMore p cs
+      → AllFramed (Base m) k.lay us vs cs
   all_framed table g [] [] [] ps nums same more = tt
   all_framed table g [] [] (c ∷ cs) ps nums same more = absurd same
   all_framed table g [] (v ∷ vs) cs ps nums same more = absurd ps
@@ -118,7 +122,8 @@ module _ (m : Module) (s : Settings) (which : List Bool) (frames : (index : ℕ)
   -- ---- the original's stack is chosen anew
 
   -- a stack beside the one that came back, which differs from the suspended one only in locals that no path reads first
-  chosen_waits : (i : ℕ) (d f : Configuration) (a : Activation) (us cs : List Activation) → (l : LinkedWaits k B A i d f) → SameUnder (d.here ∷ d.under) cs → Callers (Base m) which i cs (a ∷ us) → AllMore p (a ∷ us)
+  chosen_waits : (i : ℕ) (d f : Configuration) (a : Activation) (us cs : List Activation) → (l : LinkedWaits k B A i d f) → SameUnder (d.here ∷ d.under) cs → Callers (Base m) which i cs (a ∷ us)
+      → AllMore p (a ∷ us)
       → WaitingFits k.flat l.flat_outs i (record { store = f.store; here = a; under = us }) → ConfigNamed (spaces_of k.flat) (record { store = f.store; here = a; under = us })
       → (chosen : Configuration) × SameLive d chosen × LinkedWaits k B A i chosen (record { store = f.store; here = a; under = us })
   chosen_waits i d f a us [] l live beside more fits named = let n = chosen_count (d.here ∷ d.under) [] live in absurd (omega arith)

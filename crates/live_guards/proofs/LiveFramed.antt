@@ -41,7 +41,8 @@ module _ (m : Module) (s : Settings) (which : List Bool) (frames : (index : ℕ)
         scratch = fr.scratch ∙ ap suc size;
         keep = λ y. true;
         fields =
-            fr.fields ∙ without_gaps (Saved m save_live f place) ∙ ap (λ z. fields_of (λ y. true) (Saved m z f place)) (sym policy) ∙ ap (fields_of (λ y. true)) (sym (base_saved m valid x f is s.policy place));
+            fr.fields ∙ without_gaps (Saved m save_live f place) ∙ ap (λ z. fields_of (λ y. true) (Saved m z f place)) (sym policy)
+            ∙ ap (fields_of (λ y. true)) (sym (base_saved m valid x f is s.policy place));
         own = λ y lt. refl;
         stacked = λ ops points. all_so (slots (names (Base m) f) ops);
         cost = omega arith;

@@ -231,7 +231,8 @@ module _ (m : Module) (s : Settings) (which : List Bool) (valid : Valid m) where
 pub asyncified_behaves : (m : Module) (s : Settings) (which : List Bool) → Valid m → FreeOfNames m → StrictSizeRule m → FewWritten m which → s.policy ≡ save_all → TellsMayPause m s which → Behaves m s (asyncified m s which)
 asyncified_behaves m s told valid free sizes few policy tells0 wf which tells plan os n cmp pauses =
     let em = emitted_so m s told valid free sizes few tells0 in
-    emitted_behave m s told (keep m s told valid) (asyncified m s told) valid (valid_law m s told valid free) (well_formed_in (asyncified m s told) (emitted_fits m s told valid wf sizes few)) policy tells0 em (all_keep_enough m s told valid) wf which tells plan os n cmp pauses
+    emitted_behave m s told (keep m s told valid) (asyncified m s told) valid (valid_law m s told valid free)
+    (well_formed_in (asyncified m s told) (emitted_fits m s told valid wf sizes few)) policy tells0 em (all_keep_enough m s told valid) wf which tells plan os n cmp pauses
 
 pub asyncified_law : AsyncifiedIsRewritten
 asyncified_law m s which valid free sizes few policy tells =
