@@ -39,14 +39,16 @@ use Rattle.stack_laws.proofs.SpotRuns.{base_globals, listed_typed, start_takes_n
 use Rattle.pause_laws.specs.RuntimeParts.{HasRuntime}
 use Rattle.flat_runs.specs.Beside.{Asked, Beside}
 use Rattle.headline_laws.specs.Emitted.{FirstStore, Whole}
-use Rattle.headline_laws.proofs.Headline.{headline_all}
+use Rattle.headline_laws.specs.LiveLaw.{LiveLaw}
+use Rattle.headline_laws.proofs.Headline.{headline}
+use Rattle.headline_laws.proofs.LiveSteps.{equal_lives}
 use Rattle.flat_links.specs.Core.{Core, CoreFits, table_in, world_of}
 use Rattle.flat_links.specs.Links.{GoodStore, L as Links, StandsLaw, W as WaitLinks}
 use Rattle.flat_links.proofs.Owed.{flat_law}
 use Rattle.flat_links.proofs.Spaces.{globals_same, sorts_same}
 use Rattle.flat_links.proofs.WrittenKnown.{Known, written_law}
 use Rattle.flat_guards.specs.CoreOf.{core_of}
-use Rattle.flat_guards.specs.Emitted.{Emitted}
+use Rattle.flat_guards.specs.Emitted.{Framing, Emitted}
 use Rattle.flat_guards.proofs.FlatSide.{beside_law}
 use Rattle.flat_guards.proofs.NumberedStacks.{space_of}
 use Rattle.flat_guards.proofs.PairedFlat.{core_fits, flattened_so, paired}
@@ -74,10 +76,10 @@ same_segments m = refl
 space_is : (m : Module) → func_space m ≡ length (func_sorts m)
 space_is m = refl
 
-module _ (m : Module) (s : Settings) (which : List Bool) (keep : (func local : ℕ) → Bool) (p : Module) (valid : Valid m) (written_valid : Valid p) (codes_in : CodesIn m) (written_codes : CodesIn p)
-    (tells : TellsMayPause m s which) (em : Emitted m s which keep p) (plan : Plan) (plan_fits : L.Fits m plan) where
+module _ (m : Module) (s : Settings) (which : List Bool) (frames : (index : ℕ) → Framing) (p : Module) (valid : Valid m) (written_valid : Valid p) (codes_in : CodesIn m) (written_codes : CodesIn p)
+    (tells : TellsMayPause m s which) (em : Emitted m s which frames p) (plan : Plan) (plan_fits : L.Fits m plan) where
   abbrev k : Core
-  k = core_of m s which keep plan p
+  k = core_of m s which frames plan p
 
   abbrev b : Module
   b = Base m
@@ -92,7 +94,7 @@ module _ (m : Module) (s : Settings) (which : List Bool) (keep : (func local : �
   base_in = base_codes m codes_in
 
   fit : CoreFits k
-  fit = core_fits m s which keep plan p valid tells em plan_fits base_in
+  fit = core_fits m s which frames plan p valid tells em plan_fits base_in
 
   free : FreeOfNames m
   free = exports_free m p em.exports written_valid
@@ -125,7 +127,7 @@ module _ (m : Module) (s : Settings) (which : List Bool) (keep : (func local : �
     parts = record {
       valid = valid;
       runtime = runtime;
-      paired = paired m s which keep plan p valid tells em plan_fits base_in;
+      paired = paired m s which frames plan p valid tells em plan_fits base_in;
       funcs = space_is m;
       least = (plan_fits.area).least;
     };
@@ -162,9 +164,14 @@ module _ (m : Module) (s : Settings) (which : List Bool) (keep : (func local : �
   area : AreaFits p plan.area
   area = fits_areas m p plan em.imports em.memories plan_fits
 
-  -- ALL FOUR FIELDS, from how stacks stand
+  -- ALL FOUR FIELDS, from how stacks stand and come back, whatever step a policy puts in between
+  pub says_with : (Live : Configuration → Configuration → Type 0) → LiveLaw (world_of k) Live (WaitLinks k B A) → StandsLaw k B A Live → (os : List Outcome) (n : ℕ) → Compared m s plan os n
+      → PausesNumbered m s which (Blocking m plan os n).events → BehavesOn m s p plan os n which (expected_notes m s plan os n)
+  says_with Live lives stands os n cmp pauses =
+      headline (world_of k) whole (Known p written_valid plan written_fits area typed written_codes) (written_law (world_of k) written_valid written_fits area typed written_codes) (GoodStore k) first
+      (Links k B A) (WaitLinks k B A) Live lives (flat_law k fit Live B A (beside_law (Base m) which k.flat (flattened_so m s which frames plan p valid tells em plan_fits base_in))
+      (paired m s which frames plan p valid tells em plan_fits base_in) stands) os n cmp pauses
+
+  -- with nothing in between
   pub says : StandsLaw k B A (λ c d. c ≡ d) → (os : List Outcome) (n : ℕ) → Compared m s plan os n → PausesNumbered m s which (Blocking m plan os n).events → BehavesOn m s p plan os n which (expected_notes m s plan os n)
-  says stands os n cmp pauses =
-      headline_all (world_of k) whole (Known p written_valid plan written_fits area typed written_codes) (written_law (world_of k) written_valid written_fits area typed written_codes) (GoodStore k) first
-      (Links k B A) (WaitLinks k B A) (flat_law k fit (λ c d. c ≡ d) B A (beside_law (Base m) which k.flat (flattened_so m s which keep plan p valid tells em plan_fits base_in))
-      (paired m s which keep plan p valid tells em plan_fits base_in) stands) os n cmp pauses
+  says stands os n cmp pauses = says_with (λ c d. c ≡ d) (equal_lives (world_of k) (WaitLinks k B A)) stands os n cmp pauses

@@ -7,7 +7,7 @@ use Rattle.std.proofs.lemmas.Option.{slice_get-map, slice_get_within}
 use Rattle.wa_types.specs.Base.{Base}
 use Rattle.wa_types.specs.Frames.{Pair, Saved, SlotPairs}
 use Rattle.wa_types.specs.Modules.{around, func_type_at, locals_of, type_at}
-use Rattle.wa_types.specs.Pausing.{Callee, Numbered, Settings, calls_in, calls_of, direct, has_number, indirect, places_from, save_all}
+use Rattle.wa_types.specs.Pausing.{Callee, Numbered, Settings, calls_in, calls_of, direct, has_number, indirect, places_from}
 use Rattle.wa_types.specs.Sizes.{value_fits}
 use Rattle.wa_types.specs.Syntax.{Code, Func, FuncType, Module}
 use Rattle.wa_types.specs.Typing.{type_of}
@@ -38,12 +38,11 @@ use Rattle.guard_form.proofs.Counting.{numbers_law, units_law}
 use Rattle.guard_form.proofs.Grouped.{free_law, joins_law}
 use Rattle.guard_frames.specs.Levels.{FlatFieldsFit}
 use Rattle.headline_laws.specs.FlatLaw.{LocalsFit}
-use Rattle.flat_guards.specs.Emitted.{Emitted, fields_of, guarded_of}
-use Rattle.flat_guards.proofs.KeptFields.{fields_fit, kept_reverse, kept_take, places_each, slot_kept, slots_kept, taken_is, typed_at}
+use Rattle.flat_guards.specs.Emitted.{Emitted, Framing, fields_of, guarded_of}
+use Rattle.flat_guards.proofs.KeptFields.{fields_fit, kept_reverse, kept_take, saved_each, saved_slot, slots_kept, taken_is, typed_at}
 use Rattle.flat_guards.proofs.NumberedCalls.{Took}
 use Rattle.flat_guards.proofs.NumberedStacks.{AtNumber}
 use Rattle.flat_guards.proofs.NumberedStmts.{flat_numbered}
-use Rattle.flat_guards.proofs.PairedFlat.{base_defined}
 use Rattle.flat_guards.proofs.PairedStacks.{PairAt}
 use Rattle.flat_guards.proofs.PlaceSlots.{args_of, slots_there}
 use Rattle.flat_guards.proofs.WrittenLocals.{written_locals}
@@ -66,7 +65,7 @@ the_func x y e = cc
 
 -- ---- one activation
 
-module _ (m : Module) (s : Settings) (which : List Bool) (keep : (func local : ℕ) → Bool) (p : Module) (valid : Valid m) (em : Emitted m s which keep p)
+module _ (m : Module) (s : Settings) (which : List Bool) (frames : (index : ℕ) → Framing) (p : Module) (valid : Valid m) (em : Emitted m s which frames p)
     (a a' : Activation) (pr : PairAt (Base m) which a a') (table : List (Option ℕ)) (g : ℕ) (num : AtNumber m s which valid table g a) (more : List Value) (fit : LocalsFit p a.func ((a.locals ++ pr.extra) ++ more)) where
   abbrev b : Module
   b = Base m
@@ -86,8 +85,8 @@ module _ (m : Module) (s : Settings) (which : List Bool) (keep : (func local : �
   abbrev all : List Value
   all = a.taken ++ a.operands
 
-  abbrev kept_fields : List Rattle.frame_laws.specs.Layout.FrameField
-  kept_fields = fields_of (keep a.func) (Saved (Base m) save_all num.func 0)
+  abbrev here : ℕ
+  here = place_of (Some num.func) a.code a.labels
 
   same_func : pr.func ≡ num.func
   same_func = the_func pr.func num.func (sym pr.is ∙ num.is)
@@ -100,7 +99,7 @@ module _ (m : Module) (s : Settings) (which : List Bool) (keep : (func local : �
 
   -- the flat locals have their types
   types_there : (rest : List ValType) × (types_of (zs ++ more) ≡ own ++ (map (λ (q : Pair). q.ty) pairs ++ rest))
-  types_there = let w = written_locals m s which keep p valid em a.func num.func fit.found num.is fit.is pr.told in (w.0, fit.typed ∙ w.1)
+  types_there = let w = written_locals m s which frames p valid em a.func num.func fit.found num.is fit.is pr.told in (w.0, fit.typed ∙ w.1)
 
   abbrev Fits : ℕ → ValType → Type 0
   Fits y t = (y < length zs) × (type_of (value_at zs y) ≡ t) × value_fits (value_at zs y)
@@ -127,16 +126,16 @@ module _ (m : Module) (s : Settings) (which : List Bool) (keep : (func local : �
       (ap (λ ts. slice_get ts (length own + k)) w.1 ∙ right_got own (map (λ (q : Pair). q.ty) pairs ++ w.0) k
       ∙ left_got (map (λ (q : Pair). q.ty) pairs) w.0 k q.ty (slice_get-map (λ (q : Pair). q.ty) pairs k ∙ ap (option_map (λ (q : Pair). q.ty)) e))
 
-  pub fields : FlatFieldsFit (a.locals ++ pr.extra) (fields_of (keep a.func) (Saved (Base m) save_all num.func 0))
-  fields = fields_fit (keep a.func) zs (Saved (Base m) save_all num.func 0) (places_each (λ q. (q.local < length zs) × (type_of (value_at zs q.local) ≡ q.ty) × value_fits (value_at zs q.local)) own pairs own_fits slot_fits)
+  -- what frames keep of the saved locals can be saved
+  pub fields : (keep : ℕ → Bool) → FlatFieldsFit (a.locals ++ pr.extra) (fields_of keep (Saved (Base m) s.policy num.func (place_of (Some num.func) a.code a.labels)))
+  fields keep = fields_fit keep zs (Saved (Base m) s.policy num.func here) (saved_each (λ q. Fits q.local q.ty) (Base m) s.policy num.func here own_fits slot_fits)
 
-  -- the slots of the operands are kept
-  pub keeps_slots : All (λ y. keep a.func y ≡ true) (slots (names (Base m) num.func) (types_of (a.taken ++ a.operands)))
-  keeps_slots =
-      (em.keeps a.func num.func (sym (base_defined m a.func) ∙ num.is) pr.told).stacked (place_of (Some num.func) a.code a.labels) (types_of (a.taken ++ a.operands)) num.listed num.points
-
-  pub all_kept : AllKept (slots (names (Base m) num.func) (types_of (a.taken ++ a.operands))) (fields_of (keep a.func) (Saved (Base m) save_all num.func 0))
-  all_kept = slots_kept (names b num.func) pr.extra (keep a.func) kept_fields all held.holds keeps_slots (λ k q e h. slot_kept (keep a.func) own pairs k q e h)
+  -- and the slots of the operands are among them
+  pub all_kept : (keep : ℕ → Bool) → All (λ y. keep y ≡ true) (slots (names (Base m) num.func) (types_of (a.taken ++ a.operands)))
+      → AllKept (slots (names (Base m) num.func) (types_of (a.taken ++ a.operands))) (fields_of keep (Saved (Base m) s.policy num.func (place_of (Some num.func) a.code a.labels)))
+  all_kept keep stacked =
+      slots_kept (names b num.func) pr.extra keep (fields_of keep (Saved (Base m) s.policy num.func here)) (types_of all)
+      (λ k q e stands h. saved_slot b s.policy num.func here keep (types_of all) k q num.points e stands h) all (λ h lt. refl) held.holds stacked
 
   -- the operands that the call took are those of its type
   pub took_args : length a.taken ≡ args_of (around (Base m) num.func) num.call
@@ -147,10 +146,11 @@ module _ (m : Module) (s : Settings) (which : List Bool) (keep : (func local : �
       by (indirect t) leads took = took ∙ ap (λ (z : FuncType). suc (length z.params)) (func_types_true (func_type_at (Base m) g) (type_at (Base m) t) leads.4)
 
   module _ (st k : ℕ) (call_slots : List ℕ) (x : Callee) (to : Option ℕ) (behind : Code) (rest : Units) (xs : List Enclosing)
-      (pl : BodyPlace st (guarded_of m s which keep a.func num.func) k (call_unit call_slots x to behind rest) xs)
-      (left : length (calls_of (set_to to (followed_by behind (flat_units rest)))) + calls_behind (flat_labels (guarded_of m s which keep a.func num.func) xs) ≡ call_count a.code + calls_outside a.labels) where
+      (pl : BodyPlace st (guarded_of m s which frames a.func num.func) k (call_unit call_slots x to behind rest) xs)
+      (left : length (calls_of (set_to to (followed_by behind (flat_units rest)))) + calls_behind (flat_labels (guarded_of m s which frames a.func num.func) xs)
+      ≡ call_count a.code + calls_outside a.labels) where
     abbrev gf : GuardedFunc
-    gf = guarded_of m s which keep a.func num.func
+    gf = guarded_of m s which frames a.func num.func
 
     abbrev test : Callee → Bool
     test = has_number m s which
@@ -178,7 +178,8 @@ module _ (m : Module) (s : Settings) (which : List Bool) (keep : (func local : �
 
     slots_are : call_slots ≡ reverse (take (length a.taken) (slots (names (Base m) num.func) (types_of (a.taken ++ a.operands))))
     slots_are =
-        let e = slots_there m s which keep a.func num.func (body_typed b (base_valid m valid) a.func num.func num.is) st k (place_of (Some num.func) a.code a.labels) call_slots x to behind rest xs (types_of all) pl number num.call num.at num.points in
+        let e = slots_there m s which frames a.func num.func (body_typed b (base_valid m valid) a.func num.func num.is) st k
+        (place_of (Some num.func) a.code a.labels) call_slots x to behind rest xs (types_of all) pl number num.call num.at num.points in
         let l = slots_long (names b num.func) (types_of all) in let l2 = length-map all type_of in let l3 = length-append a.taken a.operands in
         e ∙ ap (λ i. last_of i (reverse (slots (names b num.func) (types_of all)))) (sym took_args) ∙ last_reverse (length a.taken) (slots (names b num.func) (types_of all)) (omega arith)
 
@@ -188,10 +189,13 @@ module _ (m : Module) (s : Settings) (which : List Bool) (keep : (func local : �
         let l = slots_long (names b num.func) (types_of all) in let l2 = length-map all type_of in let l3 = length-append a.taken a.operands in
         ap length slots_are ∙ length-reverse (take (length a.taken) sl) ∙ length-take-le (length a.taken) sl (omega arith)
 
-    pub kept_slots : AllKept call_slots (fields_of (keep a.func) (Saved (Base m) save_all num.func 0))
-    kept_slots =
+    pub kept_slots : (keep : ℕ → Bool) → All (λ y. keep y ≡ true) (slots (names (Base m) num.func) (types_of (a.taken ++ a.operands)))
+        → AllKept call_slots (fields_of keep (Saved (Base m) s.policy num.func (place_of (Some num.func) a.code a.labels)))
+    kept_slots keep stacked =
         let sl = slots (names b num.func) (types_of all) in
-        subst (λ xs. AllKept xs kept_fields) (sym slots_are) (kept_reverse (take (length a.taken) sl) kept_fields (kept_take (length a.taken) sl kept_fields all_kept))
+        let fs = fields_of keep (Saved (Base m) s.policy num.func here) in
+        subst (λ xs. AllKept xs (fields_of keep (Saved (Base m) s.policy num.func here))) (sym slots_are)
+        (kept_reverse (take (length a.taken) sl) fs (kept_take (length a.taken) sl fs (all_kept keep stacked)))
 
     pub took : a.taken ≡ slot_values (a.locals ++ pr.extra) call_slots []
     took =

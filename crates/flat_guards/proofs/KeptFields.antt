@@ -5,12 +5,17 @@ use Rattle.std.specs.Prelude.{slice_get, if◌then◌else◌}
 use Rattle.std.proofs.lemmas.List.{length-map, length-reverse, reverse-append}
 use Rattle.std.proofs.lemmas.List.Elements.{All-head, All-tail}
 use Rattle.wa_types.specs.Encoding.{same_type}
-use Rattle.wa_types.specs.Frames.{Pair, Place, named_places, of_type, operand_at, same_pair, slot_places}
+use Rattle.wa_types.specs.Frames.{Pair, Place, Saved, SlotPairs, is_on_stack, is_type, named_places, of_type, operand_at, place_onto, same_pair, slot_places, stands_at}
+use Rattle.wa_types.specs.Liveness.{is_live_after}
+use Rattle.wa_types.specs.Modules.{locals_of}
+use Rattle.wa_types.specs.Pausing.{Policy, save_all, save_live}
+use Rattle.wa_types.specs.Points.{func_call_points}
 use Rattle.wa_types.specs.Sizes.{value_fits}
+use Rattle.wa_types.specs.Syntax.{Func, Module}
 use Rattle.wa_types.specs.Typing.{type_of}
 use Rattle.wa_types.specs.declared.values.ValType.{ValType}
 use Rattle.wa_types.specs.declared.values.Value.{Value}
-use Rattle.wa_types.proofs.SlotLemmas.{own_pair, same_true}
+use Rattle.wa_types.proofs.SlotLemmas.{own_pair, reverse_left, reverse_top, same_self, same_true}
 use Rattle.wa_model.specs.Fitting.{types_of}
 use Rattle.wa_model.specs.Store.{value_at}
 use Rattle.flat_laws.specs.Flatten.{Names, past, place, slots}
@@ -34,32 +39,42 @@ each_both : (P : Place → Type 0) (xs ys : List Place) → EachPlace P xs → E
 each_both P [] ys h k = k
 each_both P (x ∷ xs) ys h k = (h.0, each_both P xs ys h.1 k)
 
-named_each : (P : Place → Type 0) (x : ℕ) (ts : List ValType) → ((y : ℕ) (t : ValType) → slice_get ts y ≡ Some t → P (record { local = x + y; ty = t })) → EachPlace P (named_places (λ y. true) x ts)
-named_each P x [] h = tt
-named_each P x (t ∷ ts) h =
-    let z : x + 0 ≡ x = omega arith in (
-      subst (λ y. P (record { local = y; ty = t })) z (h 0 t refl),
-      named_each P (suc x) ts (λ y u e. let w : x + suc y ≡ suc x + y = omega arith in subst (λ y. P (record { local = y; ty = u })) w (h (suc y) u e)),
-    )
+-- a property of a place, if it is there
+each_onto : (P : Place → Type 0) (b : Bool) (x : ℕ) (t : ValType) (qs : List Place) → P (record { local = x; ty = t }) → EachPlace P qs → EachPlace P (place_onto b x t qs)
+each_onto P true x t qs p h = (p, h)
+each_onto P false x t qs p h = h
 
-slot_each : (P : Place → Type 0) (x : ℕ) (ps : List Pair) → ((k : ℕ) (p : Pair) → slice_get ps k ≡ Some p → P (record { local = x + k; ty = p.ty })) → EachPlace P (slot_places (λ p. true) x ps)
-slot_each P x [] h = tt
-slot_each P x (p ∷ ps) h =
-    let z : x + 0 ≡ x = omega arith in (
-      subst (λ y. P (record { local = y; ty = p.ty })) z (h 0 p refl),
-      slot_each P (suc x) ps (λ k q e. let w : x + suc k ≡ suc x + k = omega arith in subst (λ y. P (record { local = y; ty = q.ty })) w (h (suc k) q e)),
-    )
+named_each : (P : Place → Type 0) (test : ℕ → Bool) (x : ℕ) (ts : List ValType) → ((y : ℕ) (t : ValType) → slice_get ts y ≡ Some t → P (record { local = x + y; ty = t }))
+    → EachPlace P (named_places test x ts)
+named_each P test x [] h = tt
+named_each P test x (t ∷ ts) h =
+    let z : x + 0 ≡ x = omega arith in
+    each_onto P (test x) x t (named_places test (suc x) ts) (subst (λ y. P (record { local = y; ty = t })) z (h 0 t refl))
+    (named_each P test (suc x) ts (λ y u e. let w : x + suc y ≡ suc x + y = omega arith in subst (λ y. P (record { local = y; ty = u })) w (h (suc y) u e)))
 
--- all own locals and all slots
+slot_each : (P : Place → Type 0) (test : Pair → Bool) (x : ℕ) (ps : List Pair) → ((k : ℕ) (p : Pair) → slice_get ps k ≡ Some p → P (record { local = x + k; ty = p.ty }))
+    → EachPlace P (slot_places test x ps)
+slot_each P test x [] h = tt
+slot_each P test x (p ∷ ps) h =
+    let z : x + 0 ≡ x = omega arith in
+    each_onto P (test p) x p.ty (slot_places test (suc x) ps) (subst (λ y. P (record { local = y; ty = p.ty })) z (h 0 p refl))
+    (slot_each P test (suc x) ps (λ k q e. let w : x + suc k ≡ suc x + k = omega arith in subst (λ y. P (record { local = y; ty = q.ty })) w (h (suc k) q e)))
+
+-- the own locals and the slots that pass
+abbrev pub places_by : (ℕ → Bool) → (Pair → Bool) → List ValType → List Pair → List Place
+places_by test test_slot ts ps = named_places test 0 ts ++ slot_places test_slot (length ts) ps
+
+-- all of them
 abbrev pub all_places : List ValType → List Pair → List Place
-all_places ts ps = named_places (λ y. true) 0 ts ++ slot_places (λ p. true) (length ts) ps
+all_places ts ps = places_by (λ y. true) (λ p. true) ts ps
 
-pub places_each : (P : Place → Type 0) (ts : List ValType) (ps : List Pair) → ((y : ℕ) (t : ValType) → slice_get ts y ≡ Some t → P (record { local = y; ty = t }))
-    → ((k : ℕ) (p : Pair) → slice_get ps k ≡ Some p → P (record { local = length ts + k; ty = p.ty })) → EachPlace P (all_places ts ps)
-places_each P ts ps own slot =
-    each_both P (named_places (λ y. true) 0 ts) (slot_places (λ p. true) (length ts) ps)
-    (named_each P 0 ts (λ y t e. let z : y ≡ 0 + y = omega arith in subst (λ y. P (record { local = y; ty = t })) z (own y t e)))
-    (slot_each P (length ts) ps slot)
+pub places_each : (P : Place → Type 0) (test : ℕ → Bool) (test_slot : Pair → Bool) (ts : List ValType) (ps : List Pair)
+    → ((y : ℕ) (t : ValType) → slice_get ts y ≡ Some t → P (record { local = y; ty = t }))
+    → ((k : ℕ) (p : Pair) → slice_get ps k ≡ Some p → P (record { local = length ts + k; ty = p.ty })) → EachPlace P (places_by test test_slot ts ps)
+places_each P test test_slot ts ps own slot =
+    each_both P (named_places test 0 ts) (slot_places test_slot (length ts) ps)
+    (named_each P test 0 ts (λ y t e. let z : y ≡ 0 + y = omega arith in subst (λ y. P (record { local = y; ty = t })) z (own y t e)))
+    (slot_each P test_slot (length ts) ps slot)
 
 -- ---- fields
 
@@ -103,34 +118,56 @@ kept_here keep y t qs e = by (keep y) e
     by true e = inl refl
     by false e = cc
 
-kept_named : (keep : ℕ → Bool) (x : ℕ) (ts : List ValType) (ys : List Place) (i : ℕ) (t : ValType) → slice_get ts i ≡ Some t → keep (x + i) ≡ true → IsKept (x + i) (fields_of keep (named_places (λ y. true) x ts ++ ys))
-kept_named keep x [] ys i t e k = cc
-kept_named keep x (u ∷ ts) ys zero t e k =
-    let z : x ≡ x + 0 = omega arith in
-    subst (λ y. IsKept y (fields_of keep (record { local = x; ty = u } ∷ (named_places (λ y. true) (suc x) ts ++ ys)))) z (kept_here keep x u (named_places (λ y. true) (suc x) ts ++ ys) (ap keep z ∙ k))
-kept_named keep x (u ∷ ts) ys (suc i) t e k =
-    let z : suc x + i ≡ x + suc i = omega arith in
-    kept_later keep (x + suc i) (record { local = x; ty = u }) (named_places (λ y. true) (suc x) ts ++ ys)
-    (subst (λ y. IsKept y (fields_of keep (named_places (λ y. true) (suc x) ts ++ ys))) z (kept_named keep (suc x) ts ys i t e (ap keep z ∙ k)))
+-- behind a place that may be there
+kept_past : (keep : ℕ → Bool) (b : Bool) (y x : ℕ) (t : ValType) (ps ys : List Place) → IsKept y (fields_of keep (ps ++ ys)) → IsKept y (fields_of keep (place_onto b x t ps ++ ys))
+kept_past keep true y x t ps ys h = kept_later keep y (record { local = x; ty = t }) (ps ++ ys) h
+kept_past keep false y x t ps ys h = h
 
-kept_slot : (keep : ℕ → Bool) (x : ℕ) (ps : List Pair) (i : ℕ) (p : Pair) → slice_get ps i ≡ Some p → keep (x + i) ≡ true → IsKept (x + i) (fields_of keep (slot_places (λ p. true) x ps))
-kept_slot keep x [] i p e k = cc
-kept_slot keep x (q ∷ ps) zero p e k =
-    let z : x ≡ x + 0 = omega arith in
-    subst (λ y. IsKept y (fields_of keep (record { local = x; ty = q.ty } ∷ slot_places (λ p. true) (suc x) ps))) z (kept_here keep x q.ty (slot_places (λ p. true) (suc x) ps) (ap keep z ∙ k))
-kept_slot keep x (q ∷ ps) (suc i) p e k =
-    let z : suc x + i ≡ x + suc i = omega arith in
-    kept_later keep (x + suc i) (record { local = x; ty = q.ty }) (slot_places (λ p. true) (suc x) ps)
-    (subst (λ y. IsKept y (fields_of keep (slot_places (λ p. true) (suc x) ps))) z (kept_slot keep (suc x) ps i p e (ap keep z ∙ k)))
+-- at a place that is there
+kept_at : (keep : ℕ → Bool) (b : Bool) (x : ℕ) (t : ValType) (ps ys : List Place) → b ≡ true → keep x ≡ true → IsKept x (fields_of keep (place_onto b x t ps ++ ys))
+kept_at keep true x t ps ys e k = kept_here keep x t (ps ++ ys) k
+kept_at keep false x t ps ys e k = cc
 
--- an own local that is to be kept is
-pub own_kept : (keep : ℕ → Bool) (ts : List ValType) (ps : List Pair) (y : ℕ) (t : ValType) → slice_get ts y ≡ Some t → keep y ≡ true → IsKept y (fields_of keep (all_places ts ps))
-own_kept keep ts ps y t e k =
-    let z : 0 + y ≡ y = omega arith in subst (λ i. IsKept i (fields_of keep (all_places ts ps))) z (kept_named keep 0 ts (slot_places (λ p. true) (length ts) ps) y t e (ap keep z ∙ k))
+kept_named : (keep test : ℕ → Bool) (x : ℕ) (ts : List ValType) (ys : List Place) (i : ℕ) (t : ValType) → slice_get ts i ≡ Some t → test (x + i) ≡ true → keep (x + i) ≡ true
+    → IsKept (x + i) (fields_of keep (named_places test x ts ++ ys))
+kept_named keep test x [] ys i t e q k = cc
+kept_named keep test x (u ∷ ts) ys zero t e q k =
+    let z : x ≡ x + 0 = omega arith in
+    subst (λ y. IsKept y (fields_of keep (named_places test x (u ∷ ts) ++ ys))) z (kept_at keep (test x) x u (named_places test (suc x) ts) ys (ap test z ∙ q) (ap keep z ∙ k))
+kept_named keep test x (u ∷ ts) ys (suc i) t e q k =
+    let z : suc x + i ≡ x + suc i = omega arith in
+    kept_past keep (test x) (x + suc i) x u (named_places test (suc x) ts) ys
+    (subst (λ y. IsKept y (fields_of keep (named_places test (suc x) ts ++ ys))) z (kept_named keep test (suc x) ts ys i t e (ap test z ∙ q) (ap keep z ∙ k)))
+
+no_more : (ps : List Place) → ps ++ [] ≡ ps
+no_more [] = refl
+no_more (p ∷ ps) = ap (λ qs. p ∷ qs) (no_more ps)
+
+kept_slot : (keep : ℕ → Bool) (test : Pair → Bool) (x : ℕ) (ps : List Pair) (ys : List Place) (i : ℕ) (p : Pair) → slice_get ps i ≡ Some p → test p ≡ true → keep (x + i) ≡ true
+    → IsKept (x + i) (fields_of keep (slot_places test x ps ++ ys))
+kept_slot keep test x [] ys i p e q k = cc
+kept_slot keep test x (r ∷ ps) ys zero p e q k =
+    let z : x ≡ x + 0 = omega arith in
+    let same : r ≡ p = cc in
+    subst (λ y. IsKept y (fields_of keep (slot_places test x (r ∷ ps) ++ ys))) z (kept_at keep (test r) x r.ty (slot_places test (suc x) ps) ys (ap test same ∙ q) (ap keep z ∙ k))
+kept_slot keep test x (r ∷ ps) ys (suc i) p e q k =
+    let z : suc x + i ≡ x + suc i = omega arith in
+    kept_past keep (test r) (x + suc i) x r.ty (slot_places test (suc x) ps) ys
+    (subst (λ y. IsKept y (fields_of keep (slot_places test (suc x) ps ++ ys))) z (kept_slot keep test (suc x) ps ys i p e q (ap keep z ∙ k)))
+
+-- an own local that passes and is to be kept is
+pub own_kept : (keep test : ℕ → Bool) (test_slot : Pair → Bool) (ts : List ValType) (ps : List Pair) (y : ℕ) (t : ValType) → slice_get ts y ≡ Some t → test y ≡ true → keep y ≡ true
+    → IsKept y (fields_of keep (places_by test test_slot ts ps))
+own_kept keep test test_slot ts ps y t e q k =
+    let z : 0 + y ≡ y = omega arith in
+    subst (λ i. IsKept i (fields_of keep (places_by test test_slot ts ps))) z (kept_named keep test 0 ts (slot_places test_slot (length ts) ps) y t e (ap test z ∙ q) (ap keep z ∙ k))
 
 -- so is a slot
-pub slot_kept : (keep : ℕ → Bool) (ts : List ValType) (ps : List Pair) (k : ℕ) (p : Pair) → slice_get ps k ≡ Some p → keep (length ts + k) ≡ true → IsKept (length ts + k) (fields_of keep (all_places ts ps))
-slot_kept keep ts ps k p e h = kept_behind keep (length ts + k) (named_places (λ y. true) 0 ts) (slot_places (λ p. true) (length ts) ps) (kept_slot keep (length ts) ps k p e h)
+pub slot_kept : (keep test : ℕ → Bool) (test_slot : Pair → Bool) (ts : List ValType) (ps : List Pair) (k : ℕ) (p : Pair) → slice_get ps k ≡ Some p → test_slot p ≡ true → keep (length ts + k) ≡ true
+    → IsKept (length ts + k) (fields_of keep (places_by test test_slot ts ps))
+slot_kept keep test test_slot ts ps k p e q kk =
+    kept_behind keep (length ts + k) (named_places test 0 ts) (slot_places test_slot (length ts) ps)
+    (subst (λ qs. IsKept (length ts + k) (fields_of keep qs)) (no_more (slot_places test_slot (length ts) ps)) (kept_slot keep test_slot (length ts) ps [] k p e q kk))
 
 -- ---- a list of kept locals
 
@@ -234,22 +271,40 @@ module _ (n : Names) (extra : List Value) (keep : ℕ → Bool) where
       by None q = (λ h. tt, λ h. refl)
       by (Some v) q = by_type v (held_at ops holds ks p.number v q) (same_type (type_of v) p.ty) refl
 
--- the slots of operands are kept
-there_is : (ps : List Pair) (i : ℕ) → i < length ps → (p : Pair) × (slice_get ps i ≡ Some p)
-there_is [] i lt = absurd (omega arith)
-there_is (p ∷ ps) zero lt = (p, refl)
-there_is (p ∷ ps) (suc i) lt = there_is ps i (omega arith)
-
-pub slots_kept : (n : Names) (extra : List Value) (keep : ℕ → Bool) (fs : List FrameField) (ops : List Value) → Holds n extra ops → All (λ y. keep y ≡ true) (slots n (types_of ops))
-    → ((k : ℕ) (p : Pair) → slice_get n.slots k ≡ Some p → keep (n.first + k) ≡ true → IsKept (n.first + k) fs) → AllKept (slots n (types_of ops)) fs
-slots_kept n extra keep fs [] holds ks each = tt
-slots_kept n extra keep fs (w ∷ ops) holds ks each =
+-- the slots of operands are kept, where those are that hold an operand of this stack
+pub slots_kept : (n : Names) (extra : List Value) (keep : ℕ → Bool) (fs : List FrameField) (stack : List ValType)
+    → ((k : ℕ) (p : Pair) → slice_get n.slots k ≡ Some p → stands_at p.number p.ty stack ≡ true → keep (n.first + k) ≡ true → IsKept (n.first + k) fs) → (ops : List Value)
+    → ((h : ℕ) → h < length ops → slice_get (reverse stack) h ≡ slice_get (reverse (types_of ops)) h) → Holds n extra ops → All (λ y. keep y ≡ true) (slots n (types_of ops))
+    → AllKept (slots n (types_of ops)) fs
+slots_kept n extra keep fs stack each [] front holds ks = tt
+slots_kept n extra keep fs stack each (w ∷ ops) front holds ks =
     let i = place (length (types_of ops)) (type_of w) n.slots in
     let k0 : keep (n.first + place (length (types_of ops)) (type_of w) n.slots) ≡ true = All-head (λ y. keep y ≡ true) (n.first + place (length (types_of ops)) (type_of w) n.slots) (slots n (types_of ops)) ks in
     let l : length (types_of ops) ≡ length ops = length-map ops type_of in
     let within : place (length (types_of ops)) (type_of w) n.slots < length n.slots = subst (λ j. place j (type_of w) n.slots < length n.slots) (sym l) holds.0 in
-    let q = there_is n.slots i within in
-    (each i q.0 q.1 k0, slots_kept n extra keep fs ops holds.2 (All-tail (λ y. keep y ≡ true) (n.first + place (length (types_of ops)) (type_of w) n.slots) (slots n (types_of ops)) ks) each)
+    let top : slice_get (reverse stack) (length (types_of ops)) ≡ Some (type_of w) =
+    ap (slice_get (reverse stack)) l ∙ front (length ops) (omega arith) ∙ ap (slice_get (reverse (types_of (w ∷ ops)))) (sym l) ∙ reverse_top (type_of w) (types_of ops) in
+    let stands : stands_at (length (types_of ops)) (type_of w) stack ≡ true = ap (is_type (type_of w)) top ∙ same_self (type_of w) in (
+      each i (record { number = length (types_of ops); ty = type_of w }) (place_got (length (types_of ops)) (type_of w) n.slots within) stands k0,
+      slots_kept n extra keep fs stack each ops (λ h lt. front h (omega (arith, lt)) ∙ reverse_left (type_of w) (types_of ops) h (omega (arith, lt, l))) holds.2
+          (All-tail (λ y. keep y ≡ true) (n.first + place (length (types_of ops)) (type_of w) n.slots) (slots n (types_of ops)) ks),
+    )
+
+-- ---- the saved locals of a call
+
+-- each is an own local or a slot
+pub saved_each : (P : Place → Type 0) (m : Module) (policy : Policy) (f : Func) (at : ℕ) → ((y : ℕ) (t : ValType) → slice_get (locals_of m f) y ≡ Some t → P (record { local = y; ty = t }))
+    → ((k : ℕ) (p : Pair) → slice_get (SlotPairs m f) k ≡ Some p → P (record { local = length (locals_of m f) + k; ty = p.ty })) → EachPlace P (Saved m policy f at)
+saved_each P m save_all f at own slot = places_each P (λ y. true) (λ p. true) (locals_of m f) (SlotPairs m f) own slot
+saved_each P m save_live f at own slot = places_each P (is_live_after f at) (is_on_stack (slice_get (func_call_points m f) at)) (locals_of m f) (SlotPairs m f) own slot
+
+-- a slot of an operand on the stack is saved
+pub saved_slot : (m : Module) (policy : Policy) (f : Func) (at : ℕ) (keep : ℕ → Bool) (ops : List ValType) (k : ℕ) (p : Pair) → slice_get (func_call_points m f) at ≡ Some ops
+    → slice_get (SlotPairs m f) k ≡ Some p
+    → stands_at p.number p.ty ops ≡ true → keep (length (locals_of m f) + k) ≡ true → IsKept (length (locals_of m f) + k) (fields_of keep (Saved m policy f at))
+saved_slot m save_all f at keep ops k p points e stands kk = slot_kept keep (λ y. true) (λ p. true) (locals_of m f) (SlotPairs m f) k p e refl kk
+saved_slot m save_live f at keep ops k p points e stands kk =
+    slot_kept keep (is_live_after f at) (is_on_stack (slice_get (func_call_points m f) at)) (locals_of m f) (SlotPairs m f) k p e (ap (λ o. is_on_stack o p) points ∙ stands) kk
 
 -- ---- locals that have types
 

@@ -1,4 +1,5 @@
 pub mod Behaving
+pub mod CallPoints
 pub mod CallSlots
 pub mod CallWeights
 pub mod FlatSide
@@ -15,5 +16,6 @@ pub mod StackAgain
 pub mod Standing
 pub mod StandingAgain
 pub mod Staying
+pub mod WaitsAgain
 pub mod WantedFields
 pub mod WrittenLocals

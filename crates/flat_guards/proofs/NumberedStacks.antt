@@ -34,7 +34,7 @@ use Rattle.flat_links.specs.Core.{CoreFits, world_of}
 use Rattle.flat_links.specs.Links.{LinkedWaits}
 use Rattle.flat_links.proofs.Spaces.{func_type_same, funcs_are, grown_func_type}
 use Rattle.flat_guards.specs.CoreOf.{core_of}
-use Rattle.flat_guards.specs.Emitted.{Emitted}
+use Rattle.flat_guards.specs.Emitted.{Framing, Emitted}
 use Rattle.flat_guards.proofs.NumberedCalls.{Took, called_took, listed_passes}
 use Rattle.flat_guards.proofs.PairedFlat.{base_defined, core_fits}
 
@@ -108,18 +108,20 @@ space_of m = refl
 pub space_below : (m : Module) → Valid m → (x : ℕ) (f : Func) → defined_at (Base m) x ≡ Some f → x < func_space m
 space_below m valid x f e = subst (λ i. x < i) (space_of m) (defined_below (Base m) [] [] [] [] (valid_named (Base m) (base_valid m valid)) x f e)
 
-module _ (m : Module) (s : Settings) (which : List Bool) (keep : (func local : ℕ) → Bool) (plan : Plan) (p : Module) (valid : Valid m) (tells : TellsMayPause m s which) (em : Emitted m s which keep p)
+module _ (m : Module) (s : Settings) (which : List Bool) (frames : (index : ℕ) → Framing) (plan : Plan) (p : Module) (valid : Valid m) (tells : TellsMayPause m s which)
+    (em : Emitted m s which frames p)
     (plan_fits : L.Fits m plan) (codes : CodesIn (Base m)) (top : ℕ) where
-  abbrev fits : CoreFits (core_of m s which keep plan p)
-  fits = core_fits m s which keep plan p valid tells em plan_fits codes
+  abbrev fits : CoreFits (core_of m s which frames plan p)
+  fits = core_fits m s which frames plan p valid tells em plan_fits codes
 
   abbrev v : Setting
-  v = setting (world_of (core_of m s which keep plan p)) top
+  v = setting (world_of (core_of m s which frames plan p)) top
 
   -- the type of a function as the guards' laws have it
   params_same : (g : ℕ) → g < func_space m → param_count (func_type_at v.flat g) ≡ param_count (func_type_at (Base m) g)
   params_same g lt =
-      ap param_count (grown_func_type (core_of m s which keep plan p) fits g (subst (λ i. g < i) (sym (funcs_are (core_of m s which keep plan p) fits)) lt) ∙ func_type_same (core_of m s which keep plan p) fits g)
+      ap param_count (grown_func_type (core_of m s which frames plan p) fits g (subst (λ i. g < i) (sym (funcs_are (core_of m s which frames plan p) fits)) lt)
+      ∙ func_type_same (core_of m s which frames plan p) fits g)
 
   -- whatever such operands may have called has a number
   goes_numbered : (g : ℕ) (taken ops : List Value) (x c : Callee) (table : List (Option ℕ)) → g < func_space m → has_number m s which x ≡ true → LeadsTo (Base m) table x (taken ++ ops) g
@@ -138,8 +140,9 @@ module _ (m : Module) (s : Settings) (which : List Bool) (keep : (func local : �
   stack_numbered table g _ _ lt (above_same {fn = fn} told is under act) h = let e = (h.0).told in let bad : true ≡ false = ap is_told (sym e) ∙ told in cc
 
   -- THE NUMBERS of a stack that waits
-  pub numbers : (i : ℕ) (d f : Configuration) → LinkedWaits (core_of m s which keep plan p) (Beside (Base m) which) (Asked (Base m) which) i d f → All (StandsNumbered m s which) (stack_of (Base m) d) → AllNumbered v i (f.here ∷ f.under)
+  pub numbers : (i : ℕ) (d f : Configuration) → LinkedWaits (core_of m s which frames plan p) (Beside (Base m) which) (Asked (Base m) which) i d f
+      → All (StandsNumbered m s which) (stack_of (Base m) d) → AllNumbered v i (f.here ∷ f.under)
   numbers i d f l nums =
-      let few = Rattle.flat_links.proofs.Spaces.imports_few (core_of m s which keep plan p) fits in
+      let few = Rattle.flat_links.proofs.Spaces.imports_few (core_of m s which frames plan p) fits in
       let kn = l.known in
       stack_numbered d.store.table i (d.here ∷ d.under) (f.here ∷ f.under) (omega arith) l.beside.waits (at_numbers m s which valid d.store.table l.root i (d.here ∷ d.under) l.spots.waits l.stands.stack nums)

@@ -39,7 +39,7 @@ use Rattle.headline_laws.specs.World.{setting}
 use Rattle.flat_links.specs.Core.{Core, CoreFits, table_in, world_of}
 use Rattle.flat_links.proofs.Spaces.{grown_func_type}
 use Rattle.flat_guards.specs.CoreOf.{core_of}
-use Rattle.flat_guards.specs.Emitted.{Emitted, Guarded, Stays, WrittenAs, guarded_of, role_at}
+use Rattle.flat_guards.specs.Emitted.{Framing, Emitted, Guarded, Stays, WrittenAs, guarded_of, role_at}
 use Rattle.flat_guards.proofs.NumberedStmts.{flat_numbered, got_first, got_second}
 
 -- ---- lists
@@ -151,7 +151,8 @@ not_numbered m s which x f place c tells there untold at = by_callee c at
         by_ignore true e = ap Rattle.std.specs.Prelude.not e
         by_ignore false e = absurd (never (calls_indirectly x f place sort there at e))
 
-module _ (m : Module) (s : Settings) (which : List Bool) (keep : (func local : ℕ) → Bool) (plan : Plan) (p : Module) (valid : Valid m) (tells : TellsMayPause m s which) (em : Emitted m s which keep p)
+module _ (m : Module) (s : Settings) (which : List Bool) (frames : (index : ℕ) → Framing) (plan : Plan) (p : Module) (valid : Valid m) (tells : TellsMayPause m s which)
+    (em : Emitted m s which frames p)
     (plan_fits : L.Fits m plan) (codes : CodesIn (Base m)) where
   abbrev b : Module
   b = Base m
@@ -163,7 +164,7 @@ module _ (m : Module) (s : Settings) (which : List Bool) (keep : (func local : �
   test = has_number m s which
 
   abbrev w : Core
-  w = core_of m s which keep plan p
+  w = core_of m s which frames plan p
 
   pub flattened_so : Flattened (Base m) (flat_module (Base m) which) which
   flattened_so = valid_is_flattened (Base m) which (base_valid m valid)
@@ -180,7 +181,7 @@ module _ (m : Module) (s : Settings) (which : List Bool) (keep : (func local : �
   core_count = sym (length-map core.funcs (λ (f : Func). f.sort)) ∙ ap length core_sorts ∙ length-map m.funcs (λ (f : Func). f.sort)
 
   -- the links' side of the flat module
-  pub core_fits : CoreFits (core_of m s which keep plan p)
+  pub core_fits : CoreFits (core_of m s which frames plan p)
   core_fits = record {
     valid = valid;
     flat_valid = valid_stays b which (base_valid m valid);
@@ -214,7 +215,7 @@ module _ (m : Module) (s : Settings) (which : List Bool) (keep : (func local : �
         omega arith
 
     guarded_same : (x : ℕ) (f g g' : Func) → (g.body ≡ body_of (flattened b x f)) × (declared_locals g.locals ≡ declared_locals f.locals ++ extra_types b f) → func_type_at v.flat x ≡ type_at b f.sort
-        → Guarded m s which keep x f g' → v.role x ≡ with_guards (guarded_of m s which keep x f) → SameFunction v x g g'
+        → Guarded m s which frames x f g' → v.role x ≡ with_guards (guarded_of m s which frames x f) → SameFunction v x g g'
     guarded_same x f g g' h ty wr role =
         let ff = flattened b x f in
         let ps = Rattle.wa_types.specs.Pausing.Numbered m s which f in
@@ -232,7 +233,7 @@ module _ (m : Module) (s : Settings) (which : List Bool) (keep : (func local : �
         sized : {q a e u z : ℕ} → q ≡ a + e → u ≡ e → z ≡ a → z + u ≡ q
         sized h1 h2 h3 = omega arith
 
-    stays_same : (x : ℕ) (f g g' : Func) → g ≡ f → func_type_at v.flat x ≡ type_at b f.sort → Stays m s which keep f g' → v.role x ≡ as_is (length (locals_of m f)) f.body → SameFunction v x g g'
+    stays_same : (x : ℕ) (f g g' : Func) → g ≡ f → func_type_at v.flat x ≡ type_at b f.sort → Stays m s which frames f g' → v.role x ≡ as_is (length (locals_of m f)) f.body → SameFunction v x g g'
     stays_same x f g g' h ty wr role =
         let ps = (type_at b f.sort).params in
         let l1 = length-append ps (declared_locals f.locals) in
@@ -250,7 +251,8 @@ module _ (m : Module) (s : Settings) (which : List Bool) (keep : (func local : �
         sized h1 h2 h3 h4 = omega arith
 
     -- by whether it is told
-    same_func : (told : Bool) (x : ℕ) (f g g' : Func) → IsPlaced told b x f (Some g) → func_type_at v.flat x ≡ type_at b f.sort → WrittenAs m s which keep told x f g' → v.role x ≡ role_at m s which keep told x (Some f)
+    same_func : (told : Bool) (x : ℕ) (f g g' : Func) → IsPlaced told b x f (Some g) → func_type_at v.flat x ≡ type_at b f.sort → WrittenAs m s which frames told x f g'
+        → v.role x ≡ role_at m s which frames told x (Some f)
         → SameFunction v x g g'
     same_func true x f g g' h ty wr role = guarded_same x f g g' h ty wr role
     same_func false x f g g' h ty wr role = stays_same x f g g' (the_same g f h) ty wr role
@@ -275,11 +277,11 @@ module _ (m : Module) (s : Settings) (which : List Bool) (keep : (func local : �
         let within : x < length (func_sorts b) = subst (λ z. x < z) (sym (base_space m)) lt in
         let ty : func_type_at v.flat x ≡ type_at b (q.0).sort = grown_func_type w core_fits x (subst (λ ss. x < length ss) (sym (sorts_stay b which)) within) ∙ type_there x q.0 db within in
         same_func (is_told (slice_get which x)) x q.0 g g' (subst (λ o. IsPlaced (is_told (slice_get which x)) b x q.0 o) dc (flattened_so.placed x q.0 db)) ty
-        (subst (λ z. WrittenAs m s which keep (is_told (slice_get which z)) z q.0 g') x_is (em.written j q.0 g' q.1 eg')) (ap (λ o. role_at m s which keep (is_told (slice_get which x)) x o) dm)
+        (subst (λ z. WrittenAs m s which frames (is_told (slice_get which z)) z q.0 g') x_is (em.written j q.0 g' q.1 eg')) (ap (λ o. role_at m s which frames (is_told (slice_get which x)) x o) dm)
 
     -- ---- what functions call
 
-    role_calls : (x : ℕ) → (told : Bool) → is_told (slice_get which x) ≡ told → (o : Option Func) → defined_at m x ≡ o → RoleCalls (λ c. test c ≡ false) (role_at m s which keep told x o)
+    role_calls : (x : ℕ) → (told : Bool) → is_told (slice_get which x) ≡ told → (o : Option Func) → defined_at m x ≡ o → RoleCalls (λ c. test c ≡ false) (role_at m s which frames told x o)
     unfolding pruned
     role_calls x true e None q = tt
     role_calls x false e None q = tt
@@ -320,5 +322,5 @@ module _ (m : Module) (s : Settings) (which : List Bool) (keep : (func local : �
     }
 
   -- BOTH ARE PAIRED, whichever function the host calls
-  pub paired : (top : ℕ) → Paired (setting (world_of (core_of m s which keep plan p)) top)
+  pub paired : (top : ℕ) → Paired (setting (world_of (core_of m s which frames plan p)) top)
   paired top = paired_law (setting (world_of w) top) (differ top)

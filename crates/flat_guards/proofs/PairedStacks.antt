@@ -1,14 +1,14 @@
 -- A waiting activation of the original and its flat one: what they have in common at a call.
-use Rattle.std.proofs.Common.{◌≡◌, ℕ, ◌+◌, List, [], ◌∷◌, ◌++◌, length, Option, Some, None, Bool, true, false, refl, sym, ap, ◌∙◌, arith, length-append}
+use Rattle.std.proofs.Common.{◌≡◌, ℕ, ◌+◌, List, [], ◌∷◌, ◌++◌, length, Option, Some, None, Bool, true, false, refl, sym, ap, ◌∙◌, arith, length-append, suc, ◌-◌}
 use Rattle.std.specs.Prelude.{slice_get}
 use Rattle.wa_types.specs.declared.values.ValType.{ValType}
 use Rattle.wa_types.specs.declared.values.Value.{Value}
 use Rattle.wa_types.specs.Modules.{around, defined_at}
-use Rattle.wa_types.specs.Pausing.{calls_of, is_told}
+use Rattle.wa_types.specs.Pausing.{calls_of, is_told, Settings, calls_in}
 use Rattle.wa_types.specs.Pruned.{pruned}
-use Rattle.wa_types.specs.Syntax.{Code, Func, Module}
+use Rattle.wa_types.specs.Syntax.{Func, Module}
 use Rattle.wa_types.specs.Typing.{Around, listed}
-use Rattle.wa_model.specs.Configuration.{Activation, Label, call_count, calls_outside, waiting}
+use Rattle.wa_model.specs.Configuration.{Activation, Label, call_count, calls_outside, place_of}
 use Rattle.wa_model.specs.Configuration as C
 use Rattle.wa_model.specs.Fitting.{results_of, types_of}
 use Rattle.wa_model.specs.Flat.{code_of, result_got, set_to}
@@ -18,6 +18,10 @@ use Rattle.flat_fits.proofs.Calls.{calls_arrive, calls_flat, calls_set}
 use Rattle.flat_runs.specs.Beside.{AtZero, Callers, Labels, Locals, above, above_same, host, in_block, in_loop, outermost}
 use Rattle.flat_runs.proofs.WaitingCalls.{at_zero}
 use Rattle.guard_form.specs.Numbers.{calls_behind}
+use Rattle.wa_types.specs.Base.{Base}
+use Rattle.wa_model.specs.Plan.{Plan}
+use Rattle.flat_guards.specs.CoreOf.{call_place, core_of}
+use Rattle.flat_guards.specs.Emitted.{Framing}
 
 -- ---- how many calls stand behind
 
@@ -85,3 +89,10 @@ module _ (m : Module) (which : List Bool) where
     where
       clash : true ≡ false → ⊥
       clash e = cc
+
+-- The frame that stands for such a pair is that of the original's call.
+pub call_frame_is : (m : Module) (s : Settings) (which : List Bool) (frames : (index : ℕ) → Framing) (plan : Plan) (p : Module) (a a' : Activation) (pr : PairAt (Base m) which a a') (f : Func)
+    → defined_at m a.func ≡ Some f → (core_of m s which frames plan p).lay a' ≡ (frames a.func).frame_at (place_of (Some f) a.code a.labels)
+call_frame_is m s which frames plan p a a' pr f is =
+    ap (λ y. (frames y).frame_at (call_place (defined_at m y) a')) pr.same_func ∙ ap (λ o. (frames a.func).frame_at (call_place o a')) is
+    ∙ ap (λ i. (frames a.func).frame_at (length (calls_in f) - suc i)) pr.left

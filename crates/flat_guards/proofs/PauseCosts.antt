@@ -1,11 +1,11 @@
 -- What a pause costs in a guarded function of the emitted module, and that the module behaves like its original.
-use Rattle.std.proofs.Common.{◌≡◌, ℕ, suc, ◌+◌, ◌*◌, ◌≤◌, List, [], ◌∷◌, length, Bool, true, false, Some, refl, ap, subst, arith, length-append}
-use Rattle.std.specs.Prelude.{if◌then◌else◌}
+use Rattle.std.proofs.Common.{◌≡◌, ℕ, suc, ◌+◌, ◌*◌, ◌≤◌, List, [], ◌∷◌, length, Bool, true, false, Some, refl, ap, subst, arith, length-append, sym, ◌∙◌}
+use Rattle.std.specs.Prelude.{if◌then◌else◌, slice_get}
 use Rattle.wa_types.specs.Base.{Base}
 use Rattle.wa_types.specs.Bounds.{Weight}
 use Rattle.wa_types.specs.Frames.{Pair, Place, Saved, SlotPairs, named_places, slot_places}
 use Rattle.wa_types.specs.Modules.{defined_at, locals_of}
-use Rattle.wa_types.specs.Pausing.{Numbered, Settings, save_all}
+use Rattle.wa_types.specs.Pausing.{Numbered, Settings, save_all, is_told}
 use Rattle.wa_types.specs.Runtime.{global_space}
 use Rattle.wa_types.specs.Syntax.{Func, Module}
 use Rattle.wa_types.specs.Validity.{Valid}
@@ -13,20 +13,25 @@ use Rattle.wa_types.specs.declared.values.ValType.{ValType}
 use Rattle.wa_model.specs.Flat.{FlatFunc}
 use Rattle.flat_laws.specs.Flatten.{flattened}
 use Rattle.flat_laws.proofs.RuntimeModules.{base_flattened, base_slots}
-use Rattle.frame_laws.specs.Layout.{gap, kept, kept_count}
+use Rattle.frame_laws.specs.Layout.{gap, kept, kept_count, Layout}
 use Rattle.guard_form.specs.Bounds.{passing}
 use Rattle.guard_form.specs.Pieces.{first_piece, units}
 use Rattle.guard_sizes.specs.Rewritten.{KeepsFew}
 use Rattle.guard_sizes.proofs.Sizes.{small_law}
 use Rattle.range_laws.proofs.BlockingRuns.{base_codes, well_formed_in}
-use Rattle.flat_guards.specs.Emitted.{Emitted, fields_of, guarded_of, layout_of}
+use Rattle.flat_guards.specs.Emitted.{Emitted, fields_of, guarded_of, layout_of, AllKeepEnough, Framing, kept_frames, lay_at}
 use Rattle.flat_guards.specs.Laws.{EmittedBehaves}
 use Rattle.flat_guards.proofs.Behaving.{says}
 use Rattle.flat_guards.proofs.PairedFlat.{base_locals}
 use Rattle.flat_guards.proofs.StackAgain.{stacks_stand}
-use Rattle.flat_guards.proofs.Standing.{pause_cost}
 use Rattle.flat_guards.proofs.WrittenLocals.{index_of}
 use Rattle.slot_laws.proofs.Closed.{one_list}
+use Rattle.std.proofs.lemmas.Option.{slice_get_within, get_or_from_slice_get}
+use Rattle.frame_laws.proofs.OneFunction.{layout_codes}
+use Rattle.guard_form.specs.Functions.{GuardedFunc, indices_of}
+use Rattle.guard_form.specs.Guarded.{front}
+use Rattle.guard_frames.specs.Joined.{one_frame}
+use Rattle.flat_guards.specs.Framed.{Framed, FramedCalls, pause_cost}
 
 kept_few : (keep : ℕ → Bool) (qs : List Place) → kept_count (fields_of keep qs) ≤ length qs
 kept_few keep [] = omega arith
@@ -45,6 +50,9 @@ slot_count x [] = refl
 slot_count x (p ∷ ps) = ap suc (slot_count (suc x) ps)
 
 module _ (m : Module) (s : Settings) (which : List Bool) (keep : (func local : ℕ) → Bool) (valid : Valid m) where
+  abbrev frames : (index : ℕ) → Framing
+  frames = kept_frames m s which keep
+
   keeps_few : (x : ℕ) (f : Func) → defined_at m x ≡ Some f → KeepsFew m f (layout_of m s which keep x f)
   keeps_few x f is =
       let k = kept_few (keep x) (Saved (Base m) save_all f 0) in
@@ -55,7 +63,7 @@ module _ (m : Module) (s : Settings) (which : List Bool) (keep : (func local : �
       let q = ap length (base_slots m valid x f is) in
       omega arith
 
-  pub costs : (x : ℕ) (f : Func) → defined_at m x ≡ Some f → pause_cost (global_space m) (guarded_of m s which keep x f) (layout_of m s which keep x f) ≤ 112 * (Weight m f + 4)
+  costs : (x : ℕ) (f : Func) → defined_at m x ≡ Some f → pause_cost (global_space m) (guarded_of m s which frames x f) (one_frame (layout_of m s which keep x f)) ≤ 112 * (Weight m f + 4)
   costs x f is =
       let q = index_of m x f is in
       let ps = Numbered m s which f in
@@ -65,10 +73,37 @@ module _ (m : Module) (s : Settings) (which : List Bool) (keep : (func local : �
       ap (λ (z : FlatFunc). passing (first_piece ps 0 z.body) (units ps 0 z.body)) (base_flattened m valid x f is) in
       omega arith
 
+  module _ (keeps : AllKeepEnough m s which keep) (policy : s.policy ≡ save_all) where
+    one : (x : ℕ) (f : Func) → defined_at m x ≡ Some f → is_told (slice_get which x) ≡ true → (k place : ℕ) → slice_get (Numbered m s which f) k ≡ Some place → Framed m s which frames x f k place
+    one x f is told k place number =
+        let l : Layout = lay_at m s which keep x (defined_at m x) in
+        let gf : GuardedFunc = guarded_of m s which frames x f in
+        let same : layout_of m s which keep x f ≡ lay_at m s which keep x (defined_at m x) = sym (ap (lay_at m s which keep x) is) in
+        let enough = keeps x f is told in
+        let index : l.index ≡ length (flattened (Base m) x f).locals = sym (ap (λ (z : Layout). z.index) same) in
+        let scratch : l.scratch ≡ suc (length (flattened (Base m) x f).locals) = sym (ap (λ (z : Layout). z.scratch) same) in
+        record {
+          codes = layout_codes l (front (indices_of (global_space m) gf) 0 0 gf.first gf.body) gf.result k (λ e. let z : l.index ≡ l.scratch = e in omega arith);
+          address = sym (ap (λ (z : Layout). z.address) same);
+          index = index;
+          scratch = scratch;
+          keep = keep x;
+          fields = sym (ap (λ (z : Layout). z.fields) same) ∙ ap (λ z. fields_of (keep x) (Saved (Base m) z f place)) (sym policy);
+          own = enough.own;
+          stacked = λ ops points. enough.stacked place ops (k, slice_get_within (Numbered m s which f) k place number, get_or_from_slice_get (Numbered m s which f) k place place number) points;
+          cost = subst (λ (z : Layout). pause_cost (global_space m) (guarded_of m s which frames x f) (one_frame z) ≤ 112 * (Weight m f + 4)) same (costs x f is);
+        }
+
+    -- each call's frame is what is asked
+    pub kept_framed : FramedCalls m s which (kept_frames m s which keep)
+    kept_framed = one
+
 -- THE EMITTED MODULE BEHAVES like its original
 pub emitted_behave : EmittedBehaves
-emitted_behave m s told keep p valid written_valid written_codes policy tells0 em0 wf which tells plan os n cmp pauses =
-    let em = subst (λ w. Emitted m s w keep p) (one_list m s told which tells0 tells) em0 in
+emitted_behave m s told keep p valid written_valid written_codes policy tells0 em0 keeps0 wf which tells plan os n cmp pauses =
+    let same = one_list m s told which tells0 tells in
+    let em = subst (λ w. Emitted m s w (kept_frames m s w keep) p) same em0 in
+    let keeps = subst (λ w. AllKeepEnough m s w keep) same keeps0 in
     let codes = well_formed_in m wf in
-    says m s which keep p valid written_valid codes written_codes tells em plan cmp.fits
-    (stacks_stand m s which keep plan p valid tells em cmp.fits (base_codes m codes) policy (costs m s which keep valid)) os n cmp pauses
+    says m s which (kept_frames m s which keep) p valid written_valid codes written_codes tells em plan cmp.fits
+    (stacks_stand m s which keep plan p valid tells em cmp.fits (base_codes m codes) keeps (kept_framed m s which keep valid keeps policy)) os n cmp pauses

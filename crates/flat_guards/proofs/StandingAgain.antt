@@ -20,7 +20,7 @@ use Rattle.flat_laws.specs.Flatten.{Names, names, place, slots}
 use Rattle.flat_runs.specs.Beside.{Holds, Locals}
 use Rattle.flat_runs.proofs.Slots.{extra_got}
 use Rattle.frame_laws.specs.FrameMemory.{IsKept}
-use Rattle.flat_guards.specs.Emitted.{Emitted, fields_of}
+use Rattle.flat_guards.specs.Emitted.{AllKeepEnough, fields_of}
 use Rattle.flat_guards.proofs.KeptFields.{own_kept, slot_kept}
 use Rattle.flat_guards.proofs.NumberedStacks.{AtNumber}
 use Rattle.flat_guards.proofs.PairedFlat.{base_defined, base_locals}
@@ -31,13 +31,6 @@ same_front : (xs zs : List Value) → length xs ≤ length zs → ((y : ℕ) →
 same_front [] zs le h = refl
 same_front (x ∷ xs) [] le h = absurd (omega arith)
 same_front (x ∷ xs) (z ∷ zs) le h = ap (λ w. w ∷ zs) (h 0 (omega arith)) ∙ ap (λ ws. x ∷ ws) (same_front xs zs (omega arith) (λ y lt. h (suc y) (omega arith)))
-
-pub front_same : {X : Type 0} (xs ys us vs : List X) → xs ++ us ≡ ys ++ vs → length xs ≡ length ys → xs ≡ ys
-front_same [] [] us vs e l = refl
-front_same [] (y ∷ ys) us vs e l = absurd (omega arith)
-front_same (x ∷ xs) [] us vs e l = absurd (omega arith)
-front_same (x ∷ xs) (y ∷ ys) us vs e l =
-    let h : x ≡ y = cc in let t : xs ++ us ≡ ys ++ vs = cc in ap (λ z. z ∷ xs) h ∙ ap (λ zs. y ∷ zs) (front_same xs ys us vs t (omega arith))
 
 there_is : (ps : List Pair) (i : ℕ) → i < length ps → (p : Pair) × (slice_get ps i ≡ Some p)
 there_is [] i lt = absurd (omega arith)
@@ -60,7 +53,7 @@ holds_over n extra extra2 keep (w ∷ ops) holds ks each =
 
 -- ---- one activation
 
-module _ (m : Module) (s : Settings) (which : List Bool) (keep : (func local : ℕ) → Bool) (p : Module) (valid : Valid m) (em : Emitted m s which keep p)
+module _ (m : Module) (s : Settings) (which : List Bool) (keep : (func local : ℕ) → Bool) (valid : Valid m) (keeps : AllKeepEnough m s which keep)
     (a : Activation) (table : List (Option ℕ)) (g : ℕ) (num : AtNumber m s which valid table g a) (told : is_told (slice_get which a.func) ≡ true) (extra : List Value)
     (held : Locals (Base m) num.func a.locals extra (a.taken ++ a.operands)) (zs : List Value) (size : length zs ≡ length (a.locals ++ extra))
     (same : (y : ℕ) → IsKept y (fields_of (keep a.func) (Saved (Base m) save_all num.func 0)) → value_at zs y ≡ value_at (a.locals ++ extra) y) where
@@ -89,8 +82,8 @@ module _ (m : Module) (s : Settings) (which : List Bool) (keep : (func local : �
       let o = own_size in
       let t = got_type own y (omega arith) in
       let same_own : length (locals_of (Base m) num.func) ≡ length (locals_of m num.func) = ap length (base_locals m num.func) in
-      let k : keep a.func y ≡ true = (em.keeps a.func num.func is_defined told).own y (omega arith) in
-      same y (own_kept (keep a.func) own pairs y t.0 t.1 k) ∙ get_or_append_left a.locals extra (V.I32 0) y lt
+      let k : keep a.func y ≡ true = (keeps a.func num.func is_defined told).own y (omega arith) in
+      same y (own_kept (keep a.func) (λ x. true) (λ q. true) own pairs y t.0 t.1 refl k) ∙ get_or_append_left a.locals extra (V.I32 0) y lt
 
   -- own locals are as they were
   pub split : zs ≡ a.locals ++ extra2
@@ -98,12 +91,13 @@ module _ (m : Module) (s : Settings) (which : List Bool) (keep : (func local : �
 
   slot_same : (i : ℕ) (q : Pair) → slice_get pairs i ≡ Some q → keep a.func (length own + i) ≡ true → value_at extra2 i ≡ value_at extra i
   slot_same i q e k =
-      sym (extra_got a.locals extra2 (length own) i own_size) ∙ ap (λ ls. value_at ls (length own + i)) (sym split) ∙ same (length own + i) (slot_kept (keep a.func) own pairs i q e k) ∙ extra_got a.locals extra (length own) i own_size
+      sym (extra_got a.locals extra2 (length own) i own_size) ∙ ap (λ ls. value_at ls (length own + i)) (sym split)
+      ∙ same (length own + i) (slot_kept (keep a.func) (λ x. true) (λ q. true) own pairs i q e refl k) ∙ extra_got a.locals extra (length own) i own_size
 
   pub held_again : Locals (Base m) num.func a.locals extra2 (a.taken ++ a.operands)
   held_again = record {
     typed = held.typed;
     size = let l = length-append a.locals extra in let d = length-drop (length a.locals) zs in let h = held.size in omega arith;
     holds = holds_over (names (Base m) num.func) extra extra2 (keep a.func) (a.taken ++ a.operands) held.holds
-        ((em.keeps a.func num.func is_defined told).stacked (place_of (Some num.func) a.code a.labels) (types_of (a.taken ++ a.operands)) num.listed num.points) slot_same;
+        ((keeps a.func num.func is_defined told).stacked (place_of (Some num.func) a.code a.labels) (types_of (a.taken ++ a.operands)) num.listed num.points) slot_same;
   }

@@ -12,17 +12,18 @@ use Rattle.range_laws.proofs.BlockingRuns.{well_formed_in}
 use Rattle.flat_runs.specs.Beside.{Asked, Beside}
 use Rattle.flat_links.specs.Links.{StandsLaw}
 use Rattle.flat_guards.specs.CoreOf.{core_of}
+use Rattle.flat_guards.specs.Emitted.{Framing}
 use Rattle.flat_guards.specs.Laws.{StayingBehave}
 use Rattle.flat_guards.proofs.Behaving.{says}
 
-module _ (m : Module) (s : Settings) (which : List Bool) (keep : (func local : ℕ) → Bool) (p : Module) (plan : Plan) (stay : (x : ℕ) → is_told (slice_get which x) ≡ false) where
+module _ (m : Module) (s : Settings) (which : List Bool) (frames : (index : ℕ) → Framing) (p : Module) (plan : Plan) (stay : (x : ℕ) → is_told (slice_get which x) ≡ false) where
   never : (d : Configuration) → All (StandsNumbered m s which) (stack_of (Base m) d) → ⊥
   never d nums =
       let told = (All-head (StandsNumbered m s which) (suspended (Base m) d.here) (map (suspended (Base m)) d.under) nums).instrumented in
       let bad : true ≡ false = ap is_told (sym told) ∙ stay d.here.func in
       cc
 
-  pub none_stand : StandsLaw (core_of m s which keep plan p) (Beside (Base m) which) (Asked (Base m) which) (λ c d. c ≡ d)
+  pub none_stand : StandsLaw (core_of m s which frames plan p) (Beside (Base m) which) (Asked (Base m) which) (λ c d. c ≡ d)
   none_stand = record {
     numbers = λ top i d f l nums. absurd (never d nums);
     stands = λ top i d f us' st l nums fit. absurd (never d nums);
@@ -30,5 +31,5 @@ module _ (m : Module) (s : Settings) (which : List Bool) (keep : (func local : �
   }
 
 pub staying_behave : StayingBehave
-staying_behave m s which keep p valid written_valid wf written_codes tells stay em plan os n cmp pauses =
-    says m s which keep p valid written_valid (well_formed_in m wf) written_codes tells em plan cmp.fits (none_stand m s which keep p plan stay) os n cmp pauses
+staying_behave m s which frames p valid written_valid wf written_codes tells stay em plan os n cmp pauses =
+    says m s which frames p valid written_valid (well_formed_in m wf) written_codes tells em plan cmp.fits (none_stand m s which frames p plan stay) os n cmp pauses

@@ -1,13 +1,13 @@
 -- The fields of a frame hold what the definitions of a suspended stack want of it, and the call's number is the one they have.
-use Rattle.std.proofs.Common.{◌≡◌, ℕ, zero, suc, ◌+◌, ◌-◌, ◌<◌, ◌≤◌, List, [], ◌∷◌, ◌++◌, length, Option, Some, None, Bool, true, false, cond, refl, sym, ap, ◌∙◌, subst, arith, length-append, eq-eqb, ne_eqb}
+use Rattle.std.proofs.Common.{◌≡◌, ℕ, zero, suc, ◌+◌, ◌-◌, ◌<◌, ◌≤◌, List, [], ◌∷◌, ◌++◌, length, Option, Some, None, Bool, true, false, All, cond, refl, sym, ap, ◌∙◌, subst, arith, length-append, eq-eqb, ne_eqb}
 use Rattle.std.specs.Prelude.{slice_get, nat_lt, nat_eq, not, if◌then◌else◌}
-use Rattle.std.specs.List.{position, prefix_len}
+use Rattle.std.specs.List.{prefix_len}
 use Rattle.std.proofs.lemmas.List.{get_or_append_left}
 use Rattle.std.proofs.lemmas.Option.{slice_get_within}
 use Rattle.wa_types.specs.Base.{Base}
 use Rattle.wa_types.specs.Frames.{Pair, Place, Saved, SlotPairs, call_number, greatest, operand_at, stands_at, wanted}
 use Rattle.wa_types.specs.Modules.{defined_at, locals_of}
-use Rattle.wa_types.specs.Pausing.{Callee, Numbered, Policy, Settings, calls_in, has_number, places_from, save_all}
+use Rattle.wa_types.specs.Pausing.{Callee, Numbered, Settings, calls_in, has_number, places_from}
 use Rattle.wa_types.specs.Points.{func_points}
 use Rattle.wa_types.specs.Syntax.{Func, Module}
 use Rattle.wa_types.specs.Validity.{Valid}
@@ -15,18 +15,20 @@ use Rattle.wa_types.specs.declared.values.ValType.{ValType}
 use Rattle.wa_types.specs.declared.values.Value.{Value}
 use Rattle.wa_types.specs.declared.values.Value.TheVariants as V
 use Rattle.wa_model.specs.Configuration.{Activation, place_of, suspended}
+use Rattle.wa_model.specs.Fitting.{types_of}
 use Rattle.wa_model.specs.Store.{value_at}
 use Rattle.wa_model.proofs.Runs.{lt_false, lt_true}
-use Rattle.flat_laws.specs.Flatten.{names}
+use Rattle.flat_laws.specs.Flatten.{names, slots}
 use Rattle.flat_laws.proofs.RuntimeModules.{base_slots}
 use Rattle.flat_runs.proofs.Slots.{extra_got}
 use Rattle.frame_laws.specs.Suspended.{Lays, Tells}
 use Rattle.headline_laws.specs.FlatLaw.{LocalsFit}
 use Rattle.slot_laws.specs.SlotBounds.{StandOnce}
 use Rattle.slot_laws.proofs.Order.{pairs_ascend, stand_once}
-use Rattle.flat_guards.specs.Emitted.{Emitted, fields_of}
-use Rattle.flat_guards.proofs.FrameFacts.{held, keeps_slots, own_size}
-use Rattle.flat_guards.proofs.KeptFields.{LaysPlace, all_places, fields_lay, places_each, slot_lays}
+use Rattle.flat_guards.specs.Emitted.{Emitted, Framing, fields_of}
+use Rattle.flat_guards.proofs.CallPoints.{base_saved}
+use Rattle.flat_guards.proofs.FrameFacts.{held, own_size}
+use Rattle.flat_guards.proofs.KeptFields.{LaysPlace, fields_lay, saved_each, slot_lays}
 use Rattle.flat_guards.proofs.NumberedStacks.{AtNumber}
 use Rattle.flat_guards.proofs.PairedFlat.{base_defined, base_locals}
 use Rattle.flat_guards.proofs.PairedStacks.{PairAt}
@@ -83,11 +85,11 @@ clash false q r = cc
 slots_once : (m : Module) (f : Func) → StandOnce (SlotPairs m f)
 slots_once m f = stand_once (SlotPairs m f) (pairs_ascend (λ h t. Rattle.std.specs.List.list_any (stands_at h t) (func_points m f)) 0 (greatest (func_points m f)))
 
-saved_places : (m : Module) (policy : Policy) (f : Func) (place : ℕ) → policy ≡ save_all → Saved m policy f place ≡ all_places (locals_of m f) (SlotPairs m f)
-saved_places m policy f place e = ap (λ z. Saved m z f place) e
-
-module _ (m : Module) (s : Settings) (which : List Bool) (keep : (func local : ℕ) → Bool) (p : Module) (valid : Valid m) (em : Emitted m s which keep p) (policy : s.policy ≡ save_all)
-    (a a' : Activation) (pr : PairAt (Base m) which a a') (table : List (Option ℕ)) (g : ℕ) (num : AtNumber m s which valid table g a) (more : List Value) (fit : LocalsFit p a.func ((a.locals ++ pr.extra) ++ more)) where
+module _ (m : Module) (s : Settings) (which : List Bool) (frames : (index : ℕ) → Framing) (p : Module) (valid : Valid m) (em : Emitted m s which frames p)
+    (a a' : Activation) (pr : PairAt (Base m) which a a') (table : List (Option ℕ)) (g : ℕ) (num : AtNumber m s which valid table g a) (more : List Value)
+    (fit : LocalsFit p a.func ((a.locals ++ pr.extra) ++ more))
+    (keep : ℕ → Bool) (keeps_own : (y : ℕ) → y < length (locals_of m num.func) → keep y ≡ true)
+    (stacked : All (λ y. keep y ≡ true) (slots (names (Base m) num.func) (types_of (a.taken ++ a.operands)))) where
   abbrev b : Module
   b = Base m
 
@@ -109,24 +111,24 @@ module _ (m : Module) (s : Settings) (which : List Bool) (keep : (func local : �
   same_slots : SlotPairs (Base m) num.func ≡ SlotPairs m num.func
   same_slots = base_slots m valid a.func num.func is_defined
 
-  own_lays : (y : ℕ) (t : ValType) → slice_get own y ≡ Some t → LaysPlace (keep a.func) value (zs ++ more) (record { local = y; ty = t })
+  own_lays : (y : ℕ) (t : ValType) → slice_get own y ≡ Some t → LaysPlace keep value (zs ++ more) (record { local = y; ty = t })
   own_lays y t e =
       let lt = slice_get_within own y t e in
-      let o = own_size m s which keep p valid em a a' pr table g num more fit in
+      let o = own_size m s which frames p valid em a a' pr table g num more fit in
       let l = length-append a.locals pr.extra in
       let own_same : length (locals_of (Base m) num.func) ≡ length (locals_of m num.func) = ap length (base_locals m num.func) in
       let below : nat_lt y (length (locals_of m num.func)) ≡ true = lt_true y (length (locals_of m num.func)) (omega arith) in
       let wants : value (record { local = y; ty = t }) ≡ Some (value_at a.locals y) =
       ap (λ b. if b then slice_get a.locals y else operand_at (a.taken ++ a.operands) (slice_get (SlotPairs m num.func) (y - length (locals_of m num.func)))) below ∙ got_value a.locals y (omega arith) in
       let has : value_at (zs ++ more) y ≡ value_at a.locals y = get_or_append_left zs more (V.I32 0) y (omega arith) ∙ get_or_append_left a.locals pr.extra (V.I32 0) y (omega arith) in
-      let kept : keep a.func y ≡ true = (em.keeps a.func num.func is_defined pr.told).own y (omega arith) in
-      (λ k. subst (λ w. Tells w (value_at (zs ++ more) y)) (sym wants) has, λ k. absurd (clash (keep a.func y) kept k))
+      let kept : keep y ≡ true = keeps_own y (omega arith) in
+      (λ k. subst (λ w. Tells w (value_at (zs ++ more) y)) (sym wants) has, λ k. absurd (clash (keep y) kept k))
 
-  slots_lay : (k : ℕ) (q : Pair) → slice_get pairs k ≡ Some q → LaysPlace (keep a.func) value (zs ++ more) (record { local = length own + k; ty = q.ty })
+  slots_lay : (k : ℕ) (q : Pair) → slice_get pairs k ≡ Some q → LaysPlace keep value (zs ++ more) (record { local = length own + k; ty = q.ty })
   slots_lay k q e =
       let lt = slice_get_within pairs k q e in
-      let h = held m s which keep p valid em a a' pr table g num more fit in
-      let o = own_size m s which keep p valid em a a' pr table g num more fit in
+      let h = held m s which frames p valid em a a' pr table g num more fit in
+      let o = own_size m s which frames p valid em a a' pr table g num more fit in
       let size = h.size in
       let l = length-append a.locals pr.extra in
       let own_same : length (locals_of (Base m) num.func) ≡ length (locals_of m num.func) = ap length (base_locals m num.func) in
@@ -137,13 +139,15 @@ module _ (m : Module) (s : Settings) (which : List Bool) (keep : (func local : �
       ∙ ap (λ i. operand_at (a.taken ++ a.operands) (slice_get (SlotPairs m num.func) i)) index
       ∙ ap (λ ps. operand_at (a.taken ++ a.operands) (slice_get ps k)) (sym same_slots) ∙ ap (operand_at (a.taken ++ a.operands)) e in
       let has : value_at (zs ++ more) (length own + k) ≡ value_at pr.extra k = get_or_append_left zs more (V.I32 0) (length own + k) (omega arith) ∙ extra_got a.locals pr.extra (length own) k o in
-      let r = slot_lays (names b num.func) pr.extra (keep a.func) (a.taken ++ a.operands) h.holds (keeps_slots m s which keep p valid em a a' pr table g num more fit) (slots_once b num.func) k q e in
+      let r = slot_lays (names b num.func) pr.extra keep (a.taken ++ a.operands) h.holds stacked (slots_once b num.func) k q e in
       (λ kept. subst (λ w. Tells w (value_at (zs ++ more) (length own + k))) (sym wants) (subst (Tells (operand_at (a.taken ++ a.operands) (Some q))) (sym has) (r.0 kept)), λ gone. wants ∙ r.1 gone)
 
+  abbrev here : ℕ
+  here = place_of (Some num.func) a.code a.labels
+
   -- THE FIELDS stand for what is wanted
-  pub lays : Lays (wanted m num.func (suspended (Base m) a)) ((a.locals ++ pr.extra) ++ more) (fields_of (keep a.func) (Saved (Base m) save_all num.func 0)) (Saved m s.policy num.func (place_of (Some num.func) a.code a.labels))
+  pub lays : Lays (wanted m num.func (suspended (Base m) a)) ((a.locals ++ pr.extra) ++ more) (fields_of keep (Saved (Base m) s.policy num.func (place_of (Some num.func) a.code a.labels)))
+      (Saved m s.policy num.func (place_of (Some num.func) a.code a.labels))
   lays =
-      let same : Saved (Base m) save_all num.func 0 ≡ Saved m s.policy num.func (place_of (Some num.func) a.code a.labels) =
-      ap (λ ts. all_places ts pairs) (base_locals m num.func) ∙ ap (λ ps. all_places (locals_of m num.func) ps) same_slots ∙ sym (saved_places m s.policy num.func (place_of (Some num.func) a.code a.labels) policy) in
-      subst (Lays value (zs ++ more) (fields_of (keep a.func) (Saved (Base m) save_all num.func 0))) same
-      (fields_lay (keep a.func) value (zs ++ more) (Saved (Base m) save_all num.func 0) (places_each (LaysPlace (keep a.func) value (zs ++ more)) own pairs own_lays slots_lay))
+      subst (Lays value (zs ++ more) (fields_of keep (Saved (Base m) s.policy num.func here))) (base_saved m valid a.func num.func is_defined s.policy here)
+      (fields_lay keep value (zs ++ more) (Saved (Base m) s.policy num.func here) (saved_each (LaysPlace keep value (zs ++ more)) (Base m) s.policy num.func here own_lays slots_lay))

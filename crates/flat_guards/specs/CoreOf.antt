@@ -1,25 +1,30 @@
 -- An emitted module as a rewriting by way of flat code.
-use Rattle.std.specs.Prelude.{ℕ, List, Bool, slice_get}
+use Rattle.std.specs.Prelude.{ℕ, suc, ◌+◌, ◌-◌, List, length, Option, Some, None, Bool, slice_get}
 use Rattle.wa_types.specs.Base.{Base}
 use Rattle.wa_types.specs.Modules.{defined_at}
-use Rattle.wa_types.specs.Pausing.{Settings, has_number, is_told}
-use Rattle.wa_types.specs.Syntax.{Module}
+use Rattle.wa_types.specs.Pausing.{Settings, calls_in, calls_of, has_number, is_told}
+use Rattle.wa_types.specs.Syntax.{Func, Module}
 use Rattle.wa_model.specs.Configuration.{Activation}
 use Rattle.wa_model.specs.Plan.{Plan}
 use Rattle.flat_laws.specs.FlatModule.{flat_module}
 use Rattle.flat_links.specs.Core.{Core}
-use Rattle.flat_guards.specs.Emitted.{lay_at, role_at}
-use Rattle.guard_frames.specs.Joined.{one_frame}
+use Rattle.flat_guards.specs.Emitted.{Framing, role_at}
+use Rattle.guard_form.specs.Numbers.{calls_behind}
 
-abbrev pub core_of : Module → Settings → List Bool → (keep : (func local : ℕ) → Bool) → Plan → (written : Module) → Core
-core_of m s which keep plan p = record {
+-- The place of the call at which a flat activation waits: flattening keeps all calls of the original's pruned body, in their order.
+abbrev pub call_place : Option Func → Activation → ℕ
+call_place None a = 0
+call_place (Some f) a = length (calls_in f) - suc (length (calls_of a.code) + calls_behind a.labels)
+
+abbrev pub core_of : Module → Settings → List Bool → (frames : (index : ℕ) → Framing) → Plan → (written : Module) → Core
+core_of m s which frames plan p = record {
   original = m;
   settings = s;
   which = which;
   plan = plan;
   flat = flat_module (Base m) which;
   written = p;
-  role = λ x. role_at m s which keep (is_told (slice_get which x)) x (defined_at m x);
+  role = λ x. role_at m s which frames (is_told (slice_get which x)) x (defined_at m x);
   numbered = has_number m s which;
-  lay = λ (a : Activation). one_frame (lay_at m s which keep a.func (defined_at m a.func));
+  lay = λ (a : Activation). (frames a.func).frame_at (call_place (defined_at m a.func) a);
 }

@@ -1,5 +1,5 @@
--- The written module of one whose functions may pause, for the policy that saves all: each function that may pause is its flat
--- function with guards and frames, every other one stays, and the runtime's parts stand behind.
+-- The written module of one whose functions may pause: each function that may pause is its flat function with guards and frames,
+-- every other one stays, and the runtime's parts stand behind. How frames are written is given for each function.
 use Rattle.std.specs.Prelude.{◌≡◌, ℕ, suc, ◌+◌, ◌^◌, ◌<◌, ◌++◌, List, [], ◌∷◌, length, map, drop, Option, Some, None, Bool, true, false, All, Contains, slice_get, if◌then◌else◌}
 use Rattle.wa_types.specs.Base.{Base}
 use Rattle.wa_types.specs.Frames.{Place, Saved}
@@ -7,7 +7,7 @@ use Rattle.wa_types.specs.Modules.{declared_locals, defined_at, func_imports, lo
 use Rattle.wa_types.specs.Pausing.{Settings, Numbered, is_told, save_all}
 use Rattle.wa_types.specs.Points.{func_call_points}
 use Rattle.wa_types.specs.Runtime.{global_space, with_runtime}
-use Rattle.wa_types.specs.Syntax.{done, Func, Module}
+use Rattle.wa_types.specs.Syntax.{Code, done, Func, Module}
 use Rattle.wa_types.specs.declared.values.ValType.{ValType}
 use Rattle.wa_types.specs.declared.values.ValType.TheVariants.{I32, I64}
 use Rattle.wa_model.specs.Flat.{FlatFunc}
@@ -16,33 +16,25 @@ use Rattle.flat_laws.specs.Flatten.{flattened, names, slots}
 use Rattle.frame_laws.specs.Layout.{FrameField, kept, gap, Layout, save_code, restore_code}
 use Rattle.guard_form.specs.Functions.{GuardedFunc, Role, as_is, with_guards, written_code}
 use Rattle.guard_form.specs.Pieces.{first_piece, units}
+use Rattle.guard_frames.specs.Joined.{CallFrame, one_frame}
 
--- the saved locals that pass are kept, in the places of the others stand gaps
-abbrev pub fields_of : (ℕ → Bool) → List Place → List FrameField
-fields_of keep [] = []
-fields_of keep (p ∷ ps) = (if keep p.local then kept p.local p.ty else gap p.ty) ∷ fields_of keep ps
+-- How the frames of a function are written: the codes that restore and that save them, and the frame of the call at each place.
+pub record Framing : Type 0 where
+  pub restoring : Code
+  pub saving : Code
+  pub frame_at : (place : ℕ) → CallFrame
 
-module _ (m : Module) (s : Settings) (which : List Bool) (keep : (func local : ℕ) → Bool) where
+module _ (m : Module) (s : Settings) (which : List Bool) (frames : (index : ℕ) → Framing) where
   -- the flat function of this index
   abbrev pub flat_of : ℕ → Func → FlatFunc
   flat_of x f = flattened (Base m) x f
-
-  -- Its frames, the same for each call: the address stands behind the state's global, the call index and the scratch local behind the
-  -- flat locals.
-  abbrev pub layout_of : ℕ → Func → Layout
-  layout_of x f = record {
-    address = suc (global_space m);
-    index = length (flat_of x f).locals;
-    scratch = suc (length (flat_of x f).locals);
-    fields = fields_of (keep x) (Saved (Base m) save_all f 0);
-  }
 
   -- The flat function with guards around its numbered calls, and with the code of its frames.
   abbrev pub guarded_of : ℕ → Func → GuardedFunc
   guarded_of x f = record {
     size = length (flat_of x f).locals;
-    restoring = restore_code (layout_of x f) done;
-    saving = save_code (layout_of x f) done;
+    restoring = (frames x).restoring;
+    saving = (frames x).saving;
     result = (flat_of x f).result;
     first = first_piece (Numbered m s which f) 0 (flat_of x f).body;
     body = units (Numbered m s which f) 0 (flat_of x f).body;
@@ -53,10 +45,6 @@ module _ (m : Module) (s : Settings) (which : List Bool) (keep : (func local : �
   role_at told x None = as_is 0 done
   role_at true x (Some f) = with_guards (guarded_of x f)
   role_at false x (Some f) = as_is (length (locals_of m f)) f.body
-
-  abbrev pub lay_at : ℕ → Option Func → Layout
-  lay_at x None = record { address = 0; index = 0; scratch = 0; fields = [] }
-  lay_at x (Some f) = layout_of x f
 
   -- A function that is told, as it is written.
   pub record Guarded (x : ℕ) (f g : Func) : Type 0 where
@@ -74,12 +62,6 @@ module _ (m : Module) (s : Settings) (which : List Bool) (keep : (func local : �
   WrittenAs true x f g = Guarded x f g
   WrittenAs false x f g = Stays f g
 
-  -- Frames keep each parameter and declared local, and each slot of an operand that stands at a numbered call.
-  pub record KeepsEnough (x : ℕ) (f : Func) : Type 0 where
-    pub own : (y : ℕ) → y < length (locals_of m f) → keep x y ≡ true
-    pub stacked : (place : ℕ) (ops : List ValType) → Contains (Numbered m s which f) place → slice_get (func_call_points (Base m) f) place ≡ Some ops
-        → All (λ y. keep x y ≡ true) (slots (names (Base m) f) ops)
-
   -- p is such a module.
   pub record Emitted (p : Module) : Type 0 where
     pub types : p.types ≡ (with_runtime m).types
@@ -94,6 +76,43 @@ module _ (m : Module) (s : Settings) (which : List Bool) (keep : (func local : �
     pub runtime : drop (length m.funcs) p.funcs ≡ drop (length m.funcs) (with_runtime m).funcs
     pub sorts : map (λ (f : Func). f.sort) p.funcs ≡ map (λ (f : Func). f.sort) (with_runtime m).funcs
     pub written : (j : ℕ) (f g : Func) → slice_get m.funcs j ≡ Some f → slice_get p.funcs j ≡ Some g → WrittenAs (is_told (slice_get which (func_imports m + j))) (func_imports m + j) f g
-    pub keeps : (x : ℕ) (f : Func) → defined_at m x ≡ Some f → is_told (slice_get which x) ≡ true → KeepsEnough x f
     -- numbers are written as an i32
     pub few : (x : ℕ) (f : Func) → defined_at m x ≡ Some f → is_told (slice_get which x) ≡ true → length (Numbered m s which f) < 2 ^ 32
+
+-- ---- frames of one layout
+
+-- the saved locals that pass are kept, in the places of the others stand gaps
+abbrev pub fields_of : (ℕ → Bool) → List Place → List FrameField
+fields_of keep [] = []
+fields_of keep (p ∷ ps) = (if keep p.local then kept p.local p.ty else gap p.ty) ∷ fields_of keep ps
+
+-- one layout for all calls
+abbrev pub one_framing : Layout → Framing
+one_framing l = record { restoring = restore_code l done; saving = save_code l done; frame_at = λ place. one_frame l }
+
+-- Frames for the policy that saves all, where each function keeps these of its saved locals.
+module _ (m : Module) (s : Settings) (which : List Bool) (keep : (func local : ℕ) → Bool) where
+  -- The address stands behind the state's global, the call index and the scratch local behind the flat locals.
+  abbrev pub layout_of : ℕ → Func → Layout
+  layout_of x f = record {
+    address = suc (global_space m);
+    index = length (flattened (Base m) x f).locals;
+    scratch = suc (length (flattened (Base m) x f).locals);
+    fields = fields_of (keep x) (Saved (Base m) save_all f 0);
+  }
+
+  abbrev pub lay_at : ℕ → Option Func → Layout
+  lay_at x None = record { address = 0; index = 0; scratch = 0; fields = [] }
+  lay_at x (Some f) = layout_of x f
+
+  abbrev pub kept_frames : (index : ℕ) → Framing
+  kept_frames x = one_framing (lay_at x (defined_at m x))
+
+  -- They keep each parameter and declared local, and each slot of an operand that stands at a numbered call.
+  pub record KeepsEnough (x : ℕ) (f : Func) : Type 0 where
+    pub own : (y : ℕ) → y < length (locals_of m f) → keep x y ≡ true
+    pub stacked : (place : ℕ) (ops : List ValType) → Contains (Numbered m s which f) place → slice_get (func_call_points (Base m) f) place ≡ Some ops
+        → All (λ y. keep x y ≡ true) (slots (names (Base m) f) ops)
+
+  abbrev pub AllKeepEnough : Type 0
+  AllKeepEnough = (x : ℕ) (f : Func) → defined_at m x ≡ Some f → is_told (slice_get which x) ≡ true → KeepsEnough x f

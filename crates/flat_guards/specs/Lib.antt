@@ -1,3 +1,4 @@
 pub mod CoreOf
 pub mod Emitted
+pub mod Framed
 pub mod Laws

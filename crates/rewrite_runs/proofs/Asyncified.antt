@@ -39,7 +39,7 @@ use Rattle.flat_fits.proofs.Whole.{counted, meets}
 use Rattle.frame_laws.specs.Layout.{Layout, FrameField, restore_code, save_code}
 use Rattle.guard_form.specs.Functions.{GuardedFunc, with_guards, written_code}
 use Rattle.guard_form.specs.Pieces.{first_piece, units}
-use Rattle.flat_guards.specs.Emitted.{Emitted, KeepsEnough, WrittenAs, fields_of, guarded_of, layout_of}
+use Rattle.flat_guards.specs.Emitted.{Emitted, KeepsEnough, WrittenAs, fields_of, guarded_of, layout_of, AllKeepEnough, Framing, kept_frames, lay_at}
 use Rattle.flat_guards.proofs.KeptFields.{all_places}
 use Rattle.flat_guards.proofs.PairedFlat.{base_defined, base_locals, defined_by}
 use Rattle.flat_guards.proofs.PauseCosts.{emitted_behave}
@@ -105,6 +105,9 @@ module _ (m : Module) (s : Settings) (which : List Bool) (valid : Valid m) where
   abbrev pub keep : (func local : ℕ) → Bool
   keep x y = keep_of x (defined_at m x) y
 
+  abbrev frames : (index : ℕ) → Framing
+  frames = kept_frames m s which keep
+
   abbrev p : Module
   p = asyncified m s which
 
@@ -132,8 +135,10 @@ module _ (m : Module) (s : Settings) (which : List Bool) (valid : Valid m) where
     abbrev guards : FlatFunc → Layout → GuardedFunc
     guards z l = record { size = length z.locals; restoring = restore_code l done; saving = save_code l done; result = z.result; first = first_piece ps 0 z.body; body = units ps 0 z.body }
 
-    same_guarded : guarded_func m s which x f ≡ guarded_of m s which keep x f
-    same_guarded = ap (λ z. guards z (frame_layout m s which x f)) (sym same_flat) ∙ ap (guards (flattened (Base m) x f)) same_layout
+    same_guarded : guarded_func m s which x f ≡ guarded_of m s which frames x f
+    same_guarded =
+        ap (λ z. guards z (frame_layout m s which x f)) (sym same_flat) ∙ ap (guards (flattened (Base m) x f)) same_layout
+        ∙ ap (λ o. guards (flattened (Base m) x f) (lay_at m s which keep x o)) (sym is)
 
     abbrev types : List Pair → List ValType
     types qs = map (λ (q : Pair). q.ty) qs
@@ -178,20 +183,20 @@ module _ (m : Module) (s : Settings) (which : List Bool) (valid : Valid m) where
         let n = numbered_few (has_number m s which) 0 (calls_in f) in
         omega arith
 
-  written_as : (told_so : Bool) (x : ℕ) (f : Func) → defined_at m x ≡ Some f → is_told (slice_get which x) ≡ told_so → WrittenAs m s which keep told_so x f (emitted_func m s which x f)
+  written_as : (told_so : Bool) (x : ℕ) (f : Func) → defined_at m x ≡ Some f → is_told (slice_get which x) ≡ told_so → WrittenAs m s which frames told_so x f (emitted_func m s which x f)
   written_as true x f is e =
-      subst (WrittenAs m s which keep true x f) (sym (told m s which x f e))
+      subst (WrittenAs m s which frames true x f) (sym (told m s which x f e))
       (record { sort = refl; locals = same_locals x f is; body = ap (λ z. written_code (global_space m) (with_guards z)) (same_guarded x f is) })
-  written_as false x f is e = subst (WrittenAs m s which keep false x f) (sym (not_told m s which x f e)) (record { sort = refl; locals = refl; body = refl })
+  written_as false x f is e = subst (WrittenAs m s which frames false x f) (sym (not_told m s which x f e)) (record { sort = refl; locals = refl; body = refl })
 
   the_func : (x y : Func) → Some x ≡ Some y → x ≡ y
   the_func x y e = cc
 
-  written_at : (i : ℕ) (f g : Func) → slice_get m.funcs i ≡ Some f → slice_get p.funcs i ≡ Some g → WrittenAs m s which keep (is_told (slice_get which (func_imports m + i))) (func_imports m + i) f g
+  written_at : (i : ℕ) (f g : Func) → slice_get m.funcs i ≡ Some f → slice_get p.funcs i ≡ Some g → WrittenAs m s which frames (is_told (slice_get which (func_imports m + i))) (func_imports m + i) f g
   written_at i f g e e2 =
       let x = func_imports m + i in
       let same : emitted_func m s which x f ≡ g = the_func (emitted_func m s which x f) g (sym (emitted_at m s which i f e) ∙ e2) in
-      subst (WrittenAs m s which keep (is_told (slice_get which x)) x f) same (written_as (is_told (slice_get which x)) x f (defined_by m i f e) refl)
+      subst (WrittenAs m s which frames (is_told (slice_get which x)) x f) same (written_as (is_told (slice_get which x)) x f (defined_by m i f e) refl)
 
   abbrev sorts_in : List Func → List ℕ
   sorts_in fs = map (λ (f : Func). f.sort) fs
@@ -201,7 +206,7 @@ module _ (m : Module) (s : Settings) (which : List Bool) (valid : Valid m) where
       ap sorts_in (funcs_are m s which) ∙ map-append (λ (f : Func). f.sort) (inner m s which).funcs (runtime m s which) ∙ ap (λ ks. ks ++ sorts_in (runtime m s which)) (same_sorts m s which)
       ∙ sym (map-append (λ (f : Func). f.sort) m.funcs (runtime m s which)) ∙ ap sorts_in (sym (grown_funcs m))
 
-  pub emitted_so : FreeOfNames m → StrictSizeRule m → FewWritten m which → TellsMayPause m s which → Emitted m s which keep p
+  pub emitted_so : FreeOfNames m → StrictSizeRule m → FewWritten m which → TellsMayPause m s which → Emitted m s which (kept_frames m s which keep) (asyncified m s which)
   emitted_so free sizes few tells =
       let r = rewritten_law m s which valid free tells in
       record {
@@ -217,14 +222,17 @@ module _ (m : Module) (s : Settings) (which : List Bool) (valid : Valid m) where
         runtime = r.runtime;
         sorts = sorts_same;
         written = written_at;
-        keeps = λ x f is told. keeps x f is;
         few = λ x f is told. few_numbers x f is sizes (few x f is told);
       }
+
+  pub all_keep_enough : AllKeepEnough m s which keep
+  all_keep_enough x f is told = keeps x f is
 
 pub asyncified_behaves : (m : Module) (s : Settings) (which : List Bool) → Valid m → FreeOfNames m → StrictSizeRule m → FewWritten m which → s.policy ≡ save_all → TellsMayPause m s which → Behaves m s (asyncified m s which)
 asyncified_behaves m s told valid free sizes few policy tells0 wf which tells plan os n cmp pauses =
     let em = emitted_so m s told valid free sizes few tells0 in
-    emitted_behave m s told (keep m s told valid) (asyncified m s told) valid (valid_law m s told valid free) (well_formed_in (asyncified m s told) (emitted_fits m s told valid wf sizes few)) policy tells0 em wf which tells plan os n cmp pauses
+    emitted_behave m s told (keep m s told valid) (asyncified m s told) valid (valid_law m s told valid free)
+    (well_formed_in (asyncified m s told) (emitted_fits m s told valid wf sizes few)) policy tells0 em (all_keep_enough m s told valid) wf which tells plan os n cmp pauses
 
 pub asyncified_law : AsyncifiedIsRewritten
 asyncified_law m s which valid free sizes few policy tells =

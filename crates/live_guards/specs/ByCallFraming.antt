@@ -1,0 +1,38 @@
+-- Frames of parts that some calls keep, as frames of the policy `live`.
+use Rattle.std.specs.Prelude.{◌≡◌, ℕ, suc, ◌+◌, ◌*◌, ◌≤◌, List, length, Some, Bool, slice_get, unwrap_or}
+use Rattle.wa_types.specs.Bounds.{Weight}
+use Rattle.wa_types.specs.Frames.{call_number}
+use Rattle.wa_types.specs.Pausing.{Numbered, Settings}
+use Rattle.wa_types.specs.Runtime.{global_space}
+use Rattle.wa_types.specs.Syntax.{done, Func, Module}
+use Rattle.call_frames.specs.ByCall.{FramesTell}
+use Rattle.call_frames.specs.FrameParts.{CallFrames, layout_at, restore_bound, restoring_by_call, save_bound, saving_by_call}
+use Rattle.call_frames.specs.FrameParts as Parts
+use Rattle.flat_laws.specs.Flatten.{flattened}
+use Rattle.live_stacks.specs.LiveFrames.{fields_at}
+use Rattle.flat_guards.specs.Emitted.{Framing}
+use Rattle.live_guards.specs.LiveFraming.{LiveFrame}
+
+-- the codes of such frames; the frame at a place is that of its call's number
+abbrev pub framing_by_call : Module → Settings → List Bool → Func → CallFrames → Framing
+framing_by_call m s which f c = record {
+  restoring = restoring_by_call c done;
+  saving = saving_by_call c done;
+  frame_at = λ place. record { layout = layout_at c (unwrap_or (call_number m s which f place) 0); save_most = save_bound c; restore_most = restore_bound c };
+}
+
+-- The parts that a call keeps are in a row what the policy saves there, and the code is no larger than it may be.
+pub record PartsKeepLive (m : Module) (s : Settings) (which : List Bool) (x : ℕ) (f : Func) (c : CallFrames) : Type 0 where
+  pub tells : FramesTell c
+  pub count : length (Numbered m s which f) ≤ c.count
+  pub address : c.address ≡ suc (global_space m)
+  pub index : c.index ≡ length (flattened m x f).locals
+  pub scratch : c.scratch ≡ suc (length (flattened m x f).locals)
+  pub fields : (k place : ℕ) → slice_get (Numbered m s which f) k ≡ Some place → Parts.fields_at k c.parts ≡ fields_at m f place
+  pub cost : save_bound c + restore_bound c ≤ 64 * (Weight m f + 4)
+
+-- Such frames are what the policy `live` asks of frames.
+abbrev pub FramesByCallAreLive : Type 0
+FramesByCallAreLive =
+    (m : Module) (s : Settings) (which : List Bool) (frames : (index : ℕ) → Framing) (x : ℕ) (f : Func) (c : CallFrames) → frames x ≡ framing_by_call m s which f c → PartsKeepLive m s which x f c
+    → (k place : ℕ) → slice_get (Numbered m s which f) k ≡ Some place → LiveFrame m s which frames x f k place

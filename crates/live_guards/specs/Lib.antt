@@ -1,0 +1,3 @@
+pub mod ByCallFraming
+pub mod Laws
+pub mod LiveFraming
