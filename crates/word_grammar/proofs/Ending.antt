@@ -1,5 +1,6 @@
 -- The end of a command's words: what `clap` checks and fills in there, beside what the words spell.
-use Rattle.std.proofs.Common.{◌≡◌, ◌∙◌, ℕ, List, [], ◌∷◌, Option, Some, None, IfSome, option_map, Bool, true, false, not, ◌||◌, inl, inr, refl, sym, ap, subst, codes, if◌then◌else◌, is_some, true≢false, fold, option_and_then, slice_get}
+use Rattle.std.proofs.Common.{◌≡◌, ◌∙◌, ℕ, List, [], ◌∷◌, Option, Some, None, IfSome, option_map, Bool, true, false, not, ◌||◌, inl, inr, refl, sym, ap, subst, codes, if◌then◌else◌, is_some}
+use Rattle.std.proofs.Common.{true≢false, fold, option_and_then, slice_get}
 use Rattle.std.specs.Option.{option_map_or, option_or}
 use Rattle.clap.specs.Walk.{Row, Rule, Text, Walk, finished, first_of, has_row, is_empty, nothing_held, one_of, row_text, rows_after, settled, with_default}
 use Rattle.clap.specs.Facts.{explicit_source}

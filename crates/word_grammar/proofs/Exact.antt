@@ -1,12 +1,15 @@
 -- What `clap` makes of the words of a command line is what they spell.
-use Rattle.std.proofs.Common.{◌≡◌, ◌∙◌, ℕ, suc, List, [], ◌∷◌, Option, Some, None, option_map, Bool, true, false, ◌||◌, refl, sym, ap, subst, codes, cond, bytes_eq, if◌then◌else◌, is_some, map, string_bytes, String, slice_get, chars, length}
+use Rattle.std.proofs.Common.{◌≡◌, ◌∙◌, ℕ, suc, List, [], ◌∷◌, Option, Some, None, option_map, Bool, true, false, ◌||◌, refl, sym, ap, subst, codes, cond, bytes_eq, if◌then◌else◌, is_some, map}
+use Rattle.std.proofs.Common.{string_bytes, String, slice_get, chars, length}
 use Rattle.std.proofs.lemmas.Str.{IsUtf8-string_bytes}
 use Rattle.std.specs.Option.{option_map_or}
 use Rattle.clap.specs.Lexer.{long_of, short_of}
-use Rattle.clap.specs.Walk.{Held, Names, Text, Walk, finished, idle, nothing_held, rows_after, settled, subcommand_met, walk, walk_from, walked, value, Step, long_or_other, short_or_plain, subcommand_or_other, trailing, word_met}
+use Rattle.clap.specs.Walk.{Held, Names, Text, Walk, finished, idle, nothing_held, rows_after, settled, subcommand_met, walk, walk_from, walked, value, Step, long_or_other, short_or_plain}
+use Rattle.clap.specs.Walk.{subcommand_or_other, trailing, word_met}
 use Rattle.clap.specs.Simple.{App, Shape, built, entered, is_simple, names_of, subcommand_of}
 use Rattle.clap.specs.Kinds.{Kinds, or_else}
-use Rattle.clap.specs.Faults.{bundle_fault, bundle_step_fault, built_fault, check_fault, defaults_fault, entered_fault, fault_of, flag_word_fault, flags_fault, is_simple_and_free, other_fault, settle_fault, step_fault, turn_fault, walk_fault, word_fault}
+use Rattle.clap.specs.Faults.{bundle_fault, bundle_step_fault, built_fault, check_fault, defaults_fault, entered_fault, fault_of, flag_word_fault, flags_fault, is_simple_and_free, other_fault}
+use Rattle.clap.specs.Faults.{settle_fault, step_fault, turn_fault, walk_fault, word_fault}
 use Rattle.clap.specs.declared.error.kind.ErrorKind.TheVariants as kind
 use Rattle.clap.proofs.FaultLemmas.{stopped_fault}
 use Rattle.clap.proofs.WalkLemmas.{walk_stopped}
@@ -160,7 +163,8 @@ module _ (word : Text) (h : IsOther word) (no_end : bytes_eq word (codes "--") �
 
   short_first : long_of word ≡ None → (y : ℕ) (ys : Text) → short_of word ≡ Some (y ∷ ys) → (x : ℕ) → slice_get (chars (y ∷ ys)) 0 ≡ Some x → Fails word
   short_first none y ys e x first =
-      fault_fails (λ f. bundle_first (length ys) (y ∷ ys) x first (sym (first_fault None none ∙ ap (λ (o : Option Text). option_map_or (λ (flags : Text). bundle_fault [] false flags nothing_held) o []) e) ∙ f))
+      fault_fails (λ f. bundle_first (length ys) (y ∷ ys) x first
+      (sym (first_fault None none ∙ ap (λ (o : Option Text). option_map_or (λ (flags : Text). bundle_fault [] false flags nothing_held) o []) e) ∙ f))
 
   name_first : long_of word ≡ None → short_of word ≡ None → Fails word
   name_first none no_short f =

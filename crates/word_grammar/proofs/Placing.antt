@@ -17,7 +17,8 @@ is_owed idle = false
 is_owed _ = true
 
 -- the walk isn't behind `--imports`
-pub stands_at : (place : Place) (k : Kind) (s : Said) (rows : List Row) (pending : Option (Text × List Text)) → waits place ≡ idle → Settles k rows pending → Tells k s (whole k rows pending) → Ordered s
+pub stands_at : (place : Place) (k : Kind) (s : Said) (rows : List Row) (pending : Option (Text × List Text)) → waits place ≡ idle → Settles k rows pending → Tells k s (whole k rows pending)
+    → Ordered s
     → Stands place k s rows pending
 stands_at anywhere k s rows pending e settles tells ordered = (settles, tells, ordered)
 stands_at behind_imports k s rows pending e settles tells ordered = absurd (true≢false (ap is_owed e))
@@ -137,7 +138,8 @@ at_place run_words word s rows pending w settles tells ordered (Some input) (Som
 at_place gen_words word s rows pending w settles tells ordered (Some input) (Some output) i o = λ e. absurd (some_kind kind.UnknownArgument [] e)
 
 -- a word that goes to a place tells a file, or is one too many
-pub place_word : (k : Kind) (word : Text) (s : Said) (rows : List Row) (pending : Option (Text × List Text)) → waits s.place ≡ idle → Settles k rows pending → Tells k s (whole k rows pending) → Ordered s
+pub place_word : (k : Kind) (word : Text) (s : Said) (rows : List Row) (pending : Option (Text × List Text)) → waits s.place ≡ idle → Settles k rows pending → Tells k s (whole k rows pending)
+    → Ordered s
     → After k (tell_file k word s) (step_fault (shape k) (position s.input s.output) (held rows pending) value) (goes k (position s.input s.output) word s rows pending)
 place_word k word s rows pending w settles tells ordered =
     subst (λ o. After k o (step_fault (shape k) (position s.input s.output) (held rows pending) value) (goes k (position s.input s.output) word s rows pending)) (sym (tell_file_is k word s))

@@ -1,5 +1,6 @@
 -- What the rows of `clap`'s matches tell, by what the words have told.
-use Rattle.std.proofs.Common.{◌≡◌, ◌∙◌, List, [], ◌∷◌, ◌++◌, Option, Some, None, option_map, Bool, true, false, cond, not, ◌&&◌, ◌||◌, refl, sym, ap, subst, codes, bytes_eq, if◌then◌else◌, is_some, true≢false, find, fold, append-nil}
+use Rattle.std.proofs.Common.{◌≡◌, ◌∙◌, List, [], ◌∷◌, ◌++◌, Option, Some, None, option_map, Bool, true, false, cond, not, ◌&&◌, ◌||◌, refl, sym, ap, subst, codes, bytes_eq, if◌then◌else◌}
+use Rattle.std.proofs.Common.{is_some, true≢false, find, fold, append-nil}
 use Rattle.std.specs.Option.{option_or}
 use Rattle.std.proofs.lemmas.List.Folds.{find-append}
 use Rattle.clap.specs.Walk.{Row, Rule, Text, at_row, default_rows, has_row, more_values, reading_by, with_default, with_values, without}
@@ -236,7 +237,8 @@ is_any (x ∷ xs) = true
 
 -- an argument that was used may not come again
 pub repeated : (k : Kind) (slot : Slot) (earlier : Text) (s : Said) (rows : List Row) → said_at slot s ≡ Some earlier → Tells k s rows → or_else (repeat_fault false (id_of k slot) rows) [] ≡ [] → ⊥
-repeated k slot earlier s rows some tells e = true≢false (ap is_any (sym (ap (λ (b : Bool). or_else (if b && not false then kind.ArgumentConflict ∷ [] else []) []) (is_told k slot s rows tells (Some earlier) some)) ∙ e))
+repeated k slot earlier s rows some tells e =
+    true≢false (ap is_any (sym (ap (λ (b : Bool). or_else (if b && not false then kind.ArgumentConflict ∷ [] else []) []) (is_told k slot s rows tells (Some earlier) some)) ∙ e))
 
 -- ---- defaults
 
@@ -289,4 +291,5 @@ with_default_found id rows a = go (has_row a.id rows) refl
 pub finished_found : (id : Text) (c : List Rule) (rows : List Row) → found id (fold with_default rows c) ≡ option_or (found id rows) (defaults_at id c)
 finished_found id [] rows = sym (option_or_none (found id rows))
 finished_found id (a ∷ c) rows =
-    finished_found id c (with_default rows a) ∙ ap (λ (o : Option Row). option_or o (defaults_at id c)) (with_default_found id rows a) ∙ option_or_assoc (found id rows) (default_at id a) (defaults_at id c)
+    finished_found id c (with_default rows a) ∙ ap (λ (o : Option Row). option_or o (defaults_at id c)) (with_default_found id rows a)
+    ∙ option_or_assoc (found id rows) (default_at id a) (defaults_at id c)

@@ -11,7 +11,8 @@ use Rattle.word_grammar.specs.Grammar.{Kind, transform_words, host_words, run_wo
 use Rattle.word_grammar.proofs.Views.{View, is_end, is_list, is_imports, is_indirect, is_list_with, is_named, is_long, is_short, IsName, IsUnknown}
 use Rattle.word_grammar.proofs.Telling.{tell_at, tell_file, tell_list, tell_word}
 use Rattle.word_grammar.proofs.Rows.{Slot, list_slot, imports_slot, indirect_slot, input_slot, output_slot, same_slot, said_at, flag_text, Tells, taken, repeated}
-use Rattle.word_grammar.proofs.Steps.{After, HasFlags, Ordered, Owes, Settles, Stands, after_as, at_walk, first_passes, held, name_is, name_met, position, refused, shows, some_kind, trails, unknown_fails, waits, walk_of, whole}
+use Rattle.word_grammar.proofs.Steps.{After, HasFlags, Ordered, Owes, Settles, Stands, after_as, at_walk, first_passes, held, name_is, name_met, position, refused, shows, some_kind, trails}
+use Rattle.word_grammar.proofs.Steps.{unknown_fails, waits, walk_of, whole}
 use Rattle.word_grammar.proofs.Placing.{place_word, stands_at}
 
 -- what is pending fails so
@@ -73,7 +74,8 @@ idle_end : (k : Kind) (s : Said) (rows : List Row) (pending : Option (Text × Li
 unfolding walked
 idle_end k s rows pending settles tells ordered = (refl, rows, pending, refl, (settles, tells, ordered))
 
-idle_list : (k : Kind) (s : Said) (rows : List Row) (pending : Option (Text × List Text)) → Settles k rows pending → Tells k s (whole k rows pending) → Ordered s → Idly k s rows pending (codes "--imports")
+idle_list : (k : Kind) (s : Said) (rows : List Row) (pending : Option (Text × List Text)) → Settles k rows pending → Tells k s (whole k rows pending) → Ordered s
+    → Idly k s rows pending (codes "--imports")
 unfolding walked
 idle_list transform_words s rows pending settles tells ordered =
     (ap (λ (x : Kinds). or_else x []) settles, whole transform_words rows pending, Some (codes "imports", []), refl, (refl, tells, ordered))
@@ -92,7 +94,8 @@ idle_imports transform_words s rows pending settles tells ordered at = go s.igno
   where
     go : (b : Bool) → s.ignore_imports ≡ b → After transform_words (say_ignore_imports b s) (turn_fault (shape transform_words) [] (idle_walk s rows pending) (codes "--ignore-imports"))
         (walked (rules transform_words) [] (idle_walk s rows pending) (codes "--ignore-imports"))
-    go true e = λ f. absurd (second_fails (pends transform_words rows pending) (comes (codes "ignore-imports") (whole transform_words rows pending)) settles (repeated transform_words imports_slot (codes "true") s (whole transform_words rows pending) (ap flag_text e) tells) f)
+    go true e = λ f. absurd (second_fails (pends transform_words rows pending) (comes (codes "ignore-imports") (whole transform_words rows pending)) settles
+        (repeated transform_words imports_slot (codes "true") s (whole transform_words rows pending) (ap flag_text e) tells) f)
     go false e =
         let t : Said = record s { ignore_imports = true } in
         let new = added (codes "ignore-imports") (codes "true") (whole transform_words rows pending) in
@@ -114,7 +117,8 @@ idle_indirect transform_words s rows pending settles tells ordered at = go s.ign
   where
     go : (b : Bool) → s.ignore_indirect ≡ b → After transform_words (say_ignore_indirect b s) (turn_fault (shape transform_words) [] (idle_walk s rows pending) (codes "--ignore-indirect"))
         (walked (rules transform_words) [] (idle_walk s rows pending) (codes "--ignore-indirect"))
-    go true e = λ f. absurd (second_fails (pends transform_words rows pending) (comes (codes "ignore-indirect") (whole transform_words rows pending)) settles (repeated transform_words indirect_slot (codes "true") s (whole transform_words rows pending) (ap flag_text e) tells) f)
+    go true e = λ f. absurd (second_fails (pends transform_words rows pending) (comes (codes "ignore-indirect") (whole transform_words rows pending)) settles
+        (repeated transform_words indirect_slot (codes "true") s (whole transform_words rows pending) (ap flag_text e) tells) f)
     go false e =
         let t : Said = record s { ignore_indirect = true } in
         let new = added (codes "ignore-indirect") (codes "true") (whole transform_words rows pending) in
@@ -239,7 +243,8 @@ owing_name s rows word n tells ordered =
 owing_unknown : (s : Said) (rows : List Row) (word : Text) → IsUnknown word → HasFlags word → Owing s rows word
 owing_unknown s rows word h f =
     refused transform_words (tell_list word s) (turn_fault (shape transform_words) [] (owing_walk s rows) word) (walked (rules transform_words) [] (owing_walk s rows) word)
-    (ap (λ (b : Bool). if b then None else say_imports s.imports word s) h.listed) (unknown_fails transform_words rows (Some (codes "imports", [])) (option (codes "imports")) (position s.input s.output) word h f)
+    (ap (λ (b : Bool). if b then None else say_imports s.imports word s) h.listed)
+    (unknown_fails transform_words rows (Some (codes "imports", [])) (option (codes "imports")) (position s.input s.output) word h f)
 
 owing_step : (s : Said) (rows : List Row) (word : Text) → View word → Tells transform_words s rows → Ordered s → Owing s rows word
 owing_step s rows word (is_end e) tells ordered = subst (Owing s rows) (sym e) (owing_end s rows)

@@ -1,8 +1,10 @@
 -- One word of a command, as `clap`'s walk goes over it and as it tells something.
-use Rattle.std.proofs.Common.{◌≡◌, ◌⊎◌, ◌∙◌, ℕ, List, [], ◌∷◌, Option, Some, None, Bool, true, false, cond, ◌&&◌, ◌||◌, suc, inl, inr, refl, sym, ap, subst, codes, bytes_eq, if◌then◌else◌, is_some, true≢false, slice_get, chars, length, drop, encode_utf8}
+use Rattle.std.proofs.Common.{◌≡◌, ◌⊎◌, ◌∙◌, ℕ, List, [], ◌∷◌, Option, Some, None, Bool, true, false, cond, ◌&&◌, ◌||◌, suc, inl, inr, refl, sym, ap, subst, codes, bytes_eq, if◌then◌else◌}
+use Rattle.std.proofs.Common.{is_some, true≢false, slice_get, chars, length, drop, encode_utf8}
 use Rattle.std.specs.Option.{option_map_or}
 use Rattle.clap.specs.Lexer.{long_of, short_of}
-use Rattle.clap.specs.Walk.{Held, Row, Rule, Step, Text, Waiting, Walk, after_step, arg_by_long, arg_by_short, idle, long_or_other, option, plain_word, positional, settled_rows, short_or_plain, subcommand_met, subcommand_or_other, trailing, walked, word_met}
+use Rattle.clap.specs.Walk.{Held, Row, Rule, Step, Text, Waiting, Walk, after_step, arg_by_long, arg_by_short, idle, long_or_other, option, plain_word, positional, settled_rows, short_or_plain}
+use Rattle.clap.specs.Walk.{subcommand_met, subcommand_or_other, trailing, walked, word_met}
 use Rattle.clap.specs.Simple.{filled, with_index}
 use Rattle.clap.specs.Kinds.{Kinds, or_else}
 use Rattle.clap.specs.Faults.{bundle_fault, flag_word_fault, flags_fault, long_fault, other_fault, bundle_step_fault, short_fault, settle_fault, step_fault, turn_fault, word_fault}

@@ -1,8 +1,11 @@
 -- What the words of a command tell one after another, as `clap` goes over them: an option of another command, or one more
 -- file than the command takes, tells nothing at once, and the LIST `-` may stand in a word of its own.
-use Rattle.std.proofs.Common.{◌≡◌, ◌∙◌, ℕ, List, [], ◌∷◌, Option, Some, None, IfSome, option_map, Bool, true, false, not, ◌&&◌, refl, sym, ap, subst, codes, bytes_eq, if◌then◌else◌, is_some, true≢false}
+use Rattle.std.proofs.Common.{◌≡◌, ◌∙◌, ℕ, List, [], ◌∷◌, Option, Some, None, IfSome, option_map, Bool, true, false, not, ◌&&◌, refl, sym, ap, subst, codes, bytes_eq, if◌then◌else◌, is_some}
+use Rattle.std.proofs.Common.{true≢false}
 use Rattle.std.proofs.lemmas.Slice.Eq.{bytes_eq-Decides}
-use Rattle.wa_model.specs.Command.{Said, Place, anywhere, behind_imports, behind_options, Word, imports_word, ignore_imports_word, ignore_indirect_word, end_word, unknown_word, imports_with, name_word, word_of, is_hyphened, said, say_at, say_word, say_imports, say_ignore_imports, say_ignore_indirect, say_file, transform_said, transform_at, with_files, choice_said}
+use Rattle.wa_model.specs.Command.{Said, Place, anywhere, behind_imports, behind_options, Word, imports_word, ignore_imports_word, ignore_indirect_word, end_word, unknown_word, imports_with}
+use Rattle.wa_model.specs.Command.{name_word, word_of, is_hyphened, said, say_at, say_word, say_imports, say_ignore_imports, say_ignore_indirect, say_file, transform_said, transform_at}
+use Rattle.wa_model.specs.Command.{with_files, choice_said}
 use Rattle.wa_model.specs.Spelled.{Spelled, rewrites, hosts, runs, files_alone, is_plain, one_file, number_and_file}
 use Rattle.word_grammar.specs.Grammar.{Kind, transform_words, host_words, run_words, gen_words}
 
@@ -307,7 +310,8 @@ beyond_option gen_words other o h words = option_spells number_and_file words o 
 beyond_file : (k : Kind) → (spell : List ℕ → Spelled) → ((o : Option Said) → spells k o ≡ files_alone (one_file spell) o) → (s : Said) (name : List ℕ) (input output : Option (List ℕ))
     → s.input ≡ input → Agree k (say_file input output name s) (one_at_most input name s)
 beyond_file k spell is s name None output e = alike refl
-beyond_file k spell is s name (Some input) None e = beyond refl (λ words. is (said (Some (record s { output = Some name })) words) ∙ second_spells spell words (Some (record s { output = Some name })) (ap is_some e, refl))
+beyond_file k spell is s name (Some input) None e =
+    beyond refl (λ words. is (said (Some (record s { output = Some name })) words) ∙ second_spells spell words (Some (record s { output = Some name })) (ap is_some e, refl))
 beyond_file k spell is s name (Some input) (Some output) e = alike refl
 
 other_file : (k : Kind) → IsOther k → (name : List ℕ) (s : Said) → Agree k (say_file s.input s.output name s) (tell_file k name s)

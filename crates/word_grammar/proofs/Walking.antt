@@ -1,5 +1,6 @@
 -- All words of a command, as `clap`'s walk goes over them and as they tell something.
-use Rattle.std.proofs.Common.{◌≡◌, ◌⊎◌, ◌∙◌, ℕ, List, [], ◌∷◌, ◌++◌, Option, Some, None, Bool, true, false, not, ◌&&◌, inl, inr, refl, sym, ap, subst, codes, cond, if◌then◌else◌, is_some, true≢false, find, fold, unwrap_or, IsUtf8}
+use Rattle.std.proofs.Common.{◌≡◌, ◌⊎◌, ◌∙◌, ℕ, List, [], ◌∷◌, ◌++◌, Option, Some, None, Bool, true, false, not, ◌&&◌, inl, inr, refl, sym, ap, subst, codes, cond, if◌then◌else◌, is_some}
+use Rattle.std.proofs.Common.{true≢false, find, fold, unwrap_or, IsUtf8}
 use Rattle.std.specs.List.{list_all}
 use Rattle.std.specs.Option.{option_map_or}
 use Rattle.clap.specs.Walk.{Held, Row, Rule, Text, Walk, Waiting, arg_by_index, arg_by_long, idle, is_pending, takes_several, takes_values, value, walked}

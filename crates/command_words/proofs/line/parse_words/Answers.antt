@@ -12,4 +12,5 @@ returns-in-Ok c =
 
 pub returns-in-Err : goal.returns-in-Err
 returns-in-Err c =
-    parse_fails (app_of c.in_ok-line.line) (map string_bytes c.args.words.now) (all_text c.args.words.now) c.in_ok-line.ensures c.in-Err.error c.in-Err.ensures.kinds c.parse_fault.result c.parse_fault.ensures
+    parse_fails (app_of c.in_ok-line.line) (map string_bytes c.args.words.now) (all_text c.args.words.now) c.in_ok-line.ensures
+    c.in-Err.error c.in-Err.ensures.kinds c.parse_fault.result c.parse_fault.ensures
