@@ -1,2 +1,2 @@
-pub mod SaidWords
+mod Parsing
 mod WordCases

@@ -1,20 +1,18 @@
 -- The words of a command, of the program's values.
-use Rattle.std.specs.Prelude.{◌≡◌, ◌≤◌, List, ℕ, Option, Some, None, Result, Ok, Err}
+use Rattle.std.specs.Prelude.{◌≡◌, ◌≤◌, List, [], ◌∷◌, ℕ, Option, Some, None, Result, Ok, Err, codes}
 use Rattle.std.specs.Option.{option_map}
 use denote.Ref.{Bor}
 use Rattle.call_graph.specs.Settings.{settings_of}
 use Rattle.call_graph.specs.declared.settings.Policy.TheVariants.{All}
-use Rattle.wa_model.specs.Command.{transform, Said, Place, anywhere, behind_imports, behind_options, Word, imports_word, ignore_imports_word, ignore_indirect_word, end_word, unknown_word, imports_with, name_word}
+use Rattle.clap.specs.Simple.{Shape, new_shape, subcommand_rows_of}
+use Rattle.clap.specs.declared.parser.matches.ArgMatches.{ArgMatches}
+use Rattle.wa_model.specs.Command.{transform}
 use Rattle.wa_model.specs.Spelled.{Spelled, rewrites, hosts, runs, generates}
+use Rattle.word_grammar.specs.Grammar.{MatchesSpell, placed_rule}
 use Rattle.command_words.specs.declared.words.Command.{Command as CommandValue}
 use Rattle.command_words.specs.declared.words.Command.TheVariants.{Transform, Host, Run, Gen}
 use Rattle.command_words.specs.declared.words.WordsFault.{WordsFault}
 use Rattle.command_words.specs.declared.words.WordsFault.TheVariants.{Memory, Usage}
-use Rattle.command_words.specs.declared.said.Place.{Place as PlaceValue}
-use Rattle.command_words.specs.declared.said.Place.TheVariants.{Anywhere, BehindImports, BehindOptions}
-use Rattle.command_words.specs.declared.said.Said.{Said as SaidValue}
-use Rattle.command_words.specs.declared.said.Word.{Word as WordValue}
-use Rattle.command_words.specs.declared.said.Word.TheVariants.{Imports, ImportsWith, IgnoreImports, IgnoreIndirect, End, Name, Unknown}
 
 abbrev pub spelled_of : CommandValue → Spelled
 spelled_of (Transform settings input output) = rewrites (transform (settings_of settings) input.now output.now)
@@ -38,22 +36,15 @@ Reads view (Ok x) spelled = spelled ≡ Some (view x)
 Reads view (Err Memory) spelled = Unit {0}
 Reads view (Err Usage) spelled = spelled ≡ None
 
+-- What was parsed says what the words spell; `Usage` says that they spell nothing.
+abbrev pub Parses : Result ArgMatches WordsFault → Option Spelled → Type 0
+Parses (Ok matches) spelled = MatchesSpell (subcommand_rows_of matches) spelled
+Parses (Err Memory) spelled = Unit {0}
+Parses (Err Usage) spelled = spelled ≡ None
+
 abbrev pub text_of : Option (Bor (List ℕ)) → Option (List ℕ)
 text_of text = option_map (λ (t : Bor (List ℕ)). t.now) text
 
-abbrev pub place_of : PlaceValue → Place
-place_of Anywhere = anywhere
-place_of BehindImports = behind_imports
-place_of BehindOptions = behind_options
-
-abbrev pub said_of : SaidValue → Said
-said_of s = record { place = place_of s.place; imports = text_of s.imports; ignore_imports = s.ignore_imports; ignore_indirect = s.ignore_indirect; input = text_of s.input; output = text_of s.output }
-
-abbrev pub word_told : WordValue → Word
-word_told Imports = imports_word
-word_told (ImportsWith text) = imports_with text.now
-word_told IgnoreImports = ignore_imports_word
-word_told IgnoreIndirect = ignore_indirect_word
-word_told End = end_word
-word_told (Name text) = name_word text.now
-word_told Unknown = unknown_word
+-- the command of this name with a script
+abbrev pub script_shape : List ℕ → Shape
+script_shape name = record (new_shape name) { rules = placed_rule (codes "script") ∷ [] }

@@ -1,16 +1,17 @@
 // The words of the command line.
-ghost use Rattle.std.specs.Prelude.{◌≡◌, None, Some, false, map, IfOk};
-ghost use Rattle.std.specs.Option.{option_map};
+ghost use Rattle.std.specs.Prelude.{◌≡◌, Option, map, IfOk};
 ghost use Rattle.std.specs.String.{string_bytes};
-ghost use Rattle.call_graph.specs.Settings.{choice_of};
-ghost use Rattle.wa_model.specs.Command.{choice_said, command, transform_said, with_files};
-ghost use Rattle.wa_model.specs.Spelled.{rewrites, spelled};
-ghost use Rattle.command_words.specs.Words.{HasFewFunctions, Reads, SavesAll, said_of, spelled_of, text_of};
+ghost use Rattle.clap.specs.Words.{subcommand_rows_of};
+ghost use Rattle.wa_model.specs.Spelled.{Spelled, spelled};
+ghost use Rattle.word_grammar.specs.Grammar.{MatchesSpell};
+ghost use Rattle.command_words.specs.Words.{HasFewFunctions, Reads, SavesAll, spelled_of};
 
-use crate::files::{gen_words, one_file};
-use crate::said::{Place, Said, all_said};
-use call_graph::{Choice, ImportList, ListFault, Policy, Settings};
-use std::alloc::Global;
+use crate::files::{generate_from, script_from};
+use crate::line::parse_words;
+use crate::transforms::transform_from;
+use call_graph::Settings;
+use clap::ArgMatches;
+use std::alloc::{AllocError, Global};
 use thiserror::Error;
 
 /// A command, with its settings and the names of its files.
@@ -46,138 +47,48 @@ pub enum WordsFault {
     Usage,
 }
 
+impl From<AllocError> for WordsFault {
+    ghost use Rattle.std.specs.Prelude.{◌≡◌};
+    ghost use Rattle.command_words.specs.declared.words.WordsFault.TheVariants.{Memory};
+
+    ghost from_gives = { λ _ fault. fault ≡ Memory };
+
+    fn from(_error: AllocError) -> WordsFault {
+        WordsFault::Memory
+    }
+}
+
 /// The command that the words spell, if they spell one.
 pub fn read_words<'w>(alloc: Global, words: &'w [String]) -> Result<Command<'w>, WordsFault>
     ensures command { Reads spelled_of result (spelled (map string_bytes words.now)) }
     ensures policy { IfOk result SavesAll }
     ensures number { IfOk result HasFewFunctions }
 {
-    let [first, rest @ ..] = words else {
-        return Err(WordsFault::Usage);
-    };
-    if first.as_str() == "host" {
-        let script = one_file(rest)?;
-        return Ok(Command::Host { script });
-    }
-    if first.as_str() == "run" {
-        let script = one_file(rest)?;
-        return Ok(Command::Run { script });
-    }
-    if first.as_str() == "gen" {
-        return gen_words(rest);
-    }
-    transform_words(alloc, words)
-}
-
-fn transform_words(alloc: Global, words: &[String]) -> Result<Command<'_>, WordsFault>
-    ensures command { Reads spelled_of result (option_map rewrites (command (map string_bytes words.now))) }
-    ensures policy { IfOk result SavesAll }
-    ensures number { IfOk result HasFewFunctions }
-{
-    match words {
-        [] => Err(WordsFault::Usage),
-        [first, rest @ ..] => {
-            if first.as_str() != "transform" {
-                return Err(WordsFault::Usage);
-            }
-            match all_said(rest) {
-                None => Err(WordsFault::Usage),
-                Some(said) => transform_said(alloc, said),
-            }
-        }
-    }
-}
-
-/// The `transform` that the words have said, if that is one whole.
-fn transform_said(alloc: Global, said: Said<'_>) -> Result<Command<'_>, WordsFault>
-    ensures command { Reads spelled_of result (option_map rewrites (transform_said (Some (said_of said.entry)))) }
-    ensures policy { IfOk result SavesAll }
-    ensures number { IfOk result HasFewFunctions }
-{
-    match said.place {
-        Place::BehindImports => Err(WordsFault::Usage),
-        Place::Anywhere => with_choice(alloc, said),
-        Place::BehindOptions => with_choice(alloc, said),
-    }
-}
-
-fn with_choice(alloc: Global, said: Said<'_>) -> Result<Command<'_>, WordsFault>
-    ensures command { Reads spelled_of result (option_map rewrites (with_files (choice_said (text_of said.entry.imports) said.entry.ignore_imports) said.entry.ignore_indirect (text_of said.entry.input) (text_of said.entry.output))) }
-    ensures policy { IfOk result SavesAll }
-    ensures number { IfOk result HasFewFunctions }
-{
-    match choice_said(alloc, said.imports, said.ignore_imports) {
-        Ok(choice) => with_files(choice, said.ignore_indirect, said.input, said.output),
+    match parse_words(alloc, words) {
+        Ok(matches) => command_from(alloc, &matches),
         Err(fault) => Err(fault),
     }
 }
 
-/// What is listed by the two options of imports, of which one at most is given.
-fn choice_said(
-    alloc: Global,
-    imports: Option<&str>,
-    ignore_imports: bool,
-) -> Result<Choice, WordsFault>
-    ensures { Reads choice_of result (choice_said (text_of imports.entry) ignore_imports) }
-{
-    match imports {
-        None => Ok(plain_choice(ignore_imports)),
-        Some(text) => {
-            if ignore_imports {
-                return Err(WordsFault::Usage);
-            }
-            listed_choice(alloc, text)
-        }
-    }
-}
-
-fn plain_choice(ignore_imports: bool) -> Choice
-    ensures { choice_said None ignore_imports ≡ Some (choice_of result) }
-{
-    if ignore_imports {
-        Choice::Nobody
-    } else {
-        Choice::Every
-    }
-}
-
-fn listed_choice(alloc: Global, text: &str) -> Result<Choice, WordsFault>
-    ensures { Reads choice_of result (choice_said (Some text.now) false) }
-{
-    match ImportList::parse(alloc, text) {
-        Ok(list) => Ok(Choice::Listed(list)),
-        Err(ListFault::Memory) => Err(WordsFault::Memory),
-        Err(ListFault::EmptyEntry) => Err(WordsFault::Usage),
-        Err(ListFault::NoDot) => Err(WordsFault::Usage),
-        Err(ListFault::StarInside) => Err(WordsFault::Usage),
-    }
-}
-
-/// A frame saves all locals.
-fn with_files<'w>(
-    choice: Choice,
-    ignore_indirect: bool,
-    input: Option<&'w str>,
-    output: Option<&'w str>,
-) -> Result<Command<'w>, WordsFault>
-    ensures command { Reads spelled_of result (option_map rewrites (with_files (Some (choice_of choice)) ignore_indirect (text_of input.entry) (text_of output.entry))) }
+/// The command that was met, with what the words say of it.
+fn command_from<'w>(alloc: Global, matches: &ArgMatches<'w>) -> Result<Command<'w>, WordsFault>
+    ensures command { (spelling : Option Spelled) → MatchesSpell (subcommand_rows_of matches.now) spelling → Reads spelled_of result spelling }
     ensures policy { IfOk result SavesAll }
     ensures number { IfOk result HasFewFunctions }
 {
-    let Some(input) = input else {
-        return Err(WordsFault::Usage);
-    };
-    let Some(output) = output else {
-        return Err(WordsFault::Usage);
-    };
-    let settings = Settings {
-        choice,
-        ignore_indirect,
-        policy: Policy::All,
-    };
-    Ok(Command::Transform {
-        settings,
-        input,
-        output,
-    })
+    if let Some(matches) = matches.subcommand_matches("transform") {
+        return transform_from(alloc, matches);
+    }
+    if let Some(matches) = matches.subcommand_matches("host") {
+        let script = script_from(matches)?;
+        return Ok(Command::Host { script });
+    }
+    if let Some(matches) = matches.subcommand_matches("run") {
+        let script = script_from(matches)?;
+        return Ok(Command::Run { script });
+    }
+    match matches.subcommand_matches("gen") {
+        Some(matches) => generate_from(matches),
+        None => Err(WordsFault::Usage),
+    }
 }

@@ -1,0 +1,126 @@
+// The command line as one command of `clap` with one level of subcommands.
+ghost use Rattle.std.specs.Prelude.{◌≡◌, IfOk, false, map, codes};
+ghost use Rattle.std.specs.String.{string_bytes};
+ghost use Rattle.clap.specs.Words.{app_of, first_of, found_of, kind_of, rows_of, rule_of, shape_of};
+ghost use Rattle.clap.specs.declared.builder.command.Command.TheViews.{out-Command};
+ghost use Rattle.clap.specs.declared.error.kind.ErrorKind.TheVariants.{OutOfMemory};
+ghost use Rattle.wa_model.specs.Spelled.{spelled};
+ghost use Rattle.word_grammar.specs.Grammar.{TellsFlag, command_shape, flag_of, flag_rule, gen_words, line, name_of, option_rule, placed_rule, transform_words};
+ghost use Rattle.command_words.specs.Words.{Parses, script_shape, text_of};
+ghost use Rattle.command_words.specs.declared.words.WordsFault.TheVariants.{Usage};
+
+use crate::words::WordsFault;
+use clap::error::ErrorKind;
+use clap::{Arg, ArgAction, ArgMatches, Command, Error};
+use std::alloc::{AllocError, Global};
+
+/// What the words say, one by one, if `clap` takes them.
+pub(crate) fn parse_words<'w>(
+    alloc: Global,
+    words: &'w [String],
+) -> Result<ArgMatches<'w>, WordsFault>
+    ensures { Parses result (spelled (map string_bytes words.now)) }
+{
+    let line = command_line(alloc)?;
+    match line.try_get_matches_from(words) {
+        Ok(matches) => Ok(matches),
+        Err(error) => Err(parse_fault(&error)),
+    }
+}
+
+/// Only want of memory is no fault of the words.
+fn parse_fault(error: &Error) -> WordsFault
+    ensures { result ≡ Usage → kind_of error.now ≡ OutOfMemory → ⊥ }
+{
+    match error.kind() {
+        ErrorKind::OutOfMemory => WordsFault::Memory,
+        _ => WordsFault::Usage,
+    }
+}
+
+/// All words are arguments. No word asks for help, and one of the four commands comes.
+fn command_line<'w>(alloc: Global) -> Result<Command<'w>, AllocError>
+    ensures { IfOk result (λ c. app_of c ≡ line) }
+{
+    let transform = transform_line(alloc)?;
+    let host = script_line(alloc, "host")?;
+    let run = script_line(alloc, "run")?;
+    let generate = gen_line(alloc)?;
+    Command::new(alloc, "asyncify")
+        .no_binary_name(true)
+        .disable_help_flag(true)
+        .disable_help_subcommand(true)
+        .subcommand_required(true)
+        .subcommand(transform)?
+        .subcommand(host)?
+        .subcommand(run)?
+        .subcommand(generate)
+}
+
+/// `transform [--imports LIST] [--ignore-imports] [--ignore-indirect] IN OUT`
+fn transform_line<'w>(alloc: Global) -> Result<Command<'w>, AllocError>
+    ensures shape { IfOk result (λ c. shape_of c ≡ command_shape transform_words) }
+    ensures local { IfOk result (λ c. (out-Command c).has_globals ≡ false) }
+{
+    Command::new(alloc, "transform")
+        .arg(option_arg(alloc, "imports"))?
+        .arg(flag_arg(alloc, "ignore-imports"))?
+        .arg(flag_arg(alloc, "ignore-indirect"))?
+        .arg(placed_arg(alloc, "input"))?
+        .arg(placed_arg(alloc, "output"))
+}
+
+/// `host SCRIPT` and `run SCRIPT`
+fn script_line<'w>(alloc: Global, name: &'w str) -> Result<Command<'w>, AllocError>
+    ensures shape { IfOk result (λ c. shape_of c ≡ script_shape name.now) }
+    ensures local { IfOk result (λ c. (out-Command c).has_globals ≡ false) }
+{
+    Command::new(alloc, name).arg(placed_arg(alloc, "script"))
+}
+
+/// `gen N OUT`
+fn gen_line<'w>(alloc: Global) -> Result<Command<'w>, AllocError>
+    ensures shape { IfOk result (λ c. shape_of c ≡ command_shape gen_words) }
+    ensures local { IfOk result (λ c. (out-Command c).has_globals ≡ false) }
+{
+    Command::new(alloc, "gen")
+        .arg(placed_arg(alloc, "number"))?
+        .arg(placed_arg(alloc, "output"))
+}
+
+/// An option with a value.
+fn option_arg<'w>(alloc: Global, name: &'w str) -> Arg<'w>
+    ensures rule { rule_of result ≡ option_rule name.now }
+    ensures local { result.global ≡ false }
+{
+    Arg::new(alloc, name).long(name)
+}
+
+fn flag_arg<'w>(alloc: Global, name: &'w str) -> Arg<'w>
+    ensures rule { rule_of result ≡ flag_rule name.now }
+    ensures local { result.global ≡ false }
+{
+    Arg::new(alloc, name).long(name).action(ArgAction::SetTrue)
+}
+
+/// A file, or a number, by its place.
+fn placed_arg<'w>(alloc: Global, id: &'w str) -> Arg<'w>
+    ensures rule { rule_of result ≡ placed_rule id.now }
+    ensures local { result.global ≡ false }
+{
+    Arg::new(alloc, id).required(true)
+}
+
+/// The value that the words give an argument.
+pub(crate) fn text_at<'w>(matches: &ArgMatches<'w>, id: &str) -> Option<&'w str>
+    ensures { text_of result ≡ first_of id.now (rows_of (found_of matches.now)) }
+{
+    matches.get_str(id)
+}
+
+/// Whether the words give a flag.
+pub(crate) fn flag_at(matches: &ArgMatches<'_>, id: &str) -> bool
+    ensures { TellsFlag id.now (rows_of (found_of matches.now)) → result ≡ flag_of id.now (rows_of (found_of matches.now)) }
+{
+    matches.get_flag(id)
+}

@@ -1,0 +1,105 @@
+// A `transform`: its settings and its two files.
+ghost use Rattle.std.specs.Prelude.{◌≡◌, None, Some, false, IfOk};
+ghost use Rattle.std.specs.Option.{option_map};
+ghost use Rattle.clap.specs.Words.{found_of, rows_of};
+ghost use Rattle.call_graph.specs.Settings.{choice_of};
+ghost use Rattle.wa_model.specs.Command.{choice_said, with_files};
+ghost use Rattle.wa_model.specs.Spelled.{rewrites};
+ghost use Rattle.word_grammar.specs.Grammar.{TellsFlags, read_of, transform_words};
+ghost use Rattle.command_words.specs.Words.{HasFewFunctions, Reads, SavesAll, spelled_of, text_of};
+
+use crate::line::{flag_at, text_at};
+use crate::words::{Command, WordsFault};
+use call_graph::{Choice, ImportList, ListFault, Policy, Settings};
+use clap::ArgMatches;
+use std::alloc::Global;
+
+/// The `transform` that the words say, if that is one whole.
+pub(crate) fn transform_from<'w>(
+    alloc: Global,
+    matches: &ArgMatches<'w>,
+) -> Result<Command<'w>, WordsFault>
+    ensures command { TellsFlags transform_words (rows_of (found_of matches.now)) → Reads spelled_of result (read_of transform_words (rows_of (found_of matches.now))) }
+    ensures policy { IfOk result SavesAll }
+    ensures number { IfOk result HasFewFunctions }
+{
+    let imports = text_at(matches, "imports");
+    let ignore_imports = flag_at(matches, "ignore-imports");
+    let ignore_indirect = flag_at(matches, "ignore-indirect");
+    let input = text_at(matches, "input");
+    let output = text_at(matches, "output");
+    match choice_said(alloc, imports, ignore_imports) {
+        Ok(choice) => with_files(choice, ignore_indirect, input, output),
+        Err(fault) => Err(fault),
+    }
+}
+
+/// What is listed by the two options of imports, of which one at most is given.
+fn choice_said(
+    alloc: Global,
+    imports: Option<&str>,
+    ignore_imports: bool,
+) -> Result<Choice, WordsFault>
+    ensures { Reads choice_of result (choice_said (text_of imports.entry) ignore_imports) }
+{
+    match imports {
+        None => Ok(plain_choice(ignore_imports)),
+        Some(text) => {
+            if ignore_imports {
+                return Err(WordsFault::Usage);
+            }
+            listed_choice(alloc, text)
+        }
+    }
+}
+
+fn plain_choice(ignore_imports: bool) -> Choice
+    ensures { choice_said None ignore_imports ≡ Some (choice_of result) }
+{
+    if ignore_imports {
+        Choice::Nobody
+    } else {
+        Choice::Every
+    }
+}
+
+fn listed_choice(alloc: Global, text: &str) -> Result<Choice, WordsFault>
+    ensures { Reads choice_of result (choice_said (Some text.now) false) }
+{
+    match ImportList::parse(alloc, text) {
+        Ok(list) => Ok(Choice::Listed(list)),
+        Err(ListFault::Memory) => Err(WordsFault::Memory),
+        Err(ListFault::EmptyEntry) => Err(WordsFault::Usage),
+        Err(ListFault::NoDot) => Err(WordsFault::Usage),
+        Err(ListFault::StarInside) => Err(WordsFault::Usage),
+    }
+}
+
+/// A frame saves all locals.
+fn with_files<'w>(
+    choice: Choice,
+    ignore_indirect: bool,
+    input: Option<&'w str>,
+    output: Option<&'w str>,
+) -> Result<Command<'w>, WordsFault>
+    ensures command { Reads spelled_of result (option_map rewrites (with_files (Some (choice_of choice)) ignore_indirect (text_of input.entry) (text_of output.entry))) }
+    ensures policy { IfOk result SavesAll }
+    ensures number { IfOk result HasFewFunctions }
+{
+    let Some(input) = input else {
+        return Err(WordsFault::Usage);
+    };
+    let Some(output) = output else {
+        return Err(WordsFault::Usage);
+    };
+    let settings = Settings {
+        choice,
+        ignore_indirect,
+        policy: Policy::All,
+    };
+    Ok(Command::Transform {
+        settings,
+        input,
+        output,
+    })
+}
