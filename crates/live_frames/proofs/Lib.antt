@@ -1,0 +1,5 @@
+pub mod ClassLemmas
+pub mod FoundClasses
+pub mod PieceLemmas
+pub mod PutSteps
+pub mod WholeCodes
