@@ -1,3 +1,4 @@
 pub mod Classes
+pub mod Framed
 pub mod Putting
 pub mod Views

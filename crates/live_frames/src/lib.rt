@@ -9,6 +9,7 @@ mod classing;
 mod finding;
 mod frames;
 mod keeping;
+mod laws;
 mod loading;
 mod locating;
 mod putting;
@@ -19,4 +20,5 @@ mod testing;
 
 pub use classing::saved_parts;
 pub use frames::{CallClass, FrameParts, KeptLocal};
+pub use laws::sets_are_framed;
 pub use spilling::{restoring, saving};
