@@ -22,7 +22,7 @@ use Rattle.live_frames.proofs.ClassLemmas.{has_with, has_join, has_last}
 
 -- ---- sets in order
 
-same_set : (xs ys : List Bool) → is_eq (slice_cmp bool_cmp xs ys) ≡ true → xs ≡ ys
+pub same_set : (xs ys : List Bool) → is_eq (slice_cmp bool_cmp xs ys) ≡ true → xs ≡ ys
 same_set [] [] e = refl
 same_set [] (y ∷ ys) e = let no : ⊥ = cc in absurd no
 same_set (x ∷ xs) [] e = let no : ⊥ = cc in absurd no
@@ -31,7 +31,7 @@ same_set (false ∷ xs) (false ∷ ys) e = ap (λ zs. false ∷ zs) (same_set xs
 same_set (true ∷ xs) (false ∷ ys) e = let no : ⊥ = cc in absurd no
 same_set (false ∷ xs) (true ∷ ys) e = let no : ⊥ = cc in absurd no
 
-none_some : {X : Type 0} (o : Option X) (x : X) → o ≡ None → o ≡ Some x → ⊥
+pub none_some : {X : Type 0} (o : Option X) (x : X) → o ≡ None → o ≡ Some x → ⊥
 none_some None x e h = cc
 none_some (Some y) x e h = cc
 

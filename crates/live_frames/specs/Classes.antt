@@ -61,11 +61,24 @@ found_at found q = get_by (λ (k : Bor (List Bool)). slice_cmp bool_cmp q.now k.
 abbrev pub Finds : List ValType → BTreeMap (Bor (List Bool)) ℕ → List SavedPart → Type 0
 Finds types found ps = (q : Bor (List Bool)) (n : ℕ) → found_at found q ≡ Some n → HasFields n ps (fields_in 0 q.now types)
 
+-- .. and each part is found by its set
+abbrev pub FindsAll : List ValType → BTreeMap (Bor (List Bool)) ℕ → List SavedPart → Type 0
+FindsAll types found ps = (q : Bor (List Bool)) (n : ℕ) → length q.now ≡ length types → HasFields n ps (fields_in 0 q.now types) → found_at found q ≡ Some n
+
+-- no two parts have the same fields
+abbrev pub AreApart : List SavedPart → Type 0
+AreApart ps = (n m : ℕ) (gs : List FrameField) → HasFields n ps gs → HasFields m ps gs → n ≡ m
+
+pub record IsIndex (types : List ValType) (found : BTreeMap (Bor (List Bool)) ℕ) (ps : List SavedPart) : Type 0 where
+  pub finds : Finds types found ps
+  pub all : FindsAll types found ps
+  pub apart : AreApart ps
+
 -- These parts keep one set more, that of the next call.
 abbrev pub KeepsMore : List ValType → (call : ℕ) → (set : List Bool) → (old new : List SavedPart) → Type 0
 KeepsMore types call set old new = (sets : List (List Bool)) → length sets ≡ call → KeepSets types sets old → KeepSets types (sets ++ set ∷ []) new
 
 -- .. and are found
 pub record FindsMore (types : List ValType) (call : ℕ) (set : List Bool) (found_before found_now : BTreeMap (Bor (List Bool)) ℕ) (old new : List SavedPart) : Type 0 where
-  pub finds : Finds types found_now new
+  pub index : IsIndex types found_now new
   pub keeps : KeepsMore types call set old new

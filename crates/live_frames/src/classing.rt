@@ -3,9 +3,9 @@
 ghost use Rattle.std.specs.Prelude.{◌≡◌, ◌≤◌, ◌<◌, ◌^◌, ◌∷◌, [], All, List, length, IfOk, IsTrue, Vec, Bool};
 ghost use Rattle.std.specs.declared.alloc.Global.{Global as AGlobal};
 ghost use Rattle.call_frames.specs.PlainFrames.{at_every};
-ghost use Rattle.live_frames.specs.Classes.{AllAre, KeepSets};
+ghost use Rattle.live_frames.specs.Classes.{AllAre, AreApart, KeepSets};
 ghost use Rattle.live_frames.specs.Putting.{FewFields};
-ghost use Rattle.live_frames.specs.Views.{fields_in, parts_view, sets_of};
+ghost use Rattle.live_frames.specs.Views.{class_parts, fields_in, parts_view, sets_of};
 
 use crate::finding::classes_of;
 use crate::frames::FrameParts;
@@ -27,7 +27,7 @@ fn are_alike(sets: &[Vec<bool>], first: &[bool]) -> bool
 }
 
 /// The parts of the frames of calls that keep these sets of locals: at each call exactly the fields of its set, in order. Where all
-/// calls keep the same, all of it is shared; else calls that keep the same locals are a class.
+/// calls keep the same, all of it is shared; else calls that keep the same locals are one class.
 pub fn saved_parts(
     alloc: Global,
     sets: &[Vec<bool>],
@@ -38,6 +38,7 @@ pub fn saved_parts(
     requires calls { length sets.now < 2 ^ 32 }
     ensures keep { IfOk result (λ p. KeepSets types.now (sets_of sets.now) (parts_view p)) }
     ensures alike { IfOk result (λ p. (set : List Bool) → 1 ≤ length sets.now → AllAre set (sets_of sets.now) → parts_view p ≡ at_every (fields_in 0 set types.now) ∷ []) }
+    ensures apart { IfOk result (λ p. AreApart (class_parts p.classes.items)) }
     ensures shared { IfOk result (λ p. length p.shared.items ≤ 50000) }
     ensures classes { IfOk result (λ p. FewFields p.classes.items) }
 {

@@ -3,7 +3,7 @@
 ghost use Rattle.std.specs.Prelude.{◌≡◌, ◌≤◌, ◌<◌, ◌^◌, ◌++◌, ◌∷◌, [], All, length, IfOk, OnOk, Vec, Bool};
 ghost use Rattle.std.specs.declared.alloc.Global.{Global as AGlobal};
 ghost use Rattle.call_frames.specs.PlainFrames.{at_these};
-ghost use Rattle.live_frames.specs.Classes.{Finds, FindsMore, KeepSets, with_call};
+ghost use Rattle.live_frames.specs.Classes.{AreApart, FindsMore, IsIndex, KeepSets};
 ghost use Rattle.live_frames.specs.Putting.{FewFields};
 ghost use Rattle.live_frames.specs.Views.{class_part, class_parts, fields_of, sets_of};
 
@@ -50,7 +50,7 @@ fn put_call<'s>(
 ) -> Result<(), AllocError>
     requires size { length set.now ≡ length types.now }
     requires few { length types.now ≤ 50000 }
-    requires finds { Finds types.now found.old (class_parts classes.old.items) }
+    requires index { IsIndex types.now found.old (class_parts classes.old.items) }
     requires small { FewFields classes.old.items }
     ensures more { OnOk result (FindsMore types.now call set.now found.old found.new (class_parts classes.old.items) (class_parts classes.new.items)) }
     ensures small { OnOk result (FewFields classes.new.items) }
@@ -78,6 +78,7 @@ pub(crate) fn classes_of(
     requires few { length types.now ≤ 50000 }
     requires calls { length sets.now < 2 ^ 32 }
     ensures keep { IfOk result (λ v. KeepSets types.now (sets_of sets.now) (class_parts v.items)) }
+    ensures apart { IfOk result (λ v. AreApart (class_parts v.items)) }
     ensures few { IfOk result (λ v. FewFields v.items) }
 {
     let mut found = BTreeMap::new(alloc);
