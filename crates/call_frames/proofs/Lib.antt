@@ -1,5 +1,9 @@
 pub mod Codes
 pub mod FieldRows
+pub mod PlainBounds
+pub mod PlainHeld
+pub mod PlainTold
+pub mod PlainTypes
 pub mod RestoredParts
 pub mod SavedParts
 pub mod TestsTold

@@ -25,7 +25,7 @@ use Rattle.frame_laws.proofs.OneFunction.{within_of, within_on}
 use Rattle.frame_laws.proofs.RestoredFrames.{got_all}
 use Rattle.frame_laws.proofs.SavedFrames.{get_global, get_local, sub_small}
 use Rattle.call_frames.specs.ByCall.{PartsTell, RestoresAt, RestoresByCall}
-use Rattle.call_frames.specs.FrameParts.{FramePart, at_all, at_some, fields_at, shared_size, own_size, CallFrames, layout_at, scratch_lowered, parts_loaded, parts_cost, restore_bound}
+use Rattle.call_frames.specs.FrameParts.{FramePart, at_all, at_some, fields_at, shared_size, own_size, CallFrames, layout_at, scratch_lowered, parts_loaded, parts_cost_at, restore_bound_at}
 use Rattle.call_frames.proofs.FieldRows.{fit_split, holds_split, join_size, kept_left, kept_right, kept_split, not_kept, sizes_at}
 
 module _ (g : ℕ) (area : Area) (p : Module) (fn : ℕ) (under : List Activation) (f : CallFrames) (k : ℕ) (few : k < f.count) (apart : f.index ≢ f.scratch) where
@@ -50,14 +50,14 @@ module _ (g : ℕ) (area : Area) (p : Module) (fn : ℕ) (under : List Activatio
       on (keeps g area) p 1 3 _ _ _ a1 a2
 
   -- These fields were loaded, and the scratch local is where they begin.
-  record Loaded (s : Store) (old ls : List Value) (labels : List Label) (t off : ℕ) (ps : List FramePart) (next : Code) (fields : List FrameField) : Type 0 where
+  record Loaded (s : Store) (old ls : List Value) (labels : List Label) (t off : ℕ) (ps : List FramePart) (next : Code) (fields : List FrameField) (bound : ℕ) : Type 0 where
     locals : List Value
     scratch : value_at locals f.scratch ≡ V.I32 t
     size : length locals ≡ length ls
     back : (x : ℕ) → IsKept x fields → value_at locals x ≡ value_at old x
     keeps_back : (x : ℕ) → x ≢ f.scratch → value_at ls x ≡ value_at old x → value_at locals x ≡ value_at old x
     others : (x : ℕ) → x ≢ f.scratch → (IsKept x fields → ⊥) → value_at locals x ≡ value_at ls x
-    goes : W (at_code s ls (parts_loaded f.scratch off ps next) labels) (parts_cost ps) (at_code s locals next labels)
+    goes : W (at_code s ls (parts_loaded f.scratch off ps next) labels) bound (at_code s locals next labels)
 
   -- what is asked where they are loaded
   record MayLoad (s : Store) (old ls : List Value) (t off : ℕ) (fields : List FrameField) (own : ℕ) : Type 0 where
@@ -72,7 +72,7 @@ module _ (g : ℕ) (area : Area) (p : Module) (fn : ℕ) (under : List Activatio
     small : length s.memory < 2 ^ 32
 
   loaded : (s : Store) (old ls : List Value) (labels : List Label) (t off : ℕ) (ps : List FramePart) (next : Code) → PartsTell f.count f.index ps
-      → MayLoad s old ls t off (fields_at k ps) (own_size k ps) → Loaded s old ls labels t off ps next (fields_at k ps)
+      → MayLoad s old ls t off (fields_at k ps) (own_size k ps) → Loaded s old ls labels t off ps next (fields_at k ps) (parts_cost_at k ps)
   loaded s old ls labels t off [] next tell m =
       let z : t + 0 ≡ t = omega arith in
       record {
@@ -113,7 +113,7 @@ module _ (g : ℕ) (area : Area) (p : Module) (fn : ℕ) (under : List Activatio
         back = λ x h. ⊎_elim (λ q. b.back x q) (λ q. b.keeps_back x (ih.back x q)) (kept_split x fs rest h);
         keeps_back = λ x ne h. b.keeps_back x (ih.keeps_back x ne h);
         others = λ x ne h. b.others x (λ q. h (kept_left x fs rest q)) ∙ ih.others x ne (λ q. h (kept_right x fs rest q));
-        goes = within_on g area p _ _ _ (parts_cost ps) (3 * kept_count fs) _ ih.goes (within_of g area p _ _ (3 * kept_count fs) run) (omega arith);
+        goes = within_on g area p _ _ _ (parts_cost_at k ps) (3 * kept_count fs) _ ih.goes (within_of g area p _ _ (3 * kept_count fs) run) (omega arith);
       }
   loaded s old ls labels t off (at_some calls test cost fs ∷ ps) next tell m = by (calls k) refl m (λ t1 m1. loaded s old ls labels t1 off ps (test (branch None arm done next)) tell.1 m1)
     where
@@ -134,8 +134,9 @@ module _ (g : ℕ) (area : Area) (p : Module) (fn : ℕ) (under : List Activatio
           (tell.0 g area p fn under labels s ls1 [] k (branch None arm done next) few ix)
 
       by : (b : Bool) → calls k ≡ b → MayLoad s old ls t off ((if b then fs else []) ++ fields_at k ps) ((if b then fields_size fs else 0) + own_size k ps)
-          → ((t1 : ℕ) → MayLoad s old ls t1 off (fields_at k ps) (own_size k ps) → Loaded s old ls labels t1 off ps (test (branch None arm done next)) (fields_at k ps))
+          → ((t1 : ℕ) → MayLoad s old ls t1 off (fields_at k ps) (own_size k ps) → Loaded s old ls labels t1 off ps (test (branch None arm done next)) (fields_at k ps) (parts_cost_at k ps))
           → Loaded s old ls labels t off (at_some calls test cost fs ∷ ps) next ((if b then fs else []) ++ fields_at k ps)
+          (cost + (if b then 6 + 3 * kept_count fs else 2) + parts_cost_at k ps)
       by false e m1 go =
           let z : t + (0 + own_size k ps) ≡ t + own_size k ps = omega arith in
           let r = go t
@@ -160,7 +161,7 @@ module _ (g : ℕ) (area : Area) (p : Module) (fn : ℕ) (under : List Activatio
             back = r.back;
             keeps_back = r.keeps_back;
             others = r.others;
-            goes = within_on g area p _ _ _ (parts_cost ps) (cost + 2) _ r.goes walk (omega arith);
+            goes = within_on g area p _ _ _ (parts_cost_at k ps) (cost + 2) _ r.goes walk (omega arith);
           }
       by true e m1 go =
           let fit = fit_split f.scratch old fs rest m1.fit in
@@ -209,7 +210,7 @@ module _ (g : ℕ) (area : Area) (p : Module) (fn : ℕ) (under : List Activatio
                 (kept_split x fs rest h);
             keeps_back = λ x ne h. b.keeps_back x (same2 x ne ∙ r.keeps_back x ne h);
             others = λ x ne h. b.others x (λ q. h (kept_left x fs rest q)) ∙ same2 x ne ∙ r.others x ne (λ q. h (kept_right x fs rest q));
-            goes = within_on g area p _ _ _ (parts_cost ps) (cost + (6 + 3 * kept_count fs)) _ r.goes last (omega arith);
+            goes = within_on g area p _ _ _ (parts_cost_at k ps) (cost + (6 + 3 * kept_count fs)) _ r.goes last (omega arith);
           }
 
   -- ---- whole frames
@@ -277,8 +278,8 @@ module _ (g : ℕ) (area : Area) (p : Module) (fn : ℕ) (under : List Activatio
       subst (λ a. C (running s fn under lz (V.I32 loc ∷ V.I32 area.at ∷ []) (stored_value I32 0 next) labels) 1 (at_code (with_memory s (overwritten s.memory a (word loc))) lz next labels)) (sym z)
       (store_value g area p fn under s lz [] labels area.at 0 (V.I32 loc) I32 next refl (omega arith) (omega arith) (omega arith)) in
       let tail = on (keeps g area) p 1 2 _ _ _ b1 (on (keeps g area) p 1 1 _ _ _ b2 b3) in
-      let w1 = within_on g area p _ _ _ 7 (parts_cost f.parts) (7 + parts_cost f.parts) (within_of g area p _ _ 7 begin) ld.goes (omega arith) in
-      let whole = within_on g area p _ _ _ (7 + parts_cost f.parts) 3 (restore_bound f) w1 (within_of g area p _ _ 3 tail) (omega arith) in
+      let w1 = within_on g area p _ _ _ 7 (parts_cost_at k f.parts) (7 + parts_cost_at k f.parts) (within_of g area p _ _ 7 begin) ld.goes (omega arith) in
+      let whole = within_on g area p _ _ _ (7 + parts_cost_at k f.parts) 3 (restore_bound_at f k) w1 (within_of g area p _ _ 3 tail) (omega arith) in
       let size1 : length m1 ≡ length s.memory = length-overwritten s.memory area.at (word loc) (omega arith) in
       record {
         locals = lz;

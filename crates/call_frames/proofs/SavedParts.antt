@@ -26,7 +26,7 @@ use Rattle.frame_laws.proofs.FrameCode.{load_value, store_value, stores_run}
 use Rattle.frame_laws.proofs.OneFunction.{within_of, within_on}
 use Rattle.frame_laws.proofs.SavedFrames.{get_global, get_local, small_sum, sub_small}
 use Rattle.call_frames.specs.ByCall.{PartsTell, FramesTell, SavesAt, SavesByCall, OverflowsByCall}
-use Rattle.call_frames.specs.FrameParts.{FramePart, at_all, at_some, fields_at, shared_size, own_size, CallFrames, layout_at, scratch_raised, parts_stored, parts_cost, frame_stored_by_call, saving_by_call, save_bound}
+use Rattle.call_frames.specs.FrameParts.{FramePart, at_all, at_some, fields_at, shared_size, own_size, CallFrames, layout_at, scratch_raised, parts_stored, parts_cost_at, frame_stored_by_call, saving_by_call, save_bound_at}
 use Rattle.call_frames.proofs.FieldRows.{fit_others, fit_split, holds_others, join_size, put_join, put_others, sizes_at}
 
 module _ (g : ℕ) (area : Area) (p : Module) (fn : ℕ) (under : List Activation) (f : CallFrames) (k : ℕ) (few : k < f.count) (apart : f.index ≢ f.scratch) where
@@ -40,7 +40,7 @@ module _ (g : ℕ) (area : Area) (p : Module) (fn : ℕ) (under : List Activatio
   at_code s ls code labels = running s fn under ls [] code labels
 
   -- the scratch local is raised
-  raises : (s : Store) (ls : List Value) (labels : List Label) (t n : ℕ) (next : Code) → value_at ls f.scratch ≡ V.I32 t → t + n < 2 ^ 32
+  pub raises : (s : Store) (ls : List Value) (labels : List Label) (t n : ℕ) (next : Code) → value_at ls f.scratch ≡ V.I32 t → t + n < 2 ^ 32
       → C (at_code s ls (scratch_raised f.scratch n next) labels) 4 (at_code s (slice_set ls f.scratch (V.I32 (t + n))) next labels)
   raises s ls labels t n next e small =
       let c1 : Code = plain (basic (const (V.I32 n))) (plain (basic (num I32Add)) (plain (local_set f.scratch) next)) in
@@ -50,14 +50,14 @@ module _ (g : ℕ) (area : Area) (p : Module) (fn : ℕ) (under : List Activatio
       on (keeps g area) p 1 3 _ _ _ a1 a2
 
   -- these fields and so many own bytes were stored from the scratch local on
-  record Stored (s : Store) (ls : List Value) (labels : List Label) (t off : ℕ) (ps : List FramePart) (next : Code) (fields : List FrameField) (own : ℕ) : Type 0 where
+  record Stored (s : Store) (ls : List Value) (labels : List Label) (t off : ℕ) (ps : List FramePart) (next : Code) (fields : List FrameField) (own bound : ℕ) : Type 0 where
     locals : List Value
     scratch : value_at locals f.scratch ≡ V.I32 (t + own)
     same : (x : ℕ) → x ≢ f.scratch → value_at locals x ≡ value_at ls x
     size : length locals ≡ length ls
     after : List ℕ
     put : Put s.memory ls (t + off) fields after
-    goes : W (at_code s ls (parts_stored f.scratch off ps next) labels) (parts_cost ps) (at_code (with_memory s after) locals next labels)
+    goes : W (at_code s ls (parts_stored f.scratch off ps next) labels) bound (at_code (with_memory s after) locals next labels)
 
   -- what is asked where they are stored
   record May (s : Store) (ls : List Value) (t off : ℕ) (fields : List FrameField) : Type 0 where
@@ -71,7 +71,7 @@ module _ (g : ℕ) (area : Area) (p : Module) (fn : ℕ) (under : List Activatio
     small : length s.memory < 2 ^ 32
 
   stored : (s : Store) (ls : List Value) (labels : List Label) (t off : ℕ) (ps : List FramePart) (next : Code) → PartsTell f.count f.index ps → May s ls t off (fields_at k ps)
-      → Stored s ls labels t off ps next (fields_at k ps) (own_size k ps)
+      → Stored s ls labels t off ps next (fields_at k ps) (own_size k ps) (parts_cost_at k ps)
   stored s ls labels t off [] next tell m =
       let z : t ≡ t + 0 = omega arith in
       record {
@@ -105,7 +105,7 @@ module _ (g : ℕ) (area : Area) (p : Module) (fn : ℕ) (under : List Activatio
         size = ih.size;
         after = ih.after;
         put = put_join f.scratch ls (t + off) (t + (off + fields_size fs)) fs rest s.memory m1 ih.after (omega arith) fit.left put ih.put;
-        goes = within_on g area p _ _ _ (3 * kept_count fs) (parts_cost ps) _ (within_of g area p _ _ (3 * kept_count fs) run) ih.goes (omega arith);
+        goes = within_on g area p _ _ _ (3 * kept_count fs) (parts_cost_at k ps) _ (within_of g area p _ _ (3 * kept_count fs) run) ih.goes (omega arith);
       }
   stored s ls labels t off (at_some calls test cost fs ∷ ps) next tell m =
       by (calls k) refl m (λ s1 ls1 t1 m1. stored s1 ls1 labels t1 off ps next tell.1 m1)
@@ -124,8 +124,9 @@ module _ (g : ℕ) (area : Area) (p : Module) (fn : ℕ) (under : List Activatio
           (tell.0 g area p fn under labels s ls [] k (branch None arm done code) few m.index)
 
       by : (b : Bool) → calls k ≡ b → May s ls t off ((if b then fs else []) ++ fields_at k ps)
-          → ((s1 : Store) (ls1 : List Value) (t1 : ℕ) → May s1 ls1 t1 off (fields_at k ps) → Stored s1 ls1 labels t1 off ps next (fields_at k ps) (own_size k ps))
+          → ((s1 : Store) (ls1 : List Value) (t1 : ℕ) → May s1 ls1 t1 off (fields_at k ps) → Stored s1 ls1 labels t1 off ps next (fields_at k ps) (own_size k ps) (parts_cost_at k ps))
           → Stored s ls labels t off (at_some calls test cost fs ∷ ps) next ((if b then fs else []) ++ fields_at k ps) ((if b then fields_size fs else 0) + own_size k ps)
+          (cost + (if b then 6 + 3 * kept_count fs else 2) + parts_cost_at k ps)
       by false e m1 go =
           let skip : C (after_test false) 2 (at_code s ls code labels) = walks (keeps g area) p 2 _ _ refl in
           let r = go s ls t m1 in
@@ -138,7 +139,7 @@ module _ (g : ℕ) (area : Area) (p : Module) (fn : ℕ) (under : List Activatio
             size = r.size;
             after = r.after;
             put = r.put;
-            goes = within_on g area p _ _ _ (cost + 2) (parts_cost ps) _ walk r.goes (omega arith);
+            goes = within_on g area p _ _ _ (cost + 2) (parts_cost_at k ps) _ walk r.goes (omega arith);
           }
       by true e m1 go =
           let rest = fields_at k ps in
@@ -185,7 +186,7 @@ module _ (g : ℕ) (area : Area) (p : Module) (fn : ℕ) (under : List Activatio
             after = r.after;
             put = put_join f.scratch ls (t + off) (t + w + off) fs rest s.memory mem r.after (omega arith) fit.left put
                 (put_others f.scratch ls ls1 (t + w + off) rest mem r.after same1 fit.right r.put);
-            goes = within_on g area p _ _ _ (cost + (6 + 3 * kept_count fs)) (parts_cost ps) _ first r.goes (omega arith);
+            goes = within_on g area p _ _ _ (cost + (6 + 3 * kept_count fs)) (parts_cost_at k ps) _ first r.goes (omega arith);
           }
 
   -- ---- the room
@@ -248,14 +249,14 @@ module _ (g : ℕ) (area : Area) (p : Module) (fn : ℕ) (under : List Activatio
         within_on g area p _ _ _ f.sizing_cost 7 _ a (within_of g area p _ _ 7 t2) (omega arith)
 
     overflows : (s : Store) (ls : List Value) (labels : List Label) (loc : ℕ) (next : Code) → AreaAt f.address area s loc → area.at + area.len < loc + total → value_at ls f.index ≡ V.I32 k
-        → f.scratch < length ls → TrapsAt g area p (at_code s ls (saving_by_call f next) labels) (save_bound f) s
+        → f.scratch < length ls → TrapsAt g area p (at_code s ls (saving_by_call f next) labels) (save_bound_at f k) s
     overflows s ls labels loc next ar over ix lt =
         let high = ar.high in
         let q : nat_lt (area.at + area.len - loc) total ≡ true = grind arith in
         let a = to_test s ls labels loc next true ar ix lt q in
         let there = at_code s (sized ls) (plain unreachable done) (block_label 0 0 (behind_test next) done ∷ labels) in
         let b : C (running s fn under (sized ls) (V.I32 1 ∷ []) (branch None (plain unreachable done) done (behind_test next)) labels) 1 there = walks (keeps g area) p 1 _ _ refl in
-        let w = within_on g area p _ _ _ (f.sizing_cost + 7) 1 (save_bound f) a (within_of g area p _ _ 1 b) (omega arith) in
+        let w = within_on g area p _ _ _ (f.sizing_cost + 7) 1 (save_bound_at f k) a (within_of g area p _ _ 1 b) (omega arith) in
         record { cost = w.cost; within = w.within; at = there; goes = w.goes; traps_there = refl }
 
     saves : (s : Store) (ls : List Value) (labels : List Label) (loc : ℕ) (next : Code) → AreaAt f.address area s loc → loc + total ≤ area.at + area.len → Savable (layout_at f k) ls k
@@ -341,8 +342,8 @@ module _ (g : ℕ) (area : Area) (p : Module) (fn : ℕ) (under : List Activatio
         on (keeps g area) p 1 7 _ _ _ e1 (on (keeps g area) p 1 6 _ _ _ e2
         (on (keeps g area) p 1 5 _ _ _ e3 (on (keeps g area) p 1 4 _ _ _ f1 (on (keeps g area) p 1 3 _ _ _ f2 (on (keeps g area) p 2 1 _ _ _ f3 f4))))) in
         let w1 = within_on g area p _ _ _ (f.sizing_cost + 7) 5 (f.sizing_cost + 12) head (within_of g area p _ _ 5 begin) (omega arith) in
-        let w2 = within_on g area p _ _ _ (f.sizing_cost + 12) (parts_cost f.parts) (f.sizing_cost + 12 + parts_cost f.parts) w1 st.goes (omega arith) in
-        let whole = within_on g area p _ _ _ (f.sizing_cost + 12 + parts_cost f.parts) 8 (save_bound f) w2 (within_of g area p _ _ 8 tail) (omega arith) in
+        let w2 = within_on g area p _ _ _ (f.sizing_cost + 12) (parts_cost_at k f.parts) (f.sizing_cost + 12 + parts_cost_at k f.parts) w1 st.goes (omega arith) in
+        let whole = within_on g area p _ _ _ (f.sizing_cost + 12 + parts_cost_at k f.parts) 8 (save_bound_at f k) w2 (within_of g area p _ _ 8 tail) (omega arith) in
         let up : (x w : ℕ) → area.at + 4 ≤ x → bytes_at m3 x w ≡ bytes_at m2 x w = λ x w h. bytes_at-overwritten_behind m2 area.at (word (loc + total)) x w h (omega arith) in
         let out : (x w : ℕ) → (x + w ≤ area.at) ⊎ (area.at + 4 ≤ x) → bytes_at m3 x w ≡ bytes_at m2 x w =
         λ x w h. ⊎_elim (λ lo. bytes_at-overwritten_below m2 area.at (word (loc + total)) x w lo (omega arith)) (λ hi. up x w hi) h in

@@ -11,7 +11,7 @@ use Rattle.frame_laws.specs.FrameMemory.{AreaAt, FieldsFit, HoldsFrameOf, Lowere
 use Rattle.frame_laws.specs.Function.{FrameCodes, KeptWithin, WrittenFunc}
 use Rattle.frame_laws.specs.Layout.{frame_size}
 use Rattle.frame_laws.specs.Saving.{Savable, TrapsAt}
-use Rattle.call_frames.specs.FrameParts.{FramePart, at_all, at_some, fields_at, CallFrames, layout_at, saving_by_call, save_bound, restoring_by_call, restore_bound}
+use Rattle.call_frames.specs.FrameParts.{FramePart, at_all, at_some, fields_at, CallFrames, layout_at, saving_by_call, save_bound_at, restoring_by_call, restore_bound_at}
 
 -- Of so many calls, a test leaves 1 at these and 0 at the others, and changes nothing.
 abbrev pub TestTells : (count index : ℕ) → (ℕ → Bool) → (Code → Code) → (cost : ℕ) → Type 0
@@ -47,7 +47,7 @@ pub record SavesAt (g : ℕ) (area : Area) (p : Module) (fn : ℕ) (under : List
   pub pushed : Pushed (layout_at f k) area loc ls k s.memory after
   pub locals : List Value
   pub same : (x : ℕ) → x ≢ f.scratch → value_at locals x ≡ value_at ls x
-  pub goes : KeptWithin g area p (running s fn under ls [] (saving_by_call f next) labels) (save_bound f) (running (with_memory s after) fn under locals [] next labels)
+  pub goes : KeptWithin g area p (running s fn under ls [] (saving_by_call f next) labels) (save_bound_at f k) (running (with_memory s after) fn under locals [] next labels)
 
 abbrev pub SavesByCall : Type 0
 SavesByCall =
@@ -60,7 +60,7 @@ abbrev pub OverflowsByCall : Type 0
 OverflowsByCall =
     (g : ℕ) (area : Area) (p : Module) (fn : ℕ) (under : List Activation) (labels : List Label) (f : CallFrames) (s : Store) (ls : List Value) (loc k : ℕ) (next : Code)
     → FramesTell f → k < f.count → AreaAt f.address area s loc → area.at + area.len < loc + frame_size (layout_at f k) → value_at ls f.index ≡ V.I32 k → f.scratch < length ls
-    → TrapsAt g area p (running s fn under ls [] (saving_by_call f next) labels) (save_bound f) s
+    → TrapsAt g area p (running s fn under ls [] (saving_by_call f next) labels) (save_bound_at f k) s
 
 -- ---- restoring
 
@@ -71,7 +71,7 @@ pub record RestoresAt (g : ℕ) (area : Area) (p : Module) (fn : ℕ) (under : L
   pub restored : Restored (layout_at f k) old ls locals k
   pub after : List ℕ
   pub lowered : Lowered area loc s.memory after
-  pub goes : KeptWithin g area p (running s fn under ls [] (restoring_by_call f next) labels) (restore_bound f) (running (with_memory s after) fn under locals [] next labels)
+  pub goes : KeptWithin g area p (running s fn under ls [] (restoring_by_call f next) labels) (restore_bound_at f k) (running (with_memory s after) fn under locals [] next labels)
 
 abbrev pub RestoresByCall : Type 0
 RestoresByCall =
@@ -82,7 +82,7 @@ RestoresByCall =
 
 -- ---- both, as stacks ask for them
 
--- a written function whose frames differ by call, as call k finds it
+-- a written function whose frames differ by call, as call k finds it, with what its codes cost there
 abbrev pub by_call : CallFrames → (k : ℕ) → (body : Code) → (result : Option ℕ) → WrittenFunc
 by_call f k body result = record {
   layout = layout_at f k;
@@ -90,8 +90,8 @@ by_call f k body result = record {
   result = result;
   saving = saving_by_call f done;
   restoring = restoring_by_call f done;
-  save_most = save_bound f;
-  restore_most = restore_bound f;
+  save_most = save_bound_at f k;
+  restore_most = restore_bound_at f k;
 }
 
 -- At each call its codes save and restore the frame of that call.

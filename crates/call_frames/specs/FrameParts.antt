@@ -68,11 +68,11 @@ parts_loaded sp off [] next = next
 parts_loaded sp off (at_all fs ∷ ps) next = parts_loaded sp (off + fields_size fs) ps (loads sp off fs next)
 parts_loaded sp off (at_some calls test cost fs ∷ ps) next = parts_loaded sp off ps (test (branch None (scratch_lowered sp (fields_size fs) (loads sp off fs done)) done next))
 
--- what that costs at most, either way
-abbrev pub parts_cost : List FramePart → ℕ
-parts_cost [] = 0
-parts_cost (at_all fs ∷ ps) = 3 * kept_count fs + parts_cost ps
-parts_cost (at_some calls test cost fs ∷ ps) = cost + (6 + 3 * kept_count fs) + parts_cost ps
+-- what that costs at call k at most, either way: all tests, and of the parts those that the call keeps
+abbrev pub parts_cost_at : ℕ → List FramePart → ℕ
+parts_cost_at k [] = 0
+parts_cost_at k (at_all fs ∷ ps) = 3 * kept_count fs + parts_cost_at k ps
+parts_cost_at k (at_some calls test cost fs ∷ ps) = cost + (if calls k then 6 + 3 * kept_count fs else 2) + parts_cost_at k ps
 
 -- the parts and the index go into the frame from the scratch local on, and the location is raised
 abbrev pub frame_stored_by_call : CallFrames → Code → Code
@@ -85,8 +85,9 @@ saving_by_call f next =
     f.sizing (plain (basic (global_get f.address)) (plain (basic (load 0x28 2 4)) (location_of f.address (plain (basic (num I32Sub)) (plain (local_get f.scratch)
     (plain (basic (num I32LtU)) (branch None (plain unreachable done) done (location_of f.address (plain (local_set f.scratch) (frame_stored_by_call f next))))))))))
 
-abbrev pub save_bound : CallFrames → ℕ
-save_bound f = f.sizing_cost + 20 + parts_cost f.parts
+-- what it costs at call k at most
+abbrev pub save_bound_at : CallFrames → ℕ → ℕ
+save_bound_at f k = f.sizing_cost + 20 + parts_cost_at k f.parts
 
 -- the location becomes the scratch local
 abbrev pub location_lowered : (address scratch : ℕ) → Code → Code
@@ -101,5 +102,6 @@ abbrev pub restoring_by_call : CallFrames → Code → Code
 restoring_by_call f next =
     location_of f.address (plain (basic (const (V.I32 (shared_size f.parts + 4)))) (plain (basic (num I32Sub)) (plain (local_tee f.scratch) (frame_loaded_by_call f next))))
 
-abbrev pub restore_bound : CallFrames → ℕ
-restore_bound f = 10 + parts_cost f.parts
+-- what it costs at call k at most
+abbrev pub restore_bound_at : CallFrames → ℕ → ℕ
+restore_bound_at f k = 10 + parts_cost_at k f.parts

@@ -1,0 +1,149 @@
+-- What codes of frames that are plain data cost, and how many instructions they have.
+use Rattle.std.proofs.Common.{◌≡◌, ℕ, ◌+◌, ◌*◌, ◌≤◌, List, [], ◌∷◌, ◌++◌, length, Bool, true, false, arith}
+use Rattle.std.specs.Prelude.{None, if◌then◌else◌}
+use Rattle.wa_types.specs.declared.values.ValType.{ValType}
+use Rattle.wa_types.specs.declared.values.ValType.TheVariants.{I32, I64}
+use Rattle.wa_types.specs.Frames.{width}
+use Rattle.wa_types.specs.declared.operators.NumOp.TheVariants.{I32Or, I32Sub, I32LtU}
+use Rattle.wa_types.specs.Syntax.{num, global_get, load, basic, local_get, local_set, unreachable, Code, done, plain, branch}
+use Rattle.wa_model.specs.Rewrites.{instructions_and_labels}
+use Rattle.local_spill.specs.Spilling.{stored_value, loaded_value, index_saved, location_of, location_raised}
+use Rattle.frame_laws.specs.Layout.{FrameField, kept, gap, fields_size, kept_count, stores, loads}
+use Rattle.call_frames.specs.CallTests.{at_call, at_either}
+use Rattle.call_frames.specs.FrameParts.{parts_cost_at, shared_size, scratch_raised, scratch_lowered, parts_stored, parts_loaded, frame_stored_by_call, location_lowered}
+use Rattle.call_frames.specs.PlainFrames.{SavedPart, at_every, at_these, SavedParts, is_one_of, call_fields, or_calls, at_calls, test_size, parts_of, sizes_added, sizes_cost, frames_of}
+use Rattle.call_frames.specs.PlainLaws.{NameCalls, named_calls, PlainFramesCost, sizes_size, parts_size, PlainFramesSize}
+
+-- ---- cost
+
+join_count : (xs ys : List FrameField) → kept_count (xs ++ ys) ≡ kept_count xs + kept_count ys
+join_count [] ys = omega arith
+join_count (kept x t ∷ xs) ys = let ih = join_count xs ys in omega arith
+join_count (gap t ∷ xs) ys = join_count xs ys
+
+test_few : (ks : List ℕ) → 1 ≤ length ks → test_size ks + 1 ≤ 4 * length ks
+test_few [] h = omega arith
+test_few (k ∷ ks) h = omega arith
+
+parts_cost : (index k : ℕ) (ps : List SavedPart) → NameCalls ps
+    → sizes_cost ps + 2 * parts_cost_at k (parts_of index ps) ≤ 27 * named_calls ps + 6 * kept_count (call_fields k ps)
+parts_cost index k [] h = omega arith
+parts_cost index k (at_every fs ∷ ps) h =
+    let ih = parts_cost index k ps h in
+    let j = join_count fs (call_fields k ps) in
+    omega arith
+parts_cost index k (at_these ks fs ∷ ps) h = by (is_one_of ks k) (parts_cost index k ps h.1)
+  where
+    by : (b : Bool) → sizes_cost ps + 2 * parts_cost_at k (parts_of index ps) ≤ 27 * named_calls ps + 6 * kept_count (call_fields k ps)
+        → test_size ks + 6 + sizes_cost ps + 2 * (test_size ks + (if b then 6 + 3 * kept_count fs else 2) + parts_cost_at k (parts_of index ps))
+        ≤ 27 * (length ks + named_calls ps) + 6 * kept_count ((if b then fs else []) ++ call_fields k ps)
+    by true ih = let t = test_few ks h.0 in let j = join_count fs (call_fields k ps) in omega (arith, h.0)
+    by false ih = let t = test_few ks h.0 in omega (arith, h.0)
+
+pub cost_law : PlainFramesCost
+cost_law f k h = let c = parts_cost f.index k f.parts h in omega arith
+
+-- ---- size
+
+one_store : (t : ValType) (off : ℕ) (next : Code) → instructions_and_labels (stored_value t off next) ≡ 1 + instructions_and_labels next
+unfolding instructions_and_labels
+one_store I32 off next = omega arith
+one_store I64 off next = omega arith
+
+one_load : (t : ValType) (off : ℕ) (next : Code) → instructions_and_labels (loaded_value t off next) ≡ 1 + instructions_and_labels next
+unfolding instructions_and_labels
+one_load I32 off next = omega arith
+one_load I64 off next = omega arith
+
+stores_size : (sp off : ℕ) (ps : List FrameField) (next : Code) → instructions_and_labels (stores sp off ps next) ≡ 3 * kept_count ps + instructions_and_labels next
+unfolding instructions_and_labels
+stores_size sp off [] next = omega arith
+stores_size sp off (kept x t ∷ ps) next =
+    let ih = stores_size sp (off + width t) ps next in
+    let o = one_store t off (stores sp (off + width t) ps next) in
+    omega arith
+stores_size sp off (gap t ∷ ps) next = stores_size sp (off + width t) ps next
+
+loads_size : (sp off : ℕ) (ps : List FrameField) (next : Code) → instructions_and_labels (loads sp off ps next) ≡ 3 * kept_count ps + instructions_and_labels next
+unfolding instructions_and_labels
+loads_size sp off [] next = omega arith
+loads_size sp off (kept x t ∷ ps) next =
+    let ih = loads_size sp (off + width t) ps next in
+    let o = one_load t off (plain (local_set x) (loads sp (off + width t) ps next)) in
+    omega arith
+loads_size sp off (gap t ∷ ps) next = loads_size sp (off + width t) ps next
+
+or_calls_size : (index : ℕ) (ks : List ℕ) (test : Code → Code) (n : ℕ) → ((c : Code) → instructions_and_labels (test c) ≡ n + instructions_and_labels c) → (next : Code)
+    → instructions_and_labels (or_calls index test ks next) ≡ n + 4 * length ks + instructions_and_labels next
+unfolding instructions_and_labels
+or_calls_size index [] test n h next = let e = h next in omega arith
+or_calls_size index (k ∷ ks) test n h next =
+    let ih = or_calls_size index ks (at_either test (at_call index k)) (n + 4) (λ c. let e = h (at_call index k (plain (basic (num I32Or)) c)) in omega arith) next in
+    omega arith
+
+at_calls_size : (index : ℕ) (ks : List ℕ) (next : Code) → instructions_and_labels (at_calls index ks next) ≡ test_size ks + instructions_and_labels next
+unfolding instructions_and_labels
+at_calls_size index [] next = omega arith
+at_calls_size index (k ∷ ks) next = or_calls_size index ks (at_call index k) 3 (λ c. omega arith) next
+
+added_size : (index sp : ℕ) (ps : List SavedPart) (next : Code) → instructions_and_labels (sizes_added index sp ps next) ≡ sizes_size ps + instructions_and_labels next
+unfolding instructions_and_labels
+added_size index sp [] next = omega arith
+added_size index sp (at_every fs ∷ ps) next = added_size index sp ps next
+added_size index sp (at_these ks fs ∷ ps) next =
+    let ih = added_size index sp ps next in
+    let t = at_calls_size index ks (branch None (scratch_raised sp (fields_size fs) done) done (sizes_added index sp ps next)) in
+    omega arith
+
+stored_size : (index sp off : ℕ) (ps : List SavedPart) (next : Code)
+    → instructions_and_labels (parts_stored sp off (parts_of index ps) next) ≡ parts_size ps + instructions_and_labels next
+unfolding instructions_and_labels
+stored_size index sp off [] next = omega arith
+stored_size index sp off (at_every fs ∷ ps) next =
+    let s = stores_size sp off fs (parts_stored sp (off + fields_size fs) (parts_of index ps) next) in
+    let ih = stored_size index sp (off + fields_size fs) ps next in
+    omega arith
+stored_size index sp off (at_these ks fs ∷ ps) next =
+    let s = stores_size sp off fs (scratch_raised sp (fields_size fs) done) in
+    let t = at_calls_size index ks (branch None (stores sp off fs (scratch_raised sp (fields_size fs) done)) done (parts_stored sp off (parts_of index ps) next)) in
+    let ih = stored_size index sp off ps next in
+    omega arith
+
+loaded_size : (index sp off : ℕ) (ps : List SavedPart) (next : Code)
+    → instructions_and_labels (parts_loaded sp off (parts_of index ps) next) ≡ parts_size ps + instructions_and_labels next
+unfolding instructions_and_labels
+loaded_size index sp off [] next = omega arith
+loaded_size index sp off (at_every fs ∷ ps) next =
+    let s = loads_size sp off fs next in
+    let ih = loaded_size index sp (off + fields_size fs) ps (loads sp off fs next) in
+    omega arith
+loaded_size index sp off (at_these ks fs ∷ ps) next =
+    let own : Code = branch None (scratch_lowered sp (fields_size fs) (loads sp off fs done)) done next in
+    let t = at_calls_size index ks own in
+    let s = loads_size sp off fs done in
+    let ih = loaded_size index sp off ps (at_calls index ks own) in
+    omega arith
+
+-- what stands behind the code of sizes
+abbrev pub behind_sizes : SavedParts → Code → Code
+behind_sizes f next =
+    plain (basic (global_get f.address)) (plain (basic (load 0x28 2 4)) (location_of f.address (plain (basic (num I32Sub)) (plain (local_get f.scratch)
+    (plain (basic (num I32LtU)) (branch None (plain unreachable done) done (location_of f.address (plain (local_set f.scratch) (frame_stored_by_call (frames_of f) next)))))))))
+
+-- .. and behind the parts that are stored
+abbrev pub behind_parts : SavedParts → Code → Code
+behind_parts f next =
+    let n = shared_size (parts_of f.index f.parts) in
+    index_saved f.index f.scratch n (location_raised f.address f.scratch (n + 4) next)
+
+pub size_law : PlainFramesSize
+unfolding instructions_and_labels
+size_law = record {
+  saving = λ f.
+      let s = stored_size f.index f.scratch 0 f.parts (behind_parts f done) in
+      let a = added_size f.index f.scratch f.parts (behind_sizes f done) in
+      omega arith;
+  restoring = λ f.
+      let l = loaded_size f.index f.scratch 0 f.parts (location_lowered f.address f.scratch done) in
+      omega arith;
+}

@@ -1,0 +1,235 @@
+-- Codes of frames that are plain data have their types.
+use Rattle.std.proofs.Common.{◌≡◌, ℕ, ◌+◌, List, [], ◌∷◌, Option, Some, None, true, refl, sym, subst}
+use Rattle.std.specs.Prelude.{slice_get}
+use Rattle.wa_types.specs.declared.values.ValType.{ValType}
+use Rattle.wa_types.specs.declared.values.ValType.TheVariants.{I32, I64}
+use Rattle.wa_types.specs.declared.values.Value.TheVariants as V
+use Rattle.wa_types.specs.declared.operators.NumOp.TheVariants.{I32Add, I32Sub, I32LtU, I32Eq, I32Or}
+use Rattle.wa_types.specs.Accesses.{load_row, store_row}
+use Rattle.wa_types.specs.Syntax.{const, num, global_get, basic, local_get, local_set, local_tee, unreachable, Code, done, plain, branch}
+use Rattle.wa_types.specs.Frames.{width}
+use Rattle.wa_types.specs.Typing.{Around, gets, sets, tees, gets_global, loads as loads_sig, stores as stores_sig, Takes, Types}
+use Rattle.local_spill.specs.Spilling.{stored_value, loaded_value, location_of}
+use Rattle.frame_laws.specs.Layout.{FrameField, kept, gap, fields_size, stores, loads}
+use Rattle.frame_laws.specs.Typed.{FieldsTyped}
+use Rattle.call_frames.specs.CallTests.{at_call, at_either}
+use Rattle.call_frames.specs.FrameParts.{shared_size, scratch_raised, scratch_lowered, parts_stored, parts_loaded, frame_stored_by_call, frame_loaded_by_call, location_lowered}
+use Rattle.call_frames.specs.PlainFrames.{SavedPart, at_every, at_these, SavedParts, or_calls, at_calls, parts_of, sizes_added, frames_of}
+use Rattle.call_frames.specs.PlainLaws.{PartsTyped, PlainTyped, PlainSaveTyped, PlainRestoreTyped}
+use Rattle.call_frames.proofs.PlainBounds.{behind_sizes, behind_parts}
+
+module _ (c : Around) where
+  abbrev T : List (Option ValType) → Code → (outs ins : List ValType) → Type 0
+  T ls code outs ins = Types c ls code outs ins
+
+  getting : (ls : List (Option ValType)) (outs : List ValType) (x : ℕ) (t : ValType) (next : Code) (ins : List ValType) → slice_get c.locals x ≡ Some t → T ls next outs (t ∷ ins)
+      → T ls (plain (local_get x) next) outs ins
+  unfolding Types
+  getting ls outs x t next ins e h = (t ∷ ins, subst (λ o. Takes (gets o) ins (t ∷ ins)) (sym e) (ins, refl, refl), h)
+
+  setting : (ls : List (Option ValType)) (outs : List ValType) (x : ℕ) (t : ValType) (next : Code) (ins : List ValType) → slice_get c.locals x ≡ Some t → T ls next outs ins
+      → T ls (plain (local_set x) next) outs (t ∷ ins)
+  unfolding Types
+  setting ls outs x t next ins e h = (ins, subst (λ o. Takes (sets o) (t ∷ ins) ins) (sym e) (ins, refl, refl), h)
+
+  teeing : (ls : List (Option ValType)) (outs : List ValType) (x : ℕ) (t : ValType) (next : Code) (ins : List ValType) → slice_get c.locals x ≡ Some t → T ls next outs (t ∷ ins)
+      → T ls (plain (local_tee x) next) outs (t ∷ ins)
+  unfolding Types
+  teeing ls outs x t next ins e h = (t ∷ ins, subst (λ o. Takes (tees o) (t ∷ ins) (t ∷ ins)) (sym e) (ins, refl, refl), h)
+
+  global_got : (ls : List (Option ValType)) (outs : List ValType) (x : ℕ) (next : Code) (ins : List ValType) → slice_get c.globals x ≡ Some (record { ty = I32; mutable = true })
+      → T ls next outs (I32 ∷ ins) → T ls (plain (basic (global_get x)) next) outs ins
+  unfolding Types
+  global_got ls outs x next ins e h = (I32 ∷ ins, subst (λ o. Takes (gets_global o) ins (I32 ∷ ins)) (sym e) (ins, refl, refl), h)
+
+  loading : (ls : List (Option ValType)) (outs : List ValType) (t : ValType) (off : ℕ) (next : Code) (ins : List ValType) → c.memory ≡ true → T ls next outs (t ∷ ins)
+      → T ls (loaded_value t off next) outs (I32 ∷ ins)
+  unfolding Types
+  loading ls outs I32 off next ins m h = (I32 ∷ ins, subst (λ b. Takes (loads_sig b 2 (load_row 0x28)) (I32 ∷ ins) (I32 ∷ ins)) (sym m) (ins, refl, refl), h)
+  loading ls outs I64 off next ins m h = (I64 ∷ ins, subst (λ b. Takes (loads_sig b 3 (load_row 0x29)) (I32 ∷ ins) (I64 ∷ ins)) (sym m) (ins, refl, refl), h)
+
+  storing : (ls : List (Option ValType)) (outs : List ValType) (t : ValType) (off : ℕ) (next : Code) (ins : List ValType) → c.memory ≡ true → T ls next outs ins
+      → T ls (stored_value t off next) outs (t ∷ I32 ∷ ins)
+  unfolding Types
+  storing ls outs I32 off next ins m h = (ins, subst (λ b. Takes (stores_sig b 2 (store_row 0x36)) (I32 ∷ I32 ∷ ins) ins) (sym m) (ins, refl, refl), h)
+  storing ls outs I64 off next ins m h = (ins, subst (λ b. Takes (stores_sig b 3 (store_row 0x37)) (I64 ∷ I32 ∷ ins) ins) (sym m) (ins, refl, refl), h)
+
+  constant : (ls : List (Option ValType)) (outs : List ValType) (n : ℕ) (next : Code) (ins : List ValType) → T ls next outs (I32 ∷ ins) → T ls (plain (basic (const (V.I32 n))) next) outs ins
+  unfolding Types
+  constant ls outs n next ins h = (I32 ∷ ins, (ins, refl, refl), h)
+
+  subtracting : (ls : List (Option ValType)) (outs : List ValType) (next : Code) (ins : List ValType) → T ls next outs (I32 ∷ ins) → T ls (plain (basic (num I32Sub)) next) outs (I32 ∷ I32 ∷ ins)
+  unfolding Types
+  subtracting ls outs next ins h = (I32 ∷ ins, (ins, refl, refl), h)
+
+  adding : (ls : List (Option ValType)) (outs : List ValType) (next : Code) (ins : List ValType) → T ls next outs (I32 ∷ ins) → T ls (plain (basic (num I32Add)) next) outs (I32 ∷ I32 ∷ ins)
+  unfolding Types
+  adding ls outs next ins h = (I32 ∷ ins, (ins, refl, refl), h)
+
+  joining : (ls : List (Option ValType)) (outs : List ValType) (next : Code) (ins : List ValType) → T ls next outs (I32 ∷ ins) → T ls (plain (basic (num I32Or)) next) outs (I32 ∷ I32 ∷ ins)
+  unfolding Types
+  joining ls outs next ins h = (I32 ∷ ins, (ins, refl, refl), h)
+
+  comparing : (ls : List (Option ValType)) (outs : List ValType) (next : Code) (ins : List ValType) → T ls next outs (I32 ∷ ins) → T ls (plain (basic (num I32Eq)) next) outs (I32 ∷ I32 ∷ ins)
+  unfolding Types
+  comparing ls outs next ins h = (I32 ∷ ins, (ins, refl, refl), h)
+
+  stopping : (ls : List (Option ValType)) (outs : List ValType) (next : Code) (ins : List ValType) → T ls next outs ins
+      → T ls (plain (basic (num I32LtU)) (branch None (plain unreachable done) done next)) outs (I32 ∷ I32 ∷ ins)
+  unfolding Types
+  stopping ls outs next ins h = (I32 ∷ ins, (ins, refl, refl), (ins, refl, ([], ([], refl), refl), refl, h))
+
+  -- code under a test
+  branching : (ls : List (Option ValType)) (outs : List ValType) (arm next : Code) → T (None ∷ ls) arm [] [] → T ls next outs [] → T ls (branch None arm done next) outs (I32 ∷ [])
+  unfolding Types
+  branching ls outs arm next a h = ([], refl, a, refl, h)
+
+  nothing : (ls : List (Option ValType)) → T ls done [] []
+  unfolding Types
+  nothing ls = refl
+
+  module _ (f : SavedParts) (t : PlainTyped c f) where
+    -- ---- tests
+
+    comparing_call : (ls : List (Option ValType)) (outs : List ValType) (k : ℕ) (next : Code) (ins : List ValType) → T ls next outs (I32 ∷ ins) → T ls (at_call f.index k next) outs ins
+    comparing_call ls outs k next ins h =
+        getting ls outs f.index I32 (plain (basic (const (V.I32 k))) (plain (basic (num I32Eq)) next)) ins t.index
+        (constant ls outs k (plain (basic (num I32Eq)) next) (I32 ∷ ins) (comparing ls outs next ins h))
+
+    or_typed : (ls : List (Option ValType)) (outs : List ValType) (ks : List ℕ) (test : Code → Code)
+        → ((next : Code) (ins : List ValType) → T ls next outs (I32 ∷ ins) → T ls (test next) outs ins)
+        → (next : Code) (ins : List ValType) → T ls next outs (I32 ∷ ins) → T ls (or_calls f.index test ks next) outs ins
+    or_typed ls outs [] test h next ins n = h next ins n
+    or_typed ls outs (k ∷ ks) test h next ins n =
+        or_typed ls outs ks (at_either test (at_call f.index k))
+        (λ rest ins2 r. h (at_call f.index k (plain (basic (num I32Or)) rest)) ins2
+        (comparing_call ls outs k (plain (basic (num I32Or)) rest) (I32 ∷ ins2) (joining ls outs rest ins2 r))) next ins n
+
+    test_typed : (ls : List (Option ValType)) (outs : List ValType) (ks : List ℕ) (next : Code) → T ls next outs (I32 ∷ []) → T ls (at_calls f.index ks next) outs []
+    test_typed ls outs [] next n = constant ls outs 0 next [] n
+    test_typed ls outs (k ∷ ks) next n = or_typed ls outs ks (at_call f.index k) (λ rest ins r. comparing_call ls outs k rest ins r) next [] n
+
+    -- ---- fields
+
+    stores_typed : (ls : List (Option ValType)) (outs : List ValType) (off : ℕ) (ps : List FrameField) (next : Code) → FieldsTyped c.locals ps → T ls next outs []
+        → T ls (stores f.scratch off ps next) outs []
+    stores_typed ls outs off [] next h n = n
+    stores_typed ls outs off (kept x ty ∷ ps) next h n =
+        let rest : Code = stores f.scratch (off + width ty) ps next in
+        getting ls outs f.scratch I32 (plain (local_get x) (stored_value ty off rest)) [] t.scratch
+        (getting ls outs x ty (stored_value ty off rest) (I32 ∷ []) h.0 (storing ls outs ty off rest [] t.memory (stores_typed ls outs (off + width ty) ps next h.1 n)))
+    stores_typed ls outs off (gap ty ∷ ps) next h n = stores_typed ls outs (off + width ty) ps next h n
+
+    loads_typed : (ls : List (Option ValType)) (outs : List ValType) (off : ℕ) (ps : List FrameField) (next : Code) → FieldsTyped c.locals ps → T ls next outs []
+        → T ls (loads f.scratch off ps next) outs []
+    loads_typed ls outs off [] next h n = n
+    loads_typed ls outs off (kept x ty ∷ ps) next h n =
+        let rest : Code = loads f.scratch (off + width ty) ps next in
+        getting ls outs f.scratch I32 (loaded_value ty off (plain (local_set x) rest)) [] t.scratch
+        (loading ls outs ty off (plain (local_set x) rest) [] t.memory (setting ls outs x ty rest [] h.0 (loads_typed ls outs (off + width ty) ps next h.1 n)))
+    loads_typed ls outs off (gap ty ∷ ps) next h n = loads_typed ls outs (off + width ty) ps next h n
+
+    raised_typed : (ls : List (Option ValType)) (outs : List ValType) (n : ℕ) (next : Code) → T ls next outs [] → T ls (scratch_raised f.scratch n next) outs []
+    raised_typed ls outs n next h =
+        let s3 : Code = plain (local_set f.scratch) next in
+        let s2 : Code = plain (basic (num I32Add)) s3 in
+        getting ls outs f.scratch I32 (plain (basic (const (V.I32 n))) s2) [] t.scratch
+        (constant ls outs n s2 (I32 ∷ []) (adding ls outs s3 [] (setting ls outs f.scratch I32 next [] t.scratch h)))
+
+    lowered_typed : (ls : List (Option ValType)) (outs : List ValType) (n : ℕ) (next : Code) → T ls next outs [] → T ls (scratch_lowered f.scratch n next) outs []
+    lowered_typed ls outs n next h =
+        let s3 : Code = plain (local_set f.scratch) next in
+        let s2 : Code = plain (basic (num I32Sub)) s3 in
+        getting ls outs f.scratch I32 (plain (basic (const (V.I32 n))) s2) [] t.scratch
+        (constant ls outs n s2 (I32 ∷ []) (subtracting ls outs s3 [] (setting ls outs f.scratch I32 next [] t.scratch h)))
+
+    -- ---- parts
+
+    stored_typed : (ls : List (Option ValType)) (outs : List ValType) (off : ℕ) (ps : List SavedPart) (next : Code) → PartsTyped c.locals ps → T ls next outs []
+        → T ls (parts_stored f.scratch off (parts_of f.index ps) next) outs []
+    stored_typed ls outs off [] next h n = n
+    stored_typed ls outs off (at_every fs ∷ ps) next h n =
+        stores_typed ls outs off fs (parts_stored f.scratch (off + fields_size fs) (parts_of f.index ps) next) h.0 (stored_typed ls outs (off + fields_size fs) ps next h.1 n)
+    stored_typed ls outs off (at_these ks fs ∷ ps) next h n =
+        let arm : Code = stores f.scratch off fs (scratch_raised f.scratch (fields_size fs) done) in
+        let rest : Code = parts_stored f.scratch off (parts_of f.index ps) next in
+        test_typed ls outs ks (branch None arm done rest) (branching ls outs arm rest
+        (stores_typed (None ∷ ls) [] off fs (scratch_raised f.scratch (fields_size fs) done) h.0 (raised_typed (None ∷ ls) [] (fields_size fs) done (nothing (None ∷ ls))))
+        (stored_typed ls outs off ps next h.1 n))
+
+    loaded_typed : (ls : List (Option ValType)) (outs : List ValType) (off : ℕ) (ps : List SavedPart) (next : Code) → PartsTyped c.locals ps → T ls next outs []
+        → T ls (parts_loaded f.scratch off (parts_of f.index ps) next) outs []
+    loaded_typed ls outs off [] next h n = n
+    loaded_typed ls outs off (at_every fs ∷ ps) next h n =
+        loaded_typed ls outs (off + fields_size fs) ps (loads f.scratch off fs next) h.1 (loads_typed ls outs off fs next h.0 n)
+    loaded_typed ls outs off (at_these ks fs ∷ ps) next h n =
+        let arm : Code = scratch_lowered f.scratch (fields_size fs) (loads f.scratch off fs done) in
+        loaded_typed ls outs off ps (at_calls f.index ks (branch None arm done next)) h.1
+        (test_typed ls outs ks (branch None arm done next) (branching ls outs arm next
+        (lowered_typed (None ∷ ls) [] (fields_size fs) (loads f.scratch off fs done) (loads_typed (None ∷ ls) [] off fs done h.0 (nothing (None ∷ ls)))) n))
+
+    added_typed : (ls : List (Option ValType)) (outs : List ValType) (ps : List SavedPart) (next : Code) → T ls next outs [] → T ls (sizes_added f.index f.scratch ps next) outs []
+    added_typed ls outs [] next n = n
+    added_typed ls outs (at_every fs ∷ ps) next n = added_typed ls outs ps next n
+    added_typed ls outs (at_these ks fs ∷ ps) next n =
+        let arm : Code = scratch_raised f.scratch (fields_size fs) done in
+        let rest : Code = sizes_added f.index f.scratch ps next in
+        test_typed ls outs ks (branch None arm done rest)
+        (branching ls outs arm rest (raised_typed (None ∷ ls) [] (fields_size fs) done (nothing (None ∷ ls))) (added_typed ls outs ps next n))
+
+    -- ---- whole codes
+
+    location_typed : (ls : List (Option ValType)) (outs : List ValType) (next : Code) (ins : List ValType) → T ls next outs (I32 ∷ ins) → T ls (location_of f.address next) outs ins
+    location_typed ls outs next ins h = global_got ls outs f.address (loaded_value I32 0 next) ins t.address (loading ls outs I32 0 next ins t.memory h)
+
+    save_typed : (ls : List (Option ValType)) (next : Code) (outs : List ValType) → T ls next outs []
+        → T ls (plain (basic (const (V.I32 (shared_size (parts_of f.index f.parts) + 4)))) (plain (local_set f.scratch) (sizes_added f.index f.scratch f.parts (behind_sizes f next)))) outs []
+    save_typed ls next outs n =
+        let shared = shared_size (parts_of f.index f.parts) in
+        let s7 : Code = stored_value I32 0 next in
+        let s6 : Code = plain (basic (num I32Add)) s7 in
+        let s5 : Code = plain (basic (const (V.I32 (shared + 4)))) s6 in
+        let s4 : Code = plain (local_get f.scratch) s5 in
+        let s3 : Code = plain (basic (global_get f.address)) s4 in
+        let s2 : Code = stored_value I32 shared s3 in
+        let s1 : Code = plain (local_get f.index) s2 in
+        let h6 = adding ls outs s7 (I32 ∷ []) (storing ls outs I32 0 next [] t.memory n) in
+        let h4 = getting ls outs f.scratch I32 s5 (I32 ∷ []) t.scratch (constant ls outs (shared + 4) s6 (I32 ∷ I32 ∷ []) h6) in
+        let h2 = storing ls outs I32 shared s3 [] t.memory (global_got ls outs f.address s4 [] t.address h4) in
+        let h0 = getting ls outs f.scratch I32 s1 [] t.scratch (getting ls outs f.index I32 s2 (I32 ∷ []) t.index h2) in
+        let p = stored_typed ls outs 0 f.parts (behind_parts f next) t.parts h0 in
+        let stored : Code = frame_stored_by_call (frames_of f) next in
+        let q = location_typed ls outs (plain (local_set f.scratch) stored) [] (setting ls outs f.scratch I32 stored [] t.scratch p) in
+        let r5 : Code = location_of f.address (plain (local_set f.scratch) stored) in
+        let r4 : Code = plain (basic (num I32LtU)) (branch None (plain unreachable done) done r5) in
+        let r3 : Code = plain (local_get f.scratch) r4 in
+        let r2 : Code = plain (basic (num I32Sub)) r3 in
+        let r1 : Code = location_of f.address r2 in
+        let h3 = getting ls outs f.scratch I32 r4 (I32 ∷ []) t.scratch (stopping ls outs r5 [] q) in
+        let h1 = location_typed ls outs r2 (I32 ∷ []) (subtracting ls outs r3 [] h3) in
+        let room = global_got ls outs f.address (loaded_value I32 4 r1) [] t.address (loading ls outs I32 4 r1 [] t.memory h1) in
+        let sized = added_typed ls outs f.parts (behind_sizes f next) room in
+        constant ls outs (shared + 4) (plain (local_set f.scratch) (sizes_added f.index f.scratch f.parts (behind_sizes f next))) []
+        (setting ls outs f.scratch I32 (sizes_added f.index f.scratch f.parts (behind_sizes f next)) [] t.scratch sized)
+
+    restore_typed : (ls : List (Option ValType)) (next : Code) (outs : List ValType) → T ls next outs []
+        → T ls (location_of f.address (plain (basic (const (V.I32 (shared_size (parts_of f.index f.parts) + 4)))) (plain (basic (num I32Sub))
+        (plain (local_tee f.scratch) (frame_loaded_by_call (frames_of f) next))))) outs []
+    restore_typed ls next outs n =
+        let shared = shared_size (parts_of f.index f.parts) in
+        let last : Code = stored_value I32 0 next in
+        let l = global_got ls outs f.address (plain (local_get f.scratch) last) [] t.address (getting ls outs f.scratch I32 last (I32 ∷ []) t.scratch (storing ls outs I32 0 next [] t.memory n)) in
+        let loaded : Code = parts_loaded f.scratch 0 (parts_of f.index f.parts) (location_lowered f.address f.scratch next) in
+        let p = loaded_typed ls outs 0 f.parts (location_lowered f.address f.scratch next) t.parts l in
+        let r4 : Code = frame_loaded_by_call (frames_of f) next in
+        let r3 : Code = plain (local_tee f.scratch) r4 in
+        let r2 : Code = plain (basic (num I32Sub)) r3 in
+        let h4 = loading ls outs I32 shared (plain (local_set f.index) loaded) [] t.memory (setting ls outs f.index I32 loaded [] t.index p) in
+        let h2 = subtracting ls outs r3 [] (teeing ls outs f.scratch I32 r4 [] t.scratch h4) in
+        location_typed ls outs (plain (basic (const (V.I32 (shared + 4)))) r2) [] (constant ls outs (shared + 4) r2 (I32 ∷ []) h2)
+
+pub save_law : PlainSaveTyped
+save_law c ls f next outs t n = save_typed c f t ls next outs n
+
+pub restore_law : PlainRestoreTyped
+restore_law c ls f next outs t n = restore_typed c f t ls next outs n
