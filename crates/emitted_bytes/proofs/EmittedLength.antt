@@ -29,8 +29,9 @@ use Rattle.rewrite_form.specs.Emitted.{written_func, emitted_func, emitted_funcs
 use Rattle.rewrite_form.specs.Sizes.{FewWritten}
 use Rattle.rewrite_form.proofs.Emitted.{inner, told, not_told, same_sorts}
 use Rattle.rewrite_form.proofs.WrittenSizes.{written_size}
-use Rattle.rewrite_form.proofs.WrittenTypes.{three}
-use Rattle.emitted_bytes.proofs.EmittedFits.{defined_of, one_of_all}
+use Rattle.rewrite_form.specs.CodesHold.{three}
+use Rattle.rewrite_form.proofs.EmittedBy.{defined_of}
+use Rattle.emitted_bytes.proofs.FitsBy.{one_of_all}
 use Rattle.emitted_bytes.proofs.GrownFits.{grown_locals}
 use Rattle.emitted_bytes.proofs.Grown.{customs_total, enc_length, with_runtime_length}
 use Rattle.emitted_bytes.proofs.Lengths.{shortest_length, shortest_signed_length, vector_length, sized_length, entries_within, section_length}

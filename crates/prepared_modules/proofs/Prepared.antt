@@ -34,7 +34,8 @@ use Rattle.rewrite_form.proofs.EmittedRewritten.{sort_there}
 use Rattle.rewrite_form.proofs.WrittenSizes.{written_depth}
 use Rattle.rewrite_form.proofs.WrittenTypes.{written_length}
 use Rattle.rewrite_form.proofs.WiderTypes.{same_locals}
-use Rattle.emitted_bytes.proofs.EmittedFits.{defined_of, one_of_all}
+use Rattle.rewrite_form.proofs.EmittedBy.{defined_of}
+use Rattle.emitted_bytes.proofs.FitsBy.{one_of_all}
 use Rattle.prepared_modules.proofs.Floats.{no_floats}
 use Rattle.prepared_modules.proofs.Levels.{Levels, levels_of, opens_of}
 use Rattle.prepared_modules.proofs.Numbers.{below_bound, functions_of, functions_counted, few_params_of, few_params, short_bodies}
