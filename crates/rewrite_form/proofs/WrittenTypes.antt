@@ -5,7 +5,7 @@ use Rattle.std.proofs.lemmas.List.{append_assoc}
 use Rattle.std.proofs.lemmas.Option.{slice_get_within}
 use Rattle.wa_types.specs.declared.values.ValType.{ValType}
 use Rattle.wa_types.specs.declared.values.ValType.TheVariants.{I32}
-use Rattle.wa_types.specs.Frames.{Pair, Place, SlotPairs, ResultPairs, Count, place_onto, named_places, slot_places, Saved}
+use Rattle.wa_types.specs.Frames.{Pair, Place, SlotPairs, ResultPairs, Count, place_onto, named_places, slot_places, places, Saved}
 use Rattle.wa_types.specs.Modules.{locals_of, around}
 use Rattle.wa_types.specs.Pausing.{save_all, Settings}
 use Rattle.wa_types.specs.Runtime.{global_space}
@@ -61,9 +61,10 @@ module _ (locals : List ValType) where
       by true k = (h.0, k)
       by false k = k
 
--- the saved locals are the first of the flat function's
-pub saved_typed : (m : Module) (f : Func) (more : List ValType) → PlacesTyped ((locals_of m f ++ map (λ (p : Pair). p.ty) (SlotPairs m f)) ++ more) (Saved m save_all f 0)
-saved_typed m f more =
+-- places of the own locals and the slots are among the first of the flat function's locals
+pub places_typed : (m : Module) (f : Func) (more : List ValType) (keep : ℕ → Bool) (keep_slot : Pair → Bool)
+    → PlacesTyped ((locals_of m f ++ map (λ (p : Pair). p.ty) (SlotPairs m f)) ++ more) (places m f keep keep_slot)
+places_typed m f more keep keep_slot =
     let own : List ValType = locals_of m f in
     let slots : List ValType = map (λ (p : Pair). p.ty) (SlotPairs m f) in
     let all : List ValType = (own ++ slots) ++ more in
@@ -78,8 +79,16 @@ saved_typed m f more =
     let lt = slice_get_within slots i t e in
     let n = length-append own slots in
     front (own ++ slots) more (length own + i) (omega arith) ∙ behind own slots (length own + i) i refl ∙ e in
-    both_typed all (named_places (λ x. true) 0 own) (slot_places (λ p. true) (length own) (SlotPairs m f)) (named_typed all (λ x. true) 0 own first)
-    (slots_typed all (λ p. true) (length own) (SlotPairs m f) second)
+    both_typed all (named_places keep 0 own) (slot_places keep_slot (length own) (SlotPairs m f)) (named_typed all keep 0 own first)
+    (slots_typed all keep_slot (length own) (SlotPairs m f) second)
+
+-- such places of the written function's locals
+pub places_written : (m : Module) (x : ℕ) (f : Func) (ls : List ValType) (keep : ℕ → Bool) (keep_slot : Pair → Bool) → ls ≡ (flattened m x f).locals ++ three
+    → PlacesTyped ls (places m f keep keep_slot)
+places_written m x f ls keep keep_slot e =
+    let own : List ValType = locals_of m f ++ map (λ (p : Pair). p.ty) (SlotPairs m f) in
+    let results : List ValType = map (λ (p : Pair). p.ty) (ResultPairs m f) in
+    subst (λ ts. PlacesTyped ts (places m f keep keep_slot)) (sym (append_assoc own results three) ∙ sym e) (places_typed m f (results ++ three) keep keep_slot)
 
 -- ---- a function
 
@@ -96,9 +105,7 @@ module _ (m : Module) (s : Settings) (which : List Bool) (x : ℕ) (f : Func) wh
         address = address;
         index = ap (λ ls. slice_get ls n) locals ∙ behind flat_locals three n 0 (omega arith);
         scratch = ap (λ ls. slice_get ls (suc n)) locals ∙ behind flat_locals three (suc n) 1 (omega arith);
-        fields = fields_typed c.locals (is_kept m s which x f) (Saved m save_all f 0)
-            (subst (λ ls. PlacesTyped ls (Saved m save_all f 0)) (sym (append_assoc (locals_of m f ++ map (λ (p : Pair). p.ty) (SlotPairs m f)) (map (λ (p : Pair). p.ty) (ResultPairs m f)) three) ∙ sym locals)
-            (saved_typed m f (map (λ (p : Pair). p.ty) (ResultPairs m f) ++ three)));
+        fields = fields_typed c.locals (is_kept m s which x f) (Saved m save_all f 0) (places_written m x f c.locals (λ y. true) (λ p. true) locals);
       }
 
   pub restoring_typed : CodeTyped m x f (layout_codes m s which x f).restoring
