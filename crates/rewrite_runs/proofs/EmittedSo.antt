@@ -39,7 +39,7 @@ runs_are : (ts : List ValType) → declared_locals (map one_run ts) ≡ ts
 runs_are [] = refl
 runs_are (t ∷ ts) = ap (λ us. t ∷ us) (runs_are ts)
 
-numbered_few : (test : Callee → Bool) (n : ℕ) (cs : List Callee) → length (places_from test n cs) ≤ length cs
+pub numbered_few : (test : Callee → Bool) (n : ℕ) (cs : List Callee) → length (places_from test n cs) ≤ length cs
 numbered_few test n [] = omega arith
 numbered_few test n (c ∷ cs) = by (test c) (numbered_few test (suc n) cs)
   where
