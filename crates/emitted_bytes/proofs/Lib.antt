@@ -7,3 +7,4 @@ pub mod Lengths
 pub mod Spaces
 pub mod TypedCode
 pub mod FitsBy
+pub mod LengthBy

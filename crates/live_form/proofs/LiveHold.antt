@@ -167,11 +167,14 @@ module _ (m : Module) (s : Settings) (which : List Bool) (valid : Valid m) (size
       subst (λ (q : Policy). codes_size codes ≤ 64 * (Weight m f + 4) + frames_size m q f (Numbered m s which f))
       (sym policy) (let a = both_size in omega (arith, a))
 
-  pub live_small : codes_size codes < 2 ^ 53
-  live_small =
+  -- by how many calls there are
+  pub live_few : codes_size codes ≤ 32 + 1500000 * n
+  live_few =
       let a = both_size in
-      let b = total_few m f (Numbered m s which f) few in
-      let c = calls_small in omega (arith, a, b, c)
+      let b = total_few m f (Numbered m s which f) few in omega (arith, a, b)
+
+  pub live_small : codes_size codes < 2 ^ 53
+  live_small = let a = live_few in let c = calls_small in omega (arith, a, c)
 
   pub live_fits : CodesFit codes
   live_fits = (fits_basic (restoring_by_call (frames_of p) done) restoring_fits.fits, fits_basic (saving_by_call (frames_of p) done) saving_fits.fits)

@@ -1,7 +1,8 @@
 -- The module that the policy `live` emits is its original, rewritten.
-use Rattle.std.proofs.Common.{◌≡◌, ℕ, List, [], Option, Some, None, Bool, sym, ap}
+use Rattle.std.proofs.Common.{◌≡◌, ◌≤◌, ℕ, ◌+◌, ◌*◌, List, [], length, Option, Some, None, Bool, true, sym, ap}
+use Rattle.std.specs.Prelude.{slice_get}
 use Rattle.wa_types.specs.Modules.{defined_at}
-use Rattle.wa_types.specs.Pausing.{Settings}
+use Rattle.wa_types.specs.Pausing.{Numbered, Settings, is_told}
 use Rattle.wa_types.specs.Syntax.{done, Func, Module}
 use Rattle.wa_types.specs.Validity.{Valid}
 use Rattle.wa_model.specs.Behaves.{Behaves}
@@ -10,7 +11,7 @@ use Rattle.range_laws.proofs.BlockingRuns.{well_formed_in}
 use Rattle.call_frames.specs.PlainFrames.{SavedParts, frames_of}
 use Rattle.guard_frames.specs.Joined.{one_frame}
 use Rattle.flat_guards.specs.Emitted.{Emitted, Framing}
-use Rattle.rewrite_form.specs.CodesHold.{AllCodesHold, AllCodesSmall}
+use Rattle.rewrite_form.specs.CodesHold.{AllCodesHold, AllCodesSmall, codes_size}
 use Rattle.rewrite_form.proofs.EmittedRewritten.{emitted_valid, rewritten_but_runs, runs_law}
 use Rattle.rewrite_form.proofs.EmittedSizes.{emitted_sizes}
 use Rattle.emitted_bytes.proofs.FitsBy.{AllCodesFit, emitted_fits}
@@ -22,14 +23,18 @@ use Rattle.live_guards.proofs.LiveBehaving.{live_emitted_behave}
 use Rattle.live_form.specs.Laws.{LiveIsRewritten, LiveIsValid, LiveIsWellFormed, LiveKeepsSizes, LiveRewrites, LiveRewriting}
 use Rattle.live_form.specs.LiveParts.{live_asyncified, live_codes}
 use Rattle.live_form.proofs.CallCounts.{told_calls}
-use Rattle.live_form.proofs.LiveHold.{live_fits, live_hold, live_kept, live_small}
+use Rattle.live_form.proofs.LiveHold.{live_few, live_fits, live_hold, live_kept, live_small}
 
 module _ (m : Module) (s : Settings) (which : List Bool) (parts : (index : ℕ) → SavedParts) (r : LiveRewriting m s which parts) where
-  hold : AllCodesHold m s which (live_codes parts)
+  pub hold : AllCodesHold m s which (live_codes parts)
   hold x f is told = live_hold m s which r.valid r.sizes x f (parts x) is (told_calls m s which r.tells x f is told) (r.few x f is told) (r.live x f is told) r.policy
 
   small : AllCodesSmall m which (live_codes parts)
   small x f is told = live_small m s which r.valid r.sizes x f (parts x) is (told_calls m s which r.tells x f is told) (r.few x f is told) (r.live x f is told)
+
+  -- the codes of a function are few by how many numbered calls it has
+  pub few_codes : (x : ℕ) (f : Func) → defined_at m x ≡ Some f → is_told (slice_get which x) ≡ true → codes_size (live_codes parts x f) ≤ 32 + 1500000 * length (Numbered m s which f)
+  few_codes x f is told = live_few m s which r.valid r.sizes x f (parts x) is (told_calls m s which r.tells x f is told) (r.few x f is told) (r.live x f is told)
 
   fit : AllCodesFit m which (live_codes parts)
   fit x f is told = live_fits m s which r.valid r.sizes x f (parts x) is (told_calls m s which r.tells x f is told) (r.few x f is told) (r.live x f is told)
