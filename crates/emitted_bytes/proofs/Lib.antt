@@ -6,3 +6,5 @@ pub mod GrownFits
 pub mod Lengths
 pub mod Spaces
 pub mod TypedCode
+pub mod FitsBy
+pub mod LengthBy

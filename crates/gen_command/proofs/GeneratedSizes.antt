@@ -8,7 +8,7 @@ use Rattle.wa_types.specs.Encoding.{Enc, body_bytes, code_bytes, export_bytes, e
 use Rattle.wa_model.specs.Rewrites.{instructions_and_labels}
 use Rattle.wasm_entries.specs.Locals.{local_count}
 use Rattle.wasm_encode.specs.Modules.{FewLocals}
-use Rattle.emitted_bytes.proofs.EmittedLength.{code_length}
+use Rattle.emitted_bytes.proofs.LengthBy.{code_length}
 use Rattle.emitted_bytes.proofs.Grown.{enc_length}
 use Rattle.emitted_bytes.proofs.Lengths.{entries_length, section_length, shortest_length, sized_length}
 use Rattle.generated_runs.proofs.GeneratedLocals.{each}

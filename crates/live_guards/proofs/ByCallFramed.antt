@@ -8,7 +8,7 @@ use Rattle.wa_types.specs.Frames.{call_number}
 use Rattle.wa_types.specs.Pausing.{Numbered, Settings}
 use Rattle.wa_types.specs.Runtime.{global_space}
 use Rattle.wa_types.specs.Syntax.{Func, Module}
-use Rattle.call_frames.specs.FrameParts.{CallFrames, layout_at, restore_bound, save_bound}
+use Rattle.call_frames.specs.FrameParts.{CallFrames}
 use Rattle.call_frames.proofs.Codes.{codes_law}
 use Rattle.flat_laws.specs.Flatten.{flattened}
 use Rattle.frame_laws.specs.Function.{FrameCodes}
@@ -19,7 +19,7 @@ use Rattle.guard_frames.specs.Joined.{CallFrame, written_of}
 use Rattle.live_stacks.specs.LiveFrames.{fields_at}
 use Rattle.flat_guards.specs.Emitted.{Framing}
 use Rattle.flat_guards.proofs.WantedFields.{number_is}
-use Rattle.live_guards.specs.ByCallFraming.{FramesByCallAreLive, PartsKeepLive, framing_by_call}
+use Rattle.live_guards.specs.ByCallFraming.{FramesByCallAreLive, PartsKeepLive, call_frame, framing_by_call}
 use Rattle.live_guards.specs.LiveFraming.{LiveFrame}
 
 module _ (m : Module) (s : Settings) (which : List Bool) (x : ℕ) (f : Func) (c : CallFrames) (h : PartsKeepLive m s which x f c) (k place : ℕ)
@@ -36,7 +36,7 @@ module _ (m : Module) (s : Settings) (which : List Bool) (x : ℕ) (f : Func) (c
   }
 
   abbrev frame : Option ℕ → CallFrame
-  frame o = record { layout = layout_at c (unwrap_or o 0); save_most = save_bound c; restore_most = restore_bound c }
+  frame o = call_frame c (unwrap_or o 0)
 
   abbrev here : Framing
   here = framing_by_call m s which f c
@@ -55,6 +55,9 @@ module _ (m : Module) (s : Settings) (which : List Bool) (x : ℕ) (f : Func) (c
   fields : (here.frame_at place).layout.fields ≡ fields_at m f place
   fields = ap (λ o. (frame o).layout.fields) number ∙ h.fields k place at
 
+  cost : (here.frame_at place).save_most + (here.frame_at place).restore_most ≤ 64 * (Weight m f + 4)
+  cost = subst (λ o. (frame o).save_most + (frame o).restore_most ≤ 64 * (Weight m f + 4)) (sym number) (h.cost k place at)
+
   framed : (frames : (index : ℕ) → Framing) → frames x ≡ framing_by_call m s which f c → LiveFrame m s which frames x f k place
   framed frames e = record {
     codes = subst (λ z. FrameCodes (written_of (global_space m) (guards z) (z.frame_at place)) k) (sym e) codes;
@@ -62,7 +65,7 @@ module _ (m : Module) (s : Settings) (which : List Bool) (x : ℕ) (f : Func) (c
     index = ap (λ (z : Framing). (z.frame_at place).layout.index) e ∙ h.index;
     scratch = ap (λ (z : Framing). (z.frame_at place).layout.scratch) e ∙ h.scratch;
     fields = ap (λ (z : Framing). (z.frame_at place).layout.fields) e ∙ fields;
-    cost = subst (λ (z : Framing). (z.frame_at place).save_most + (z.frame_at place).restore_most ≤ 64 * (Weight m f + 4)) (sym e) h.cost;
+    cost = subst (λ (z : Framing). (z.frame_at place).save_most + (z.frame_at place).restore_most ≤ 64 * (Weight m f + 4)) (sym e) cost;
   }
 
 pub by_call_framed : FramesByCallAreLive

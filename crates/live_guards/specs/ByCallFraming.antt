@@ -6,22 +6,27 @@ use Rattle.wa_types.specs.Pausing.{Numbered, Settings}
 use Rattle.wa_types.specs.Runtime.{global_space}
 use Rattle.wa_types.specs.Syntax.{done, Func, Module}
 use Rattle.call_frames.specs.ByCall.{FramesTell}
-use Rattle.call_frames.specs.FrameParts.{CallFrames, layout_at, restore_bound, restoring_by_call, save_bound, saving_by_call}
+use Rattle.call_frames.specs.FrameParts.{CallFrames, layout_at, restore_bound_at, restoring_by_call, save_bound_at, saving_by_call}
 use Rattle.call_frames.specs.FrameParts as Parts
 use Rattle.flat_laws.specs.Flatten.{flattened}
 use Rattle.live_stacks.specs.LiveFrames.{fields_at}
+use Rattle.guard_frames.specs.Joined.{CallFrame}
 use Rattle.flat_guards.specs.Emitted.{Framing}
 use Rattle.live_guards.specs.LiveFraming.{LiveFrame}
+
+-- the frame of call k, with what its codes cost there
+abbrev pub call_frame : CallFrames → (k : ℕ) → CallFrame
+call_frame c k = record { layout = layout_at c k; save_most = save_bound_at c k; restore_most = restore_bound_at c k }
 
 -- the codes of such frames; the frame at a place is that of its call's number
 abbrev pub framing_by_call : Module → Settings → List Bool → Func → CallFrames → Framing
 framing_by_call m s which f c = record {
   restoring = restoring_by_call c done;
   saving = saving_by_call c done;
-  frame_at = λ place. record { layout = layout_at c (unwrap_or (call_number m s which f place) 0); save_most = save_bound c; restore_most = restore_bound c };
+  frame_at = λ place. call_frame c (unwrap_or (call_number m s which f place) 0);
 }
 
--- The parts that a call keeps are in a row what the policy saves there, and the code is no larger than it may be.
+-- The parts that a call keeps are in a row what the policy saves there, and the codes cost no more there than they may.
 pub record PartsKeepLive (m : Module) (s : Settings) (which : List Bool) (x : ℕ) (f : Func) (c : CallFrames) : Type 0 where
   pub tells : FramesTell c
   pub count : length (Numbered m s which f) ≤ c.count
@@ -29,7 +34,7 @@ pub record PartsKeepLive (m : Module) (s : Settings) (which : List Bool) (x : �
   pub index : c.index ≡ length (flattened m x f).locals
   pub scratch : c.scratch ≡ suc (length (flattened m x f).locals)
   pub fields : (k place : ℕ) → slice_get (Numbered m s which f) k ≡ Some place → Parts.fields_at k c.parts ≡ fields_at m f place
-  pub cost : save_bound c + restore_bound c ≤ 64 * (Weight m f + 4)
+  pub cost : (k place : ℕ) → slice_get (Numbered m s which f) k ≡ Some place → save_bound_at c k + restore_bound_at c k ≤ 64 * (Weight m f + 4)
 
 -- Such frames are what the policy `live` asks of frames.
 abbrev pub FramesByCallAreLive : Type 0

@@ -28,7 +28,8 @@ use Rattle.rewrite_form.proofs.Emitted.{told, not_told}
 use Rattle.wasm_entries.specs.Locals.{local_count}
 use Rattle.wasm_validate.proofs.FuncLemmas.{func_at}
 use Rattle.wasm_encode.specs.Around.{code_entry}
-use Rattle.emitted_bytes.proofs.EmittedFits.{defined_of, one_of_all}
+use Rattle.rewrite_form.proofs.EmittedBy.{defined_of}
+use Rattle.emitted_bytes.proofs.FitsBy.{one_of_all}
 use Rattle.emitted_bytes.proofs.EmittedLength.{written_entry, written_locals_few}
 use Rattle.emitted_bytes.proofs.Grown.{enc_length}
 use Rattle.emitted_bytes.proofs.Lengths.{entries_within}

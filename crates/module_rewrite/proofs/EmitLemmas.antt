@@ -21,7 +21,7 @@ use Rattle.flatten.proofs.ToldLemmas.{Sofar, sofar_first, sofar_done, go_skip, g
 use Rattle.func_rewrite.specs.Frames.{IsFlattened}
 use Rattle.rewrite_form.specs.Emitted.{written_func, emitted_func, emitted_funcs}
 use Rattle.rewrite_form.proofs.Emitted.{told, not_told}
-use Rattle.rewrite_form.proofs.EmittedSizes.{defined_of}
+use Rattle.rewrite_form.proofs.EmittedBy.{defined_of}
 use Rattle.module_rewrite.specs.Emitting.{LaidOut, PutKept, PutWritten, AllEmitted, Emits}
 use Rattle.module_rewrite.specs.Faults.{of_flat}
 use Rattle.module_rewrite.specs.declared.emitting.Emitted.{Emitted}

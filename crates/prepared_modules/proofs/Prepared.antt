@@ -1,19 +1,16 @@
 -- What is written of an emitted module is within the bounds of a prepared module.
-use Rattle.std.proofs.Common.{◌≡◌, ◌∙◌, ℕ, zero, suc, ◌+◌, ◌<◌, ◌≤◌, List, [], ◌∷◌, ◌++◌, length, map, Bool, true, false, Option, Some, None, All, refl, sym, ap, subst, arith, length-append}
-use Rattle.std.specs.Prelude.{slice_get, max, if◌then◌else◌}
-use Rattle.std.specs.List.{flat_map, sum_by}
+use Rattle.std.proofs.Common.{◌≡◌, ◌∙◌, ℕ, zero, suc, ◌+◌, ◌≤◌, List, [], ◌∷◌, ◌++◌, length, map, Bool, true, false, Some, None, All, refl, sym, ap, subst, arith, length-append}
+use Rattle.std.specs.Prelude.{slice_get, if◌then◌else◌}
 use Rattle.std.proofs.lemmas.List.{length-map, length-replicate}
 use Rattle.std.proofs.lemmas.List.Sums.{sum_by-cons}
 use Rattle.std.proofs.lemmas.List.Elements.{All-nil, All-cons, All-head, All-tail, All-append}
 use Rattle.wa_types.specs.declared.syntax.Run.{Run}
-use Rattle.wa_types.specs.declared.values.ValType.{ValType}
 use Rattle.wa_types.specs.declared.values.ValType.TheVariants.{I32}
 use Rattle.wa_types.specs.Counts.{depth_of}
 use Rattle.wa_types.specs.Encoding.{Enc, merged}
-use Rattle.wa_types.specs.Frames.{Count}
-use Rattle.wa_types.specs.Marks.{floats, opens, function_count, parameter_counts, body_sizes, local_counts, first_above}
+use Rattle.wa_types.specs.Marks.{first_above}
 use Rattle.wa_types.specs.ModuleBounds.{source_bounds, prepared_bounds}
-use Rattle.wa_types.specs.Modules.{func_imports, or_empty, type_at, declared_locals, locals_of, around}
+use Rattle.wa_types.specs.Modules.{func_imports, or_empty, type_at, declared_locals, locals_of}
 use Rattle.wa_types.specs.Norm.{Norm}
 use Rattle.wa_types.specs.Pausing.{Settings, is_told}
 use Rattle.wa_types.specs.Pruned.{is_last, pruned}
@@ -27,14 +24,18 @@ use Rattle.wasm_reader.specs.Answers.{IsAccepted}
 use Rattle.wasm_reader.specs.Locals.{counts_of, func_locals}
 use Rattle.wasm_reader.proofs.SpelledSizes.{none_above, spelled_locals}
 use Rattle.norm_laws.proofs.Locals.{merged_keeps}
-use Rattle.rewrite_form.specs.Emitted.{written_func, emitted_func, emitted_funcs, asyncified}
+use Rattle.rewrite_form.specs.CodesHold.{AllCodesHold}
+use Rattle.rewrite_form.specs.Emitted.{asyncified, layout_codes}
+use Rattle.rewrite_form.specs.EmittedBy.{FrameCode, written_by, func_by, funcs_by, asyncified_by}
 use Rattle.rewrite_form.specs.Sizes.{FewWritten}
-use Rattle.rewrite_form.proofs.Emitted.{inner, emitted, told, not_told, same_length, same_around}
+use Rattle.rewrite_form.proofs.EmittedBy.{inner, told, not_told, same_length, same_around}
 use Rattle.rewrite_form.proofs.EmittedRewritten.{sort_there}
-use Rattle.rewrite_form.proofs.WrittenSizes.{written_depth}
-use Rattle.rewrite_form.proofs.WrittenTypes.{written_length}
+use Rattle.rewrite_form.proofs.SizesBy.{written_depth}
+use Rattle.rewrite_form.proofs.WrittenBy.{written_length}
+use Rattle.rewrite_form.proofs.WrittenSizes.{layouts_hold}
 use Rattle.rewrite_form.proofs.WiderTypes.{same_locals}
-use Rattle.emitted_bytes.proofs.EmittedFits.{defined_of, one_of_all}
+use Rattle.rewrite_form.proofs.EmittedBy.{defined_of}
+use Rattle.emitted_bytes.proofs.FitsBy.{one_of_all}
 use Rattle.prepared_modules.proofs.Floats.{no_floats}
 use Rattle.prepared_modules.proofs.Levels.{Levels, levels_of, opens_of}
 use Rattle.prepared_modules.proofs.Numbers.{below_bound, functions_of, functions_counted, few_params_of, few_params, short_bodies}
@@ -150,19 +151,20 @@ runtime_low m =
     let pq : P q = (omega arith, omega (arith, c)) in
     All-cons P x (y ∷ w ∷ y ∷ q ∷ []) px (All-cons P y (w ∷ y ∷ q ∷ []) py (All-cons P w (y ∷ q ∷ []) pw (All-cons P y (q ∷ []) py (All-cons P q [] pq (All-nil P)))))
 
-module _ (m : Module) (s : Settings) (which : List Bool) (v : Valid m) (few : FewWritten m which) (levels : Levels 1000 m) (locals : All (λ (f : Func). func_locals m.types f ≤ 50000) m.funcs) where
+module _ (m : Module) (s : Settings) (which : List Bool) (codes : (index : ℕ) → Func → FrameCode) (v : Valid m) (hold : AllCodesHold m s which codes) (few : FewWritten m which) (levels : Levels 1000 m)
+    (locals : All (λ (f : Func). func_locals m.types f ≤ 50000) m.funcs) where
   abbrev p : Module
-  p = asyncified m s which
+  p = asyncified_by m s which codes
 
   own_locals : (i : ℕ) (f : Func) → slice_get m.funcs i ≡ Some f → func_locals p.types f ≤ 50000
   own_locals i f e =
       let a = locals_counted p f in
-      let b = ap (λ (c : Around). length c.locals) (same_around m s which f) in
+      let b = ap (λ (c : Around). length c.locals) (same_around m s which codes f) in
       let c = ap length (same_locals m v f (sort_there m s which v i f e)) in
       let d = locals_counted m f in
       let l = one_of_all (λ (f : Func). func_locals m.types f ≤ 50000) m.funcs i f locals e in omega (arith, a, b, c, d, l)
 
-  func_low : (i : ℕ) (f : Func) → slice_get m.funcs i ≡ Some f → Low p (emitted_func m s which (func_imports m + i) f)
+  func_low : (i : ℕ) (f : Func) → slice_get m.funcs i ≡ Some f → Low p (func_by m s which codes (func_imports m + i) f)
   func_low i f e = by (is_told (slice_get which (func_imports m + i))) refl
     where
       x : ℕ
@@ -171,28 +173,29 @@ module _ (m : Module) (s : Settings) (which : List Bool) (v : Valid m) (few : Fe
       deep : depth_of f.body ≤ 1000
       deep = one_of_all (λ (f : Func). depth_of f.body ≤ 1000) m.funcs i f levels.funcs e
 
-      by : (b : Bool) → is_told (slice_get which (func_imports m + i)) ≡ b → Low p (emitted_func m s which (func_imports m + i) f)
+      by : (b : Bool) → is_told (slice_get which (func_imports m + i)) ≡ b → Low p (func_by m s which codes (func_imports m + i) f)
       by true b =
           let y : ℕ = func_imports m + i in
-          let g : Func = written_func m s which y f in
-          let a = written_depth m s which y f in
+          let g : Func = written_by m s which codes y f in
+          let owed = hold y f (defined_of m i f e) b in
+          let a = written_depth m s which codes y f owed.restoring_quiet.depth owed.saving_quiet.depth in
           let c = pruned_flatter f.body in
-          let n = written_length m s which y f v (sort_there m s which v i f e) (v.bodies i f e) in
+          let n = written_length m s which codes y f v (sort_there m s which v i f e) (v.bodies i f e) in
           let k = locals_counted p g in
           let l = few y f (defined_of m i f e) b in
-          subst (Low p) (sym (told m s which y f b)) (omega (arith, a, c, deep), omega (arith, n, k, l))
-      by false b = subst (Low p) (sym (not_told m s which (func_imports m + i) f b)) (omega (arith, deep), own_locals i f e)
+          subst (Low p) (sym (told m s which codes y f b)) (omega (arith, a, c, deep), omega (arith, n, k, l))
+      by false b = subst (Low p) (sym (not_told m s which codes (func_imports m + i) f b)) (omega (arith, deep), own_locals i f e)
 
-  all_low : (y : ℕ) (fs : List Func) → ((i : ℕ) (f : Func) → slice_get fs i ≡ Some f → Low p (emitted_func m s which (y + i) f)) → All (Low p) (emitted_funcs m s which y fs)
+  all_low : (y : ℕ) (fs : List Func) → ((i : ℕ) (f : Func) → slice_get fs i ≡ Some f → Low p (func_by m s which codes (y + i) f)) → All (Low p) (funcs_by m s which codes y fs)
   all_low y [] h = All-nil (Low p)
   all_low y (f ∷ fs) h =
       let z : y + 0 ≡ y = omega arith in
-      All-cons (Low p) (emitted_func m s which y f) (emitted_funcs m s which (suc y) fs) (subst (λ j. Low p (emitted_func m s which j f)) z (h 0 f refl))
-      (all_low (suc y) fs (λ i g e. let k : y + suc i ≡ suc y + i = omega arith in subst (λ j. Low p (emitted_func m s which j g)) k (h (suc i) g e)))
+      All-cons (Low p) (func_by m s which codes y f) (funcs_by m s which codes (suc y) fs) (subst (λ j. Low p (func_by m s which codes j f)) z (h 0 f refl))
+      (all_low (suc y) fs (λ i g e. let k : y + suc i ≡ suc y + i = omega arith in subst (λ j. Low p (func_by m s which codes j g)) k (h (suc i) g e)))
 
   funcs_low : All (Low p) p.funcs
   unfolding with_runtime
-  funcs_low = All-append (Low p) (inner m s which).funcs (runtime_funcs (length m.types) (global_space m) (global_space m + 1)) (all_low (func_imports m) m.funcs func_low) (runtime_low m)
+  funcs_low = All-append (Low p) (inner m s which codes).funcs (runtime_funcs (length m.types) (global_space m) (global_space m + 1)) (all_low (func_imports m) m.funcs func_low) (runtime_low m)
 
   norm_levels : Levels 3008 (Norm p)
   unfolding Norm with_runtime depth_of
@@ -212,22 +215,27 @@ module _ (m : Module) (s : Settings) (which : List Bool) (v : Valid m) (few : Fe
   unfolding Norm with_runtime
   norm_functions =
       let a = length-map p.funcs merged_func in
-      let b = length-append (inner m s which).funcs (runtime_funcs (length m.types) (global_space m) (global_space m + 1)) in
-      let c = same_length m s which in omega (arith, a, b, c)
+      let b = length-append (inner m s which codes).funcs (runtime_funcs (length m.types) (global_space m) (global_space m + 1)) in
+      let c = same_length m s which codes in omega (arith, a, b, c)
 
 -- what is written of a source is within the bounds of a prepared module
-pub emitted_prepared : (m : Module) (s : Settings) (which : List Bool) (bytes : List ℕ) → IsAccepted source_bounds bytes m → Valid m → FewWritten m which
-    → length (Enc (asyncified m s which)) ≤ 67108864 → SpellsModule (Enc (asyncified m s which)) (Norm (asyncified m s which))
-    → IsAccepted prepared_bounds (Enc (asyncified m s which)) (Norm (asyncified m s which))
+pub prepared_by : (m : Module) (s : Settings) (which : List Bool) (codes : (index : ℕ) → Func → FrameCode) (bytes : List ℕ) → IsAccepted source_bounds bytes m → Valid m → AllCodesHold m s which codes → FewWritten m which
+    → length (Enc (asyncified_by m s which codes)) ≤ 67108864 → SpellsModule (Enc (asyncified_by m s which codes)) (Norm (asyncified_by m s which codes))
+    → IsAccepted prepared_bounds (Enc (asyncified_by m s which codes)) (Norm (asyncified_by m s which codes))
 unfolding Norm with_runtime
-emitted_prepared m s which bytes a v few short spelled =
+prepared_by m s which codes bytes a v hold few short spelled =
     let levels = levels_of 1000 a.sections m a.is_module a.within.before.nesting in
     let counts : first_above 50000 (map (func_locals m.types) m.funcs) ≡ None = subst (λ ns. first_above 50000 ns ≡ None) (spelled_locals a.sections m a.is_module) a.within.locals in
     let locals = none_above (func_locals m.types) 50000 m.funcs counts in
     let functions = functions_counted a.sections m a.is_module in
     let most = a.within.before.before.before.before.functions in
     let params = few_params_of 1000 a.sections m a.is_module a.within.before.before.before.parameters in
-    let n = norm_functions m s which v few levels locals in
-    prepared (Enc (asyncified m s which)) (Norm (asyncified m s which)) spelled short (omega (arith, n, functions, most))
+    let n = norm_functions m s which codes v hold few levels locals in
+    prepared (Enc (asyncified_by m s which codes)) (Norm (asyncified_by m s which codes)) spelled short (omega (arith, n, functions, most))
     (All-append FewParams m.types runtime_types params three_types)
-    (norm_levels m s which v few levels locals) (norm_locals m s which v few levels locals)
+    (norm_levels m s which codes v hold few levels locals) (norm_locals m s which codes v hold few levels locals)
+
+pub emitted_prepared : (m : Module) (s : Settings) (which : List Bool) (bytes : List ℕ) → IsAccepted source_bounds bytes m → Valid m → FewWritten m which
+    → length (Enc (asyncified m s which)) ≤ 67108864 → SpellsModule (Enc (asyncified m s which)) (Norm (asyncified m s which))
+    → IsAccepted prepared_bounds (Enc (asyncified m s which)) (Norm (asyncified m s which))
+emitted_prepared m s which bytes a v few short spelled = prepared_by m s which (layout_codes m s which) bytes a v (layouts_hold m s which v) few short spelled

@@ -1,23 +1,22 @@
--- The emitted module keeps the size rule.
-use Rattle.std.proofs.Common.{◌≡◌, ◌∙◌, ℕ, zero, suc, ◌+◌, ◌-◌, ◌*◌, ◌^◌, ◌<◌, ◌≤◌, List, [], ◌∷◌, ◌++◌, length, map, drop, Option, Some, None, Bool, true, false, All, refl, sym, ap, subst, arith, length-append}
-use Rattle.std.specs.Prelude.{slice_get, nat_lt, replicate, if◌then◌else◌}
+-- The emitted module keeps the size rule, where the codes of its frames hold what they owe and are small.
+use Rattle.std.proofs.Common.{◌≡◌, ◌∙◌, ℕ, zero, suc, ◌+◌, ◌*◌, ◌^◌, ◌<◌, ◌≤◌, List, [], ◌∷◌, ◌++◌, length, map, Some, Bool, true, false, All, refl, sym, ap, subst, arith, length-append}
+use Rattle.std.specs.Prelude.{slice_get, if◌then◌else◌}
 use Rattle.std.specs.List.{flat_map, sum_by}
-use Rattle.std.proofs.lemmas.Bool.{le-ltb}
 use Rattle.std.proofs.lemmas.List.{map-append, length-map}
-use Rattle.std.proofs.lemmas.List.Elements.{All-nil, All-cons, All-head, All-tail, All-append, All-weaker}
+use Rattle.std.proofs.lemmas.List.Elements.{All-nil, All-cons, All-head, All-tail, All-append}
 use Rattle.std.proofs.lemmas.List.Sums.{sum_by-cons}
 use Rattle.std.proofs.lemmas.Option.{slice_get_within}
 use Rattle.wa_types.specs.declared.syntax.Import.{Import}
 use Rattle.wa_types.specs.declared.syntax.Run.{Run}
 use Rattle.wa_types.specs.declared.values.ValType.{ValType}
-use Rattle.wa_types.specs.Bounds.{code_weight, Weight}
+use Rattle.wa_types.specs.Bounds.{code_weight}
 use Rattle.wa_types.specs.Frames.{Pair, SlotPairs, ResultPairs, Count}
 use Rattle.wa_types.specs.Modules.{func_imports, locals_of, defined_at}
 use Rattle.wa_types.specs.Pausing.{Callee, direct, indirect, callee, callee_onto, calls_of, calls_in, Settings, is_told, Numbered}
 use Rattle.wa_types.specs.Pruned.{is_last, pruned}
-use Rattle.wa_types.specs.Runtime.{func_space, global_space, runtime_types, runtime_exports, with_runtime}
-use Rattle.wa_types.specs.Sizes.{params_of_type, kind_sorts, all_sorts, params_at_index, label_count, call_params, else_count, code_items, code_params, code_lists, FuncSizes, SizeRule, StrictSizeRule}
-use Rattle.wa_types.specs.Syntax.{basic, local_get, local_set, local_tee, br, br_if, br_table, return, unreachable, call, call_indirect, Plain, Code, done, plain, nest, branch, FuncType, Func, Module}
+use Rattle.wa_types.specs.Runtime.{global_space, runtime_types, with_runtime}
+use Rattle.wa_types.specs.Sizes.{params_of_type, kind_sorts, all_sorts, params_at_index, call_params, else_count, code_items, code_params, code_lists, FuncSizes, SizeRule, StrictSizeRule}
+use Rattle.wa_types.specs.Syntax.{basic, local_get, local_set, local_tee, br, br_if, br_table, return, unreachable, call, call_indirect, Plain, Code, done, plain, nest, branch, Func, Module}
 use Rattle.wa_types.specs.Validity.{Valid}
 use Rattle.wa_types.proofs.SizeBounds.{weight_fits}
 use Rattle.wa_model.specs.Flat.{code_of, body_of}
@@ -28,20 +27,20 @@ use Rattle.flat_fits.proofs.Calls.{calls_stay}
 use Rattle.flat_fits.proofs.Whole.{meets}
 use Rattle.flat_laws.specs.Flatten.{flattened}
 use Rattle.flat_laws.specs.FlatModule.{extra_types}
-use Rattle.frame_laws.specs.Layout.{fields_size, frame_size, placed, spilled_by, save_code, restore_code}
 use Rattle.guard_form.specs.Functions.{indices_of}
-use Rattle.guard_form.specs.Pieces.{flat_units}
 use Rattle.guard_form.proofs.Grouped.{joins_law}
 use Rattle.wa_model.proofs.GrownSteps.{front}
 use Rattle.wa_model.proofs.RuntimeValid.{behind}
 use Rattle.run_laws.proofs.Sizes.{one_more, params_more, runtime_keeps_sizes}
-use Rattle.rewrite_form.specs.Emitted.{frame_layout, guarded_func, written_func, emitted_func, emitted_funcs, asyncified}
+use Rattle.rewrite_form.specs.CodesHold.{AllCodesHold, AllCodesSmall, CodeQuiet, CodesHold, codes_size, three}
+use Rattle.rewrite_form.specs.Emitted.{layout_codes}
+use Rattle.rewrite_form.specs.EmittedBy.{FrameCode, guarded_by, written_by, func_by, funcs_by}
 use Rattle.rewrite_form.specs.Sizes.{FewWritten, EmittedKeepsSizes}
-use Rattle.rewrite_form.proofs.Emitted.{sort_of, inner, emitted, runtime, told, not_told, same_sorts, same_length, own_sorts, funcs_are}
+use Rattle.rewrite_form.proofs.EmittedBy.{defined_of, defined_where, sort_of, inner, emitted, runtime, told, not_told, same_sorts, same_length, funcs_are}
 use Rattle.rewrite_form.proofs.EmittedRewritten.{same_exports}
-use Rattle.rewrite_form.proofs.Marks.{Marking, marks_of, marks_saving, marks_restoring, marks_written, call_marking, calls_are, table_marking, tables_few, lists_few}
-use Rattle.rewrite_form.proofs.WrittenSizes.{written_size}
-use Rattle.rewrite_form.proofs.WrittenTypes.{three}
+use Rattle.rewrite_form.proofs.Marks.{Marking, marks_of, marks_written, call_marking, calls_are, table_marking, tables_few, lists_few}
+use Rattle.rewrite_form.proofs.SizesBy.{written_size}
+use Rattle.rewrite_form.proofs.WrittenSizes.{layout_size, layouts_hold}
 
 -- ---- parameters of calls
 
@@ -141,18 +140,23 @@ all_of : {X : Type 0} (P : X → Type 0) (xs : List X) → ((i : ℕ) (x : X) �
 all_of P [] h = All-nil P
 all_of P (x ∷ xs) h = All-cons P x xs (h 0 x refl) (all_of P xs (λ i y e. h (suc i) y e))
 
-pub defined_of : (m : Module) (i : ℕ) (f : Func) → slice_get m.funcs i ≡ Some f → defined_at m (func_imports m + i) ≡ Some f
-defined_of m i f e =
-    let n : ℕ = func_imports m in
-    let z : nat_lt (n + i) n ≡ false = le-ltb (n + i) n (omega arith) in
-    let k : (n + i) - n ≡ i = omega arith in
-    ap (λ (b : Bool). if b then None else slice_get m.funcs ((n + i) - n)) z ∙ ap (slice_get m.funcs) k ∙ e
-
 -- ---- a written function
 
-module _ (m : Module) (s : Settings) (which : List Bool) (v : Valid m) (strict : StrictSizeRule m) where
+-- code without calls and branch tables has no marks
+none_left : (xs : List ℕ) → Each (λ x. x < 0) xs → xs ≡ []
+none_left [] h = refl
+none_left (x ∷ xs) h = let z = h.0 in absurd (omega arith)
+
+no_calls : (c : Code) → CodeQuiet c → marks_of call_marking c ≡ []
+no_calls c q = calls_are c ∙ q.calls
+
+no_tables : (c : Code) → CodeQuiet c → marks_of table_marking c ≡ []
+no_tables c q = none_left (marks_of table_marking c) (tables_few 0 c (q.lists 0))
+
+module _ (m : Module) (s : Settings) (which : List Bool) (codes : (index : ℕ) → Func → FrameCode) (v : Valid m) (strict : StrictSizeRule m) (hold : AllCodesHold m s which codes)
+    (small : AllCodesSmall m which codes) where
   abbrev p : Module
-  p = emitted m s which
+  p = emitted m s which codes
 
   types_are : p.types ≡ (with_runtime m).types
   unfolding with_runtime
@@ -162,7 +166,7 @@ module _ (m : Module) (s : Settings) (which : List Bool) (v : Valid m) (strict :
   unfolding with_runtime
   sorts_are =
       ap (λ ks. flat_map (λ (i : Import). kind_sorts i.kind) m.imports ++ ks)
-      (map-append sort_of (inner m s which).funcs (runtime m s which) ∙ ap (λ ks. ks ++ map sort_of (runtime m s which)) (same_sorts m s which) ∙ sym (map-append sort_of m.funcs (runtime m s which)))
+      (map-append sort_of (inner m s which codes).funcs (runtime m s which codes) ∙ ap (λ ks. ks ++ map sort_of (runtime m s which codes)) (same_sorts m s which codes) ∙ sym (map-append sort_of m.funcs (runtime m s which codes)))
 
   params_are : (c : Code) → code_params p c ≡ code_params (with_runtime m) c
   params_are = same_params p (with_runtime m) types_are sorts_are
@@ -177,20 +181,23 @@ module _ (m : Module) (s : Settings) (which : List Bool) (v : Valid m) (strict :
   unfolding with_runtime
   types_grow = refl
 
-  module _ (x : ℕ) (f : Func) (is : defined_at m x ≡ Some f) (few : Count m f ≤ 50000) where
+  module _ (x : ℕ) (f : Func) (is : defined_at m x ≡ Some f) (is_written : is_told (slice_get which x) ≡ true) (few : Count m f ≤ 50000) where
     abbrev g : Func
-    g = written_func m s which x f
+    g = written_by m s which codes x f
 
-    no_marks : {X : Type 0} (k : Marking X) → marks_of k g.body ≡ marks_of k (code_of (flattened m x f).body)
-    no_marks k =
-        let l = frame_layout m s which x f in
-        let gf = guarded_func m s which x f in
-        marks_written k (indices_of (global_space m) gf) gf.restoring gf.saving gf.result gf.first gf.body (marks_restoring k (spilled_by l) (fields_size l.fields) (placed 0 l.fields) done)
-        (marks_saving k (spilled_by l) (fields_size l.fields) (placed 0 l.fields) done)
+    owed : CodesHold m s which x f (codes x f)
+    owed = hold x f is is_written
+
+    no_marks : {X : Type 0} (k : Marking X) → marks_of k (codes x f).restoring ≡ [] → marks_of k (codes x f).saving ≡ [] → marks_of k g.body ≡ marks_of k (code_of (flattened m x f).body)
+    no_marks k er es =
+        let gf = guarded_by m s which codes x f in
+        marks_written k (indices_of (global_space m) gf) gf.restoring gf.saving gf.result gf.first gf.body er es
         ∙ ap (marks_of k) (joins_law (Numbered m s which f) 0 (flattened m x f).body)
 
     calls_same : calls_of g.body ≡ calls_in f
-    calls_same = sym (calls_are g.body) ∙ no_marks call_marking ∙ calls_are (code_of (flattened m x f).body) ∙ calls_stay m x f
+    calls_same =
+        sym (calls_are g.body) ∙ no_marks call_marking (no_calls (codes x f).restoring owed.restoring_quiet) (no_calls (codes x f).saving owed.saving_quiet)
+        ∙ calls_are (code_of (flattened m x f).body) ∙ calls_stay m x f
 
     flat_lists : code_lists (2 ^ 32) (body_of (flattened m x f)) → code_lists (2 ^ 32) (code_of (flattened m x f).body)
     flat_lists h = h.0
@@ -207,11 +214,11 @@ module _ (m : Module) (s : Settings) (which : List Bool) (v : Valid m) (strict :
     lists : code_lists (2 ^ 32) g.body
     lists =
         lists_few (2 ^ 32) g.body
-        (subst (Each (λ x. x < 2 ^ 32)) (sym (no_marks table_marking)) (tables_few (2 ^ 32) (code_of (flattened m x f).body) (flat_lists (meets m x f v strict is counted).fits.sizes.labels)))
+        (subst (Each (λ x. x < 2 ^ 32)) (sym (no_marks table_marking (no_tables (codes x f).restoring owed.restoring_quiet) (no_tables (codes x f).saving owed.saving_quiet))) (tables_few (2 ^ 32) (code_of (flattened m x f).body) (flat_lists (meets m x f v strict is counted).fits.sizes.labels)))
 
-    bound : (items calls own runs size w l more oi oc op orn : ℕ) → items ≤ 3 * size → size ≤ 25 * w + 6 * l + 45 → w + l < 2 ^ 31 → calls ≤ oc + oi → own ≤ op + 1 → runs ≡ orn + more
+    bound : (items calls own runs size w l cs more oi oc op orn : ℕ) → items ≤ 3 * size → size ≤ 19 * w + cs + 11 → cs < 2 ^ 53 → w + l < 2 ^ 31 → calls ≤ oc + oi → own ≤ op + 1 → runs ≡ orn + more
         → more ≤ 50003 → oi + 1 + oc + op + orn < 2 ^ 31 → items + 1 + calls + own + runs < 2 ^ 56
-    bound items calls own runs size w l more oi oc op orn a b c d e h i j = omega (arith, a, b, c, d, e, h, i, j)
+    bound items calls own runs size w l cs more oi oc op orn a b z c d e h i j = omega (arith, a, b, z, c, d, e, h, i, j)
 
     func_written : (i : ℕ) → slice_get m.funcs i ≡ Some f → FuncSizes (2 ^ 31) (2 ^ 31) m f → FuncSizes (2 ^ 32) (2 ^ 56) p g
     func_written i e h =
@@ -238,8 +245,8 @@ module _ (m : Module) (s : Settings) (which : List Bool) (v : Valid m) (strict :
           runs = omega (arith, runs, added, long, many);
           labels = lists;
           total = bound (code_items g.body) (code_params p g.body) (params_of_type p.types f.sort) (sum_by (λ (r : Run). r.count) g.locals) (instructions_and_labels g.body)
-              (code_weight m (pruned f.body)) (length (locals_of m f)) (length extra) (code_items f.body) (code_params m f.body) (params_of_type m.types f.sort)
-              (sum_by (λ (r : Run). r.count) f.locals) (items_few g.body) (written_size m s which x f v i e) (weight_fits (2 ^ 31) (2 ^ 31) m f h) calls own sum added total;
+              (code_weight m (pruned f.body)) (length (locals_of m f)) (codes_size (codes x f)) (length extra) (code_items f.body) (code_params m f.body) (params_of_type m.types f.sort)
+              (sum_by (λ (r : Run). r.count) f.locals) (items_few g.body) (written_size m s which codes x f) (small x f is is_written) (weight_fits (2 ^ 31) (2 ^ 31) m f h) calls own sum added total;
         }
 
   -- ---- all functions
@@ -250,52 +257,52 @@ module _ (m : Module) (s : Settings) (which : List Bool) (v : Valid m) (strict :
   abbrev grown : SizeRule (with_runtime m)
   grown = runtime_keeps_sizes m strict
 
-  grown_funcs : (with_runtime m).funcs ≡ m.funcs ++ runtime m s which
+  grown_funcs : (with_runtime m).funcs ≡ m.funcs ++ runtime m s which codes
   unfolding with_runtime
   grown_funcs = refl
 
-  grown_func : (i : ℕ) (f : Func) → slice_get (m.funcs ++ runtime m s which) i ≡ Some f → FuncSizes (2 ^ 32) (2 ^ 56) (with_runtime m) f
+  grown_func : (i : ℕ) (f : Func) → slice_get (m.funcs ++ runtime m s which codes) i ≡ Some f → FuncSizes (2 ^ 32) (2 ^ 56) (with_runtime m) f
   grown_func i f e = one_of_all (FuncSizes (2 ^ 32) (2 ^ 56) (with_runtime m)) (with_runtime m).funcs i f grown.each_func (ap (λ fs. slice_get fs i) grown_funcs ∙ e)
 
-  all_emitted : (y : ℕ) (fs : List Func) → ((i : ℕ) (f : Func) → slice_get fs i ≡ Some f → P (emitted_func m s which (y + i) f)) → All P (emitted_funcs m s which y fs)
+  all_emitted : (y : ℕ) (fs : List Func) → ((i : ℕ) (f : Func) → slice_get fs i ≡ Some f → P (func_by m s which codes (y + i) f)) → All P (funcs_by m s which codes y fs)
   all_emitted y [] h = All-nil P
   all_emitted y (f ∷ fs) h =
       let z : y + 0 ≡ y = omega arith in
-      All-cons P (emitted_func m s which y f) (emitted_funcs m s which (suc y) fs) (subst (λ j. P (emitted_func m s which j f)) z (h 0 f refl))
-      (all_emitted (suc y) fs (λ i g e. let k : y + suc i ≡ suc y + i = omega arith in subst (λ j. P (emitted_func m s which j g)) k (h (suc i) g e)))
+      All-cons P (func_by m s which codes y f) (funcs_by m s which codes (suc y) fs) (subst (λ j. P (func_by m s which codes j f)) z (h 0 f refl))
+      (all_emitted (suc y) fs (λ i g e. let k : y + suc i ≡ suc y + i = omega arith in subst (λ j. P (func_by m s which codes j g)) k (h (suc i) g e)))
 
-  each_emitted : FewWritten m which → (i : ℕ) (f : Func) → slice_get m.funcs i ≡ Some f → P (emitted_func m s which (func_imports m + i) f)
+  each_emitted : FewWritten m which → (i : ℕ) (f : Func) → slice_get m.funcs i ≡ Some f → P (func_by m s which codes (func_imports m + i) f)
   each_emitted few i f e = by (is_told (slice_get which (func_imports m + i))) refl
     where
       x : ℕ
       x = func_imports m + i
 
-      by : (b : Bool) → is_told (slice_get which (func_imports m + i)) ≡ b → P (emitted_func m s which (func_imports m + i) f)
+      by : (b : Bool) → is_told (slice_get which (func_imports m + i)) ≡ b → P (func_by m s which codes (func_imports m + i) f)
       by true b =
           let is = defined_of m i f e in
-          subst P (sym (told m s which (func_imports m + i) f b))
-          (func_written (func_imports m + i) f is (few (func_imports m + i) f is b) i e (one_of_all (FuncSizes (2 ^ 31) (2 ^ 31) m) m.funcs i f strict.each_func e))
+          subst P (sym (told m s which codes (func_imports m + i) f b))
+          (func_written (func_imports m + i) f is b (few (func_imports m + i) f is b) i e (one_of_all (FuncSizes (2 ^ 31) (2 ^ 31) m) m.funcs i f strict.each_func e))
       by false b =
-          subst P (sym (not_told m s which (func_imports m + i) f b))
-          (func_same f (grown_func i f (front m.funcs (runtime m s which) i (slice_get_within m.funcs i f e) ∙ e)))
+          subst P (sym (not_told m s which codes (func_imports m + i) f b))
+          (func_same f (grown_func i f (front m.funcs (runtime m s which codes) i (slice_get_within m.funcs i f e) ∙ e)))
 
-  each_runtime : All P (runtime m s which)
-  each_runtime = all_of P (runtime m s which) (λ i f e. func_same f (grown_func (length m.funcs + i) f (behind m.funcs (runtime m s which) (length m.funcs + i) i refl ∙ e)))
+  each_runtime : All P (runtime m s which codes)
+  each_runtime = all_of P (runtime m s which codes) (λ i f e. func_same f (grown_func (length m.funcs + i) f (behind m.funcs (runtime m s which codes) (length m.funcs + i) i refl ∙ e)))
 
   each_func : FewWritten m which → All P p.funcs
   each_func few =
-      subst (All P) (sym (funcs_are m s which)) (All-append P (inner m s which).funcs (runtime m s which) (all_emitted (func_imports m) m.funcs (each_emitted few)) each_runtime)
+      subst (All P) (sym (funcs_are m s which codes)) (All-append P (inner m s which codes).funcs (runtime m s which codes) (all_emitted (func_imports m) m.funcs (each_emitted few)) each_runtime)
 
   pub emitted_sizes : FewWritten m which → SizeRule p
   unfolding with_runtime
   emitted_sizes few =
       let r : SizeRule (with_runtime m) = grown in
-      let many = same_length m s which in
-      let a = length-append (inner m s which).funcs (runtime m s which) in
-      let b = length-append m.funcs (runtime m s which) in
+      let many = same_length m s which codes in
+      let a = length-append (inner m s which codes).funcs (runtime m s which codes) in
+      let b = length-append m.funcs (runtime m s which codes) in
       let funcs = r.funcs in
       let exports = r.exports in
-      let same = ap length (same_exports m s which v) in
+      let same = ap length (same_exports m s which codes v) in
       record {
         types = r.types;
         each_type = r.each_type;
@@ -313,5 +320,11 @@ module _ (m : Module) (s : Settings) (which : List Bool) (v : Valid m) (strict :
         each_segment = r.each_segment;
       }
 
+layouts_small : (m : Module) (s : Settings) (which : List Bool) → Valid m → StrictSizeRule m → AllCodesSmall m which (layout_codes m s which)
+layouts_small m s which v strict x f is told =
+    let at = defined_where m x f is in
+    let z = layout_size m s which x f v at.0 at.1 in
+    let w = weight_fits (2 ^ 31) (2 ^ 31) m f (one_of_all (FuncSizes (2 ^ 31) (2 ^ 31) m) m.funcs at.0 f strict.each_func at.1) in omega (arith, z, w)
+
 pub sizes_law : EmittedKeepsSizes
-sizes_law m s which v strict few = emitted_sizes m s which v strict few
+sizes_law m s which v strict few = emitted_sizes m s which (layout_codes m s which) v strict (layouts_hold m s which v) (layouts_small m s which v strict) few

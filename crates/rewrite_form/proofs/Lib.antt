@@ -1,8 +1,11 @@
 pub mod Emitted
-pub mod WiderTypes
-pub mod WrittenTypes
-pub mod WrittenSizes
+pub mod EmittedBy
 pub mod EmittedRewritten
-pub mod Marks
 pub mod EmittedSizes
+pub mod Marks
+pub mod SizesBy
 pub mod UnitsFew
+pub mod WiderTypes
+pub mod WrittenBy
+pub mod WrittenSizes
+pub mod WrittenTypes

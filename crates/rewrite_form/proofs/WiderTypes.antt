@@ -10,7 +10,7 @@ use Rattle.wa_types.specs.declared.values.ValType.TheVariants.{I32}
 use Rattle.wa_types.specs.Base.{Base}
 use Rattle.wa_types.specs.Modules.{imported, imported_global, global_type, func_sorts, func_types, type_at, all_globals, declared_locals, around}
 use Rattle.wa_types.specs.Runtime.{func_space, global_space, runtime_types, runtime_globals, runtime_funcs, runtime_exports, with_runtime}
-use Rattle.wa_types.specs.Syntax.{Plain, basic, local_get, local_set, local_tee, Code, done, plain, nest, branch, br, br_if, br_table, FuncType, Func, Module}
+use Rattle.wa_types.specs.Syntax.{Plain, local_get, local_set, local_tee, Code, done, plain, nest, branch, br, br_if, br_table, FuncType, Func, Module}
 use Rattle.wa_types.specs.Typing.{Around, Sig, listed, gets, sets, tees, sig, Takes, label, Types}
 use Rattle.wa_types.specs.Validity.{Valid}
 use Rattle.wa_model.specs.Flat.{Stmts, no_more, computes, copies, calls, leaps, leaps_if, leaps_by, nests, decides, halts, followed_by, got, all_got, set_to, slots_got, last_of}

@@ -1,19 +1,17 @@
 -- The module that rewriting emits under policy `all`.
-use Rattle.std.specs.Prelude.{ℕ, suc, List, [], ◌∷◌, ◌++◌, length, map, Option, Some, None, Bool, ◌||◌, slice_get, nat_lt, nat_eq, if◌then◌else◌}
+use Rattle.std.specs.Prelude.{ℕ, suc, List, [], length, map, Option, Some, None, Bool, ◌||◌, slice_get, nat_lt, nat_eq, if◌then◌else◌}
 use Rattle.std.specs.List.{list_any}
-use Rattle.wa_types.specs.declared.values.ValType.TheVariants.{I32, I64}
 use Rattle.wa_types.specs.Frames.{Place, Saved}
-use Rattle.wa_types.specs.Modules.{func_imports, locals_of}
+use Rattle.wa_types.specs.Modules.{locals_of}
 use Rattle.wa_types.specs.Pausing.{save_all, Settings, is_told, Numbered}
-use Rattle.wa_types.specs.Runtime.{global_space, with_runtime}
+use Rattle.wa_types.specs.Runtime.{global_space}
 use Rattle.wa_types.specs.Syntax.{done, Func, Module}
 use Rattle.wa_model.specs.Flat.{FlatFunc}
-use Rattle.wa_model.specs.FlatFits.{one_run}
 use Rattle.flat_laws.specs.Flatten.{flattened}
-use Rattle.flat_laws.specs.FlatModule.{extra_types, stacks_in}
+use Rattle.flat_laws.specs.FlatModule.{stacks_in}
 use Rattle.frame_laws.specs.Layout.{FrameField, kept, gap, Layout, save_code, restore_code}
-use Rattle.guard_form.specs.Functions.{GuardedFunc, Role, as_is, with_guards, written_code}
-use Rattle.guard_form.specs.Pieces.{first_piece, units}
+use Rattle.guard_form.specs.Functions.{GuardedFunc, Role, as_is, with_guards}
+use Rattle.rewrite_form.specs.EmittedBy.{FrameCode, asyncified_by, func_by, funcs_by, guarded_by, written_by}
 
 -- ---- frames
 
@@ -45,41 +43,32 @@ frame_layout m s which x f = record {
 
 -- ---- functions
 
+-- its codes
+abbrev pub layout_codes : Module → Settings → (which : List Bool) → (index : ℕ) → Func → FrameCode
+layout_codes m s which x f = record { restoring = restore_code (frame_layout m s which x f) done; saving = save_code (frame_layout m s which x f) done }
+
 -- A function that may pause: its flat statements in pieces and units by its numbered calls, with the code that restores and
 -- saves its frame.
 abbrev pub guarded_func : Module → Settings → (which : List Bool) → (index : ℕ) → Func → GuardedFunc
-guarded_func m s which x f = record {
-  size = length (flattened m x f).locals;
-  restoring = restore_code (frame_layout m s which x f) done;
-  saving = save_code (frame_layout m s which x f) done;
-  result = (flattened m x f).result;
-  first = first_piece (Numbered m s which f) 0 (flattened m x f).body;
-  body = units (Numbered m s which f) 0 (flattened m x f).body;
-}
+guarded_func m s which x f = guarded_by m s which (layout_codes m s which) x f
 
--- As it is written, where the global of the state stands behind the module's own. Behind its locals stand the slots, the
--- result locals, the call index and a scratch local of each type.
+-- As it is written. Behind its locals stand the slots, the result locals, the call index and a scratch local of each type.
 abbrev pub written_func : Module → Settings → (which : List Bool) → (index : ℕ) → Func → Func
-written_func m s which x f = record {
-  sort = f.sort;
-  locals = f.locals ++ map one_run (extra_types m f ++ I32 ∷ I32 ∷ I64 ∷ []);
-  body = written_code (global_space m) (with_guards (guarded_func m s which x f));
-}
+written_func m s which x f = written_by m s which (layout_codes m s which) x f
 
 -- a function that may pause is written, any other stays
 abbrev pub emitted_func : Module → Settings → (which : List Bool) → (index : ℕ) → Func → Func
-emitted_func m s which x f = if is_told (slice_get which x) then written_func m s which x f else f
+emitted_func m s which x f = func_by m s which (layout_codes m s which) x f
 
 -- the functions from this index on
 abbrev pub emitted_funcs : Module → Settings → (which : List Bool) → (index : ℕ) → List Func → List Func
-emitted_funcs m s which x [] = []
-emitted_funcs m s which x (f ∷ fs) = emitted_func m s which x f ∷ emitted_funcs m s which (suc x) fs
+emitted_funcs m s which x fs = funcs_by m s which (layout_codes m s which) x fs
 
 -- ---- the module
 
 -- The module in which each function that may pause is written, `which` telling them, with the runtime's parts behind its own.
 abbrev pub asyncified : Module → Settings → (which : List Bool) → Module
-asyncified m s which = with_runtime (record m { funcs = emitted_funcs m s which (func_imports m) m.funcs })
+asyncified m s which = asyncified_by m s which (layout_codes m s which)
 
 -- What a function of the module is in flat code and as it is written.
 abbrev pub role_of : Module → Settings → (which : List Bool) → (index : ℕ) → Func → Role

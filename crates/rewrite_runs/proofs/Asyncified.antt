@@ -1,60 +1,48 @@
 -- The emitted module, as it is defined, is one that the headline speaks of.
 use mathlib.Core.List.{reverse_aux}
-use Rattle.std.proofs.Common.{◌≡◌, replicate, ℕ, suc, ◌+◌, ◌^◌, ◌<◌, ◌≤◌, List, [], ◌∷◌, ◌++◌, length, map, reverse, Option, Some, None, Bool, true, false, All, Contains, refl, sym, ap, ◌∙◌, subst, arith, eq-eqb}
-use Rattle.std.specs.Prelude.{slice_get, nat_eq, nat_lt, ◌||◌, if◌then◌else◌}
+use Rattle.std.proofs.Common.{◌≡◌, ℕ, suc, List, [], ◌∷◌, length, map, reverse, Option, Some, None, Bool, true, false, All, Contains, refl, sym, ap, ◌∙◌, eq-eqb}
+use Rattle.std.specs.Prelude.{slice_get, nat_eq, nat_lt, ◌||◌}
 use Rattle.std.specs.List.{list_any}
 use Rattle.std.specs.Option.{option_map}
-use Rattle.std.proofs.lemmas.List.{append_assoc, map-append}
-use Rattle.std.proofs.lemmas.List.Concat.{flat_map-append}
 use Rattle.std.proofs.lemmas.List.Elements.{All-cons, All-nil}
 use Rattle.std.proofs.lemmas.List.Folds.{list_any_at}
 use Rattle.std.proofs.lemmas.Option.{slice_get-map}
 use Rattle.wa_types.specs.Base.{Base}
-use Rattle.wa_types.specs.Frames.{Count, Pair, Place, ResultPairs, Saved, SlotPairs}
-use Rattle.wa_types.specs.Modules.{declared_locals, defined_at, func_imports, locals_of}
-use Rattle.wa_types.specs.Pausing.{Callee, Numbered, Settings, TellsMayPause, calls_in, has_number, is_told, places_from, save_all}
+use Rattle.wa_types.specs.Frames.{Place, Saved, SlotPairs}
+use Rattle.wa_types.specs.Modules.{defined_at, locals_of}
+use Rattle.wa_types.specs.Pausing.{Numbered, Settings, TellsMayPause, save_all}
 use Rattle.wa_types.specs.Points.{func_call_points}
-use Rattle.wa_types.specs.Runtime.{global_space, runtime_funcs, with_runtime}
+use Rattle.wa_types.specs.Runtime.{global_space}
 use Rattle.wa_types.specs.Sizes.{StrictSizeRule}
 use Rattle.wa_types.specs.Syntax.{Func, Module, done}
 use Rattle.wa_types.specs.Validity.{Valid}
-use Rattle.wa_types.specs.declared.syntax.Run.{Run}
 use Rattle.wa_types.specs.declared.values.ValType.{ValType}
-use Rattle.wa_types.specs.declared.values.ValType.TheVariants.{I32, I64}
 use Rattle.wa_model.specs.Behaves.{Behaves}
 use Rattle.wa_model.specs.Flat.{FlatFunc}
-use Rattle.wa_model.specs.FlatFits.{one_run}
 use Rattle.wa_model.specs.Quiet.{FreeOfNames}
 use Rattle.wa_model.proofs.BaseValid.{base_valid}
 use Rattle.wa_model.proofs.FittingSteps.{body_typed}
 use Rattle.wa_model.proofs.Runs.{lt_true}
 use Rattle.range_laws.proofs.BlockingRuns.{well_formed_in}
-use Rattle.flat_laws.specs.FlatModule.{extra_types, flat_func, stacks_in}
+use Rattle.flat_laws.specs.FlatModule.{stacks_in}
 use Rattle.flat_laws.specs.Flatten.{flattened, names, slots}
-use Rattle.flat_laws.proofs.FlatModules.{is_flat}
-use Rattle.flat_laws.proofs.RuntimeModules.{base_flattened, base_results, base_slots}
+use Rattle.flat_laws.proofs.RuntimeModules.{base_flattened, base_slots}
 use Rattle.flat_laws.proofs.Sizes.{stacks_are_slots}
-use Rattle.flat_fits.proofs.Calls.{calls_stay}
-use Rattle.flat_fits.proofs.Whole.{counted, meets}
 use Rattle.frame_laws.specs.Layout.{Layout, FrameField, restore_code, save_code}
-use Rattle.guard_form.specs.Functions.{GuardedFunc, with_guards, written_code}
-use Rattle.guard_form.specs.Pieces.{first_piece, units}
-use Rattle.flat_guards.specs.Emitted.{Emitted, KeepsEnough, WrittenAs, fields_of, guarded_of, layout_of, AllKeepEnough, Framing, kept_frames, lay_at}
+use Rattle.flat_guards.specs.Emitted.{Emitted, KeepsEnough, fields_of, layout_of, AllKeepEnough, Framing, kept_frames, lay_at}
 use Rattle.flat_guards.proofs.KeptFields.{all_places}
-use Rattle.flat_guards.proofs.PairedFlat.{base_defined, base_locals, defined_by}
+use Rattle.flat_guards.proofs.PairedFlat.{base_defined, base_locals}
 use Rattle.flat_guards.proofs.PauseCosts.{emitted_behave}
-use Rattle.rewrite_form.specs.Emitted.{asyncified, emitted_func, field_where, frame_layout, guarded_func, holds_operand, is_kept, or_none, written_func}
+use Rattle.rewrite_form.specs.Emitted.{asyncified, field_where, frame_layout, holds_operand, is_kept, layout_codes, or_none}
+use Rattle.rewrite_form.specs.EmittedBy.{FrameCode}
 use Rattle.rewrite_form.specs.Sizes.{FewWritten}
-use Rattle.rewrite_form.proofs.Emitted.{emitted_at, funcs_are, inner, not_told, runtime, same_sorts, told}
+use Rattle.rewrite_form.proofs.WrittenSizes.{layouts_hold}
+use Rattle.rewrite_runs.proofs.EmittedSo as By
 use Rattle.rewrite_form.proofs.EmittedRewritten.{rewritten_law, runs_law, valid_law}
 use Rattle.emitted_bytes.proofs.EmittedFits.{emitted_fits}
 use Rattle.rewrite_runs.specs.Laws.{AsyncifiedIsRewritten}
 
 -- ---- lists
-
-runs_are : (ts : List ValType) → declared_locals (map one_run ts) ≡ ts
-runs_are [] = refl
-runs_are (t ∷ ts) = ap (λ us. t ∷ us) (runs_are ts)
 
 fields_map : (keep : ℕ → Bool) (qs : List Place) → map (field_where keep) qs ≡ fields_of keep qs
 fields_map keep [] = refl
@@ -81,18 +69,6 @@ any_reverse test (x ∷ xs) ys e = by (test x) refl e (λ h. any_reverse test xs
 all_in : (P : ℕ → Type 0) (xs : List ℕ) → ((y : ℕ) → list_any (nat_eq y) xs ≡ true → P y) → All P xs
 all_in P [] h = All-nil P
 all_in P (x ∷ xs) h = All-cons P x xs (h x (ap (λ b. b || list_any (nat_eq x) xs) (eq-eqb x x refl))) (all_in P xs (λ y e. h y (any_or (list_any (nat_eq y) xs) (nat_eq y x) e)))
-
-numbered_few : (test : Callee → Bool) (n : ℕ) (cs : List Callee) → length (places_from test n cs) ≤ length cs
-numbered_few test n [] = omega arith
-numbered_few test n (c ∷ cs) = by (test c) (numbered_few test (suc n) cs)
-  where
-    by : (b : Bool) → length (places_from test (suc n) cs) ≤ length cs → length (if b then n ∷ places_from test (suc n) cs else places_from test (suc n) cs) ≤ suc (length cs)
-    by true ih = omega arith
-    by false ih = omega arith
-
-grown_funcs : (m : Module) → (with_runtime m).funcs ≡ m.funcs ++ runtime_funcs (length m.types) (global_space m) (global_space m + 1)
-unfolding with_runtime
-grown_funcs m = refl
 
 -- ---- the emitted module
 
@@ -132,25 +108,11 @@ module _ (m : Module) (s : Settings) (which : List Bool) (valid : Valid m) where
     same_layout : frame_layout m s which x f ≡ layout_of m s which keep x f
     same_layout = ap (λ z. layout z (map (field_where (is_kept m s which x f)) (Saved m save_all f 0))) (sym same_flat) ∙ ap (layout (flattened (Base m) x f)) same_fields
 
-    abbrev guards : FlatFunc → Layout → GuardedFunc
-    guards z l = record { size = length z.locals; restoring = restore_code l done; saving = save_code l done; result = z.result; first = first_piece ps 0 z.body; body = units ps 0 z.body }
+    abbrev codes_of : Layout → FrameCode
+    codes_of l = record { restoring = restore_code l done; saving = save_code l done }
 
-    same_guarded : guarded_func m s which x f ≡ guarded_of m s which frames x f
-    same_guarded =
-        ap (λ z. guards z (frame_layout m s which x f)) (sym same_flat) ∙ ap (guards (flattened (Base m) x f)) same_layout
-        ∙ ap (λ o. guards (flattened (Base m) x f) (lay_at m s which keep x o)) (sym is)
-
-    abbrev types : List Pair → List ValType
-    types qs = map (λ (q : Pair). q.ty) qs
-
-    same_locals : declared_locals (written_func m s which x f).locals ≡ declared_locals (flat_func (Base m) x f).locals ++ I32 ∷ I32 ∷ I64 ∷ []
-    same_locals =
-        let three : List ValType = I32 ∷ I32 ∷ I64 ∷ [] in
-        let ds = declared_locals f.locals in
-        let extra : extra_types m f ≡ extra_types (Base m) f =
-        ap (λ qs. types qs ++ types (ResultPairs m f)) (sym (base_slots m valid x f is)) ∙ ap (λ qs. types (SlotPairs (Base m) f) ++ types qs) (sym (base_results m valid x f is)) in
-        flat_map-append (λ (r : Run). replicate r.count r.ty) f.locals (map one_run (extra_types m f ++ three)) ∙ ap (λ ts. ds ++ ts) (runs_are (extra_types m f ++ three))
-        ∙ sym (append_assoc ds (extra_types m f) three) ∙ ap (λ ts. (ds ++ ts) ++ three) extra ∙ ap (λ ts. ts ++ three) (sym (is_flat (Base m) x f).1)
+    same_codes : layout_codes m s which x f ≡ record { restoring = (frames x).restoring; saving = (frames x).saving }
+    same_codes = ap codes_of same_layout ∙ ap (λ o. codes_of (lay_at m s which keep x o)) (sym is)
 
     abbrev at_place : ℕ → ℕ → Bool
     at_place y place = list_any (nat_eq y) (or_none (slice_get (stacks_in (flattened m x f).body) place))
@@ -174,56 +136,8 @@ module _ (m : Module) (s : Settings) (which : List Bool) (valid : Valid m) where
       stacked = λ place ops c points. all_in (λ y. keep x y ≡ true) (slots (names (Base m) f) ops) (kept_there place ops c points);
     }
 
-    few_numbers : StrictSizeRule m → Count m f ≤ 50000 → length (Numbered m s which f) < 2 ^ 32
-    few_numbers sizes few =
-        let c = counted m x f in
-        let me = meets m x f valid sizes is (omega arith) in
-        let calls = (me.fits).few_calls in
-        let same = ap length (calls_stay m x f) in
-        let n = numbered_few (has_number m s which) 0 (calls_in f) in
-        omega arith
-
-  written_as : (told_so : Bool) (x : ℕ) (f : Func) → defined_at m x ≡ Some f → is_told (slice_get which x) ≡ told_so → WrittenAs m s which frames told_so x f (emitted_func m s which x f)
-  written_as true x f is e =
-      subst (WrittenAs m s which frames true x f) (sym (told m s which x f e))
-      (record { sort = refl; locals = same_locals x f is; body = ap (λ z. written_code (global_space m) (with_guards z)) (same_guarded x f is) })
-  written_as false x f is e = subst (WrittenAs m s which frames false x f) (sym (not_told m s which x f e)) (record { sort = refl; locals = refl; body = refl })
-
-  the_func : (x y : Func) → Some x ≡ Some y → x ≡ y
-  the_func x y e = cc
-
-  written_at : (i : ℕ) (f g : Func) → slice_get m.funcs i ≡ Some f → slice_get p.funcs i ≡ Some g → WrittenAs m s which frames (is_told (slice_get which (func_imports m + i))) (func_imports m + i) f g
-  written_at i f g e e2 =
-      let x = func_imports m + i in
-      let same : emitted_func m s which x f ≡ g = the_func (emitted_func m s which x f) g (sym (emitted_at m s which i f e) ∙ e2) in
-      subst (WrittenAs m s which frames (is_told (slice_get which x)) x f) same (written_as (is_told (slice_get which x)) x f (defined_by m i f e) refl)
-
-  abbrev sorts_in : List Func → List ℕ
-  sorts_in fs = map (λ (f : Func). f.sort) fs
-
-  sorts_same : sorts_in p.funcs ≡ sorts_in (with_runtime m).funcs
-  sorts_same =
-      ap sorts_in (funcs_are m s which) ∙ map-append (λ (f : Func). f.sort) (inner m s which).funcs (runtime m s which) ∙ ap (λ ks. ks ++ sorts_in (runtime m s which)) (same_sorts m s which)
-      ∙ sym (map-append (λ (f : Func). f.sort) m.funcs (runtime m s which)) ∙ ap sorts_in (sym (grown_funcs m))
-
   pub emitted_so : FreeOfNames m → StrictSizeRule m → FewWritten m which → TellsMayPause m s which → Emitted m s which (kept_frames m s which keep) (asyncified m s which)
-  emitted_so free sizes few tells =
-      let r = rewritten_law m s which valid free tells in
-      record {
-        types = r.types;
-        imports = r.imports;
-        tables = r.tables;
-        memories = r.memories;
-        globals = r.globals;
-        exports = r.exports;
-        start = r.start;
-        elems = r.elems;
-        segments = r.segments;
-        runtime = r.runtime;
-        sorts = sorts_same;
-        written = written_at;
-        few = λ x f is told. few_numbers x f is sizes (few x f is told);
-      }
+  emitted_so free sizes few tells = By.emitted_so m s which (layout_codes m s which) frames valid same_codes (layouts_hold m s which valid) free sizes few tells
 
   pub all_keep_enough : AllKeepEnough m s which keep
   all_keep_enough x f is told = keeps x f is

@@ -1,1 +1,2 @@
 pub mod Asyncified
+pub mod EmittedSo

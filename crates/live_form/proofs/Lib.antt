@@ -1,0 +1,4 @@
+pub mod CallCounts
+pub mod LiveHold
+pub mod LiveModules
+pub mod PartRows

@@ -1,0 +1,58 @@
+-- The module that the policy `live` emits: its frames are told by numbers of calls, and keep at each call what the policy saves there.
+use Rattle.std.specs.Prelude.{◌≡◌, ◌≤◌, ◌<◌, ℕ, suc, ◌+◌, ◌*◌, List, [], ◌∷◌, length, Some, Bool, true, slice_get}
+use Rattle.std.specs.List.{sum_by}
+use Rattle.wa_types.specs.Frames.{Saved}
+use Rattle.wa_types.specs.Modules.{defined_at}
+use Rattle.wa_types.specs.Pausing.{Numbered, Settings, is_told, save_live}
+use Rattle.wa_types.specs.Runtime.{global_space}
+use Rattle.wa_types.specs.Syntax.{done, Func, Module}
+use Rattle.flat_laws.specs.Flatten.{flattened}
+use Rattle.call_frames.specs.FrameParts.{restoring_by_call, saving_by_call}
+use Rattle.call_frames.specs.PlainFrames.{SavedPart, at_every, at_these, SavedParts, call_fields, frames_of}
+use Rattle.call_frames.specs.PlainLaws.{NameCalls, named_calls, parts_size, sizes_size}
+use Rattle.live_stacks.specs.LiveFrames.{fields_at}
+use Rattle.rewrite_form.specs.EmittedBy.{FrameCode, asyncified_by}
+
+-- ---- the module
+
+-- the codes of the frames of each function
+abbrev pub live_codes : (parts : (index : ℕ) → SavedParts) → (index : ℕ) → Func → FrameCode
+live_codes parts x f = record { restoring = restoring_by_call (frames_of (parts x)) done; saving = saving_by_call (frames_of (parts x)) done }
+
+-- The module in which each function that may pause is written with such frames, `which` telling them.
+abbrev pub live_asyncified : Module → Settings → (which : List Bool) → (parts : (index : ℕ) → SavedParts) → Module
+live_asyncified m s which parts = asyncified_by m s which (live_codes parts)
+
+-- ---- what parts owe
+
+-- each number is below this one
+abbrev pub AllBelow : ℕ → List ℕ → Type 0
+AllBelow n [] = Unit {0}
+AllBelow n (k ∷ ks) = (k < n) × AllBelow n ks
+
+-- .. in each part
+abbrev pub NumbersBelow : ℕ → List SavedPart → Type 0
+NumbersBelow n [] = Unit {0}
+NumbersBelow n (at_every fs ∷ ps) = NumbersBelow n ps
+NumbersBelow n (at_these ks fs ∷ ps) = AllBelow n ks × NumbersBelow n ps
+
+-- how many locals the frames of these calls save together
+abbrev pub saved_total : Module → Func → (places : List ℕ) → ℕ
+saved_total m f places = sum_by (λ place. length (Saved m save_live f place)) places
+
+-- The parts of a function's frames: those of each numbered call are in a row what the policy saves there, each names a numbered call
+-- and in all no more than there are; and what the codes take by what the calls save.
+pub record LiveParts (m : Module) (s : Settings) (which : List Bool) (x : ℕ) (f : Func) (p : SavedParts) : Type 0 where
+  pub count : p.count ≡ length (Numbered m s which f)
+  pub address : p.address ≡ suc (global_space m)
+  pub index : p.index ≡ length (flattened m x f).locals
+  pub scratch : p.scratch ≡ suc (length (flattened m x f).locals)
+  pub fields : (k place : ℕ) → slice_get (Numbered m s which f) k ≡ Some place → call_fields k p.parts ≡ fields_at m f place
+  pub below : NumbersBelow (length (Numbered m s which f)) p.parts
+  pub named : NameCalls p.parts
+  pub numbers : named_calls p.parts ≤ length (Numbered m s which f)
+  pub size : sizes_size p.parts + 2 * parts_size p.parts ≤ 30 * saved_total m f (Numbered m s which f)
+
+-- so do those of each told function
+abbrev pub AllLiveParts : Module → Settings → (which : List Bool) → (parts : (index : ℕ) → SavedParts) → Type 0
+AllLiveParts m s which parts = (x : ℕ) (f : Func) → defined_at m x ≡ Some f → is_told (slice_get which x) ≡ true → LiveParts m s which x f (parts x)

@@ -1,0 +1,12 @@
+//! The module that rewriting emits for the policy `live`, as a definition, and that it is its original, rewritten.
+//!
+//! Each function that may pause is flat, guarded and with frames that differ by call, `specs/LiveParts.antt` saying what their parts
+//! owe. Laws of it are contracts of functions that do nothing.
+#![tactic(auto)]
+
+mod laws;
+
+pub use laws::{
+    live_module_is_rewritten, live_module_is_valid, live_module_is_well_formed,
+    live_module_keeps_sizes, live_module_rewrites,
+};
