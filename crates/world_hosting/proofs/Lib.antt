@@ -6,3 +6,4 @@ pub mod ScriptPlans
 pub mod ScriptPrograms
 pub mod SetUp
 pub mod Starts
+pub mod Texts
