@@ -4,7 +4,7 @@ use Rattle.vault_port.specs.Files.{Files}
 use Rattle.wa_model.specs.World.{Device}
 use Rattle.script_opening.specs.declared.way.Way.{Way}
 use Rattle.script_opening.specs.Playing.{Play, detaches_in}
-use Rattle.world_hosting.specs.Told.{AreBegun, AreTold}
+use Rattle.world_hosting.specs.Worlds.{AreBegun, AreTold}
 
 -- The text is the transcript of what is played: a whole run of the protocol world of its programs, from these devices to those.
 abbrev pub IsTranscript : {way : Way} {files : Option Files} {name : List ℕ} → Play way files name → (ds ds' : List Device) → List ℕ → Type 0

@@ -13,7 +13,7 @@ use Rattle.transcript.specs.Printing.{refusal_of}
 use Rattle.script_reader.specs.declared.script.ProgramText.{ProgramText as ProgramValue}
 use Rattle.script_reader.specs.Views.{program_of}
 use Rattle.script_setup.specs.SetUpRules.{SetUp}
-use Rattle.world_hosting.specs.Parts.{Part}
+use Rattle.world_hosting.specs.Worlds.{Part}
 use Rattle.script_opening.specs.declared.way.Way.{Way}
 use Rattle.script_opening.specs.declared.programs.Planned.{Planned}
 use Rattle.script_opening.specs.declared.programs.Programs.{Programs}

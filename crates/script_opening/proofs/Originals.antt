@@ -23,7 +23,7 @@ use Rattle.source_modules.proofs.Fronts.{runs_whole, cause_whole}
 use Rattle.host_files.specs.declared.fault.FileFault.{FileFault}
 use Rattle.host_files.specs.declared.fault.FileFault.TheVariants.{Memory, Read, Refused}
 use Rattle.host_files.specs.Views.{Holds, IsToldUnprepared}
-use Rattle.world_hosting.specs.Parts.{IsListing}
+use Rattle.world_hosting.specs.Worlds.{IsListing}
 use Rattle.script_opening.specs.declared.way.Way.TheVariants.{Host, Run}
 use Rattle.script_opening.specs.declared.modules.Loaded.{Loaded}
 use Rattle.script_opening.specs.Playing.{IsBadModule, IsBadOriginal, IsUnwritten, RunsFor, settings_for}

@@ -11,7 +11,7 @@ use Rattle.host_files.specs.Views.{Holds}
 use Rattle.host_files.proofs.Counts.{few_programs, served_text}
 use Rattle.script_reader.specs.declared.script.Script.{Script as ScriptValue}
 use Rattle.script_reader.specs.Views.{detach_of, program_of, script_of}
-use Rattle.world_hosting.specs.Parts.{FitsPlan}
+use Rattle.world_hosting.specs.Worlds.{FitsPlan}
 use Rattle.world_hosting.specs.Laws.{ScriptsFit}
 use Rattle.script_opening.specs.declared.way.Way.{Way}
 use Rattle.script_opening.specs.declared.opening.Opened.{Opened}

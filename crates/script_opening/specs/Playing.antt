@@ -15,7 +15,7 @@ use Rattle.source_modules.specs.Running.{RunsAs}
 use Rattle.source_modules.specs.Sources.{IsRefusedFor, refusal_for}
 use Rattle.source_modules.specs.Sources as S
 use Rattle.script_setup.specs.SetUpRules.{set_up_rules}
-use Rattle.world_hosting.specs.Parts.{Part}
+use Rattle.world_hosting.specs.Worlds.{Part}
 use Rattle.script_opening.specs.declared.way.Way.{Way}
 use Rattle.script_opening.specs.declared.way.Way.TheVariants.{Host, Run}
 

@@ -7,14 +7,13 @@ use Rattle.wa_types.specs.View.{module_of}
 use Rattle.wa_types.specs.declared.syntax.Module.{Module as ModuleValue}
 use Rattle.wa_model.specs.Script.{ProgramText, ScriptFault, breaks}
 use Rattle.transcript.specs.Printing.{refusal_of}
-use Rattle.host_setup.specs.Views.{entry_of as named_entry_of}
 use Rattle.host_files.specs.declared.fault.FileFault.{FileFault}
 use Rattle.host_files.specs.declared.fault.FileFault.TheVariants as F
 use Rattle.script_reader.specs.Views.{program_of}
-use Rattle.script_setup.specs.SetUpRules.{SetUp, named_entry}
+use Rattle.script_setup.specs.SetUpRules.{SetUp}
 use Rattle.script_setup.specs.Views.{set_up_of}
-use Rattle.world_hosting.specs.Parts.{FitsPlan, IsListing, Part}
-use Rattle.world_hosting.specs.Views.{listing}
+use Rattle.world_hosting.specs.Worlds.{FitsPlan, IsListing, Part}
+use Rattle.world_hosting.specs.Views.{Suits, listing}
 use Rattle.script_opening.specs.declared.way.Way.{Way}
 use Rattle.script_opening.specs.declared.modules.Loaded.{Loaded}
 use Rattle.script_opening.specs.declared.programs.Planned.{Planned}
@@ -57,11 +56,11 @@ parts_of (v ∷ vs) [] = []
 parts_of (v ∷ vs) (p ∷ ps) = part_of v p ∷ parts_of vs ps
 
 -- What is planned over a module can be staged: its text fits a plan, each function import is told to be listed or not where that is
--- told at all, and the entries are the text's.
+-- told at all, and what it is given suits it.
 pub record CanStage (v : ModuleValue) (p : Planned) : Type 0 where
   pub fits : FitsPlan (program_of p.text)
   pub listing : IsListing (module_of v) (listing p.listed)
-  pub entries : map named_entry_of p.given.entries.items ≡ map named_entry (program_of p.text).entries
+  pub suits : Suits (module_of v) (program_of p.text) p.given
 
 -- The programs are those of these texts, each set up over its module.
 pub record AreOpened (way : Way) (files : Option Files) (texts : List ProgramText) (ps : Programs) : Type 0 where

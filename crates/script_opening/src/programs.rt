@@ -3,12 +3,10 @@ ghost use Rattle.std.specs.Prelude.{◌≡◌, ◌≤◌, ◌<◌, ◌^◌, ◌+
 ghost use Rattle.std.specs.Result.{IfErr};
 ghost use Rattle.vault_port.specs.Files.{Files};
 ghost use Rattle.wa_types.specs.View.{module_of};
-ghost use Rattle.host_setup.specs.Views.{entry_of as named_entry_of};
 ghost use Rattle.script_reader.specs.Views.{program_of};
-ghost use Rattle.script_setup.specs.SetUpRules.{named_entry, set_up_rules};
-ghost use Rattle.script_setup.specs.Views.{set_up_of};
-ghost use Rattle.hosting.specs.Hosted.{FitsPlan, IsListing};
-ghost use Rattle.hosting.specs.Views.{listing};
+ghost use Rattle.script_setup.specs.SetUpRules.{set_up_rules};
+ghost use Rattle.world_hosting.specs.Worlds.{FitsPlan, IsListing};
+ghost use Rattle.world_hosting.specs.Views.{listing};
 ghost use Rattle.script_opening.specs.Playing.{IsModule, asks_all};
 ghost use Rattle.script_opening.specs.Views.{AreOpened, BlamesLine, BlamesNext, BlamesPrograms, IsUnread, OpensNext};
 
