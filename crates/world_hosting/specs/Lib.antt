@@ -1,0 +1,6 @@
+pub mod Bindings
+pub mod Laws
+pub mod Parted
+pub mod Places
+pub mod Views
+pub mod Worlds
