@@ -1,3 +1,3 @@
 pub mod Ends
-pub mod Playing
-pub mod Views
+pub mod Faults
+pub mod Transcripts

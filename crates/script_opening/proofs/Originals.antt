@@ -23,11 +23,11 @@ use Rattle.source_modules.proofs.Fronts.{runs_whole, cause_whole}
 use Rattle.host_files.specs.declared.fault.FileFault.{FileFault}
 use Rattle.host_files.specs.declared.fault.FileFault.TheVariants.{Memory, Read, Refused}
 use Rattle.host_files.specs.Views.{Holds, IsToldUnprepared}
-use Rattle.hosting.specs.Hosted.{IsListing}
-use Rattle.script_command.specs.declared.way.Way.TheVariants.{Host, Run}
-use Rattle.script_command.specs.declared.modules.Loaded.{Loaded}
-use Rattle.script_command.specs.Playing.{IsBadModule, IsBadOriginal, IsUnwritten, RunsFor, settings_for}
-use Rattle.script_command.specs.Views.{IsBadModuleFor, IsBadOriginalFor, Loads, Rewritten}
+use Rattle.world_hosting.specs.Worlds.{IsListing}
+use Rattle.script_opening.specs.declared.way.Way.TheVariants.{Host, Run}
+use Rattle.script_opening.specs.declared.modules.Loaded.{Loaded}
+use Rattle.script_opening.specs.Playing.{IsBadModule, IsBadOriginal, IsUnwritten, RunsFor, settings_for}
+use Rattle.script_opening.specs.Views.{IsBadModuleFor, IsBadOriginalFor, Loads, Rewritten}
 
 -- each function import of what is run is listed or not
 pub runs_listing : (s : Settings) (bytes : List ℕ) (listed : List Bool) (p : Module) → RunsAs s bytes listed p → IsListing p (Some listed)

@@ -3,9 +3,9 @@ use Rattle.std.proofs.Common.{List, subst, ℕ}
 use Rattle.std.proofs.lemmas.Result.{IfOk-weaker}
 use Rattle.host_files.proofs.Fronts.{if_err_weaker}
 use Rattle.script_reader.specs.Views.{program_of}
-use Rattle.script_command.specs.Views.{IsBadOriginalFor, Rewritten}
-use Rattle.script_command.proofs.Originals.{bad_rewritten, loads_rewritten}
-use Rattle.script_command.proofs.modules.fetch_rewritten.Goals as goal
+use Rattle.script_opening.specs.Views.{IsBadOriginalFor, Rewritten}
+use Rattle.script_opening.proofs.Originals.{bad_rewritten, loads_rewritten}
+use Rattle.script_opening.proofs.modules.fetch_rewritten.Goals as goal
 
 pub returns-clause-loaded : goal.returns-clause-loaded
 returns-clause-loaded g c =

@@ -5,8 +5,8 @@ use Rattle.source_modules.specs.Refusals.{IsFaultOf, IsUnwritten}
 use Rattle.source_modules.specs.declared.source.SourceFault.{SourceFault}
 use Rattle.transcript.specs.Printing.{refusal_of}
 use Rattle.script_reader.specs.Views.{program_of}
-use Rattle.script_command.proofs.Originals.{bad_original, runs_listing}
-use Rattle.script_command.proofs.modules.rewritten_module.Goals as goal
+use Rattle.script_opening.proofs.Originals.{bad_original, runs_listing}
+use Rattle.script_opening.proofs.modules.rewritten_module.Goals as goal
 
 pub returns-in-Ok-rewritten-clause-loaded : goal.returns-in-Ok-rewritten-clause-loaded
 returns-in-Ok-rewritten-clause-loaded c =

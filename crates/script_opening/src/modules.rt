@@ -10,9 +10,9 @@ ghost use Rattle.wa_types.specs.Pausing.{list_of};
 ghost use Rattle.wa_types.specs.View.{module_of};
 ghost use Rattle.wa_model.specs.Command.{choice_said};
 ghost use Rattle.script_reader.specs.Views.{program_of};
-ghost use Rattle.script_command.specs.declared.way.Way.TheVariants.{Host, Run};
-ghost use Rattle.script_command.specs.Playing.{settings_for};
-ghost use Rattle.script_command.specs.Views.{IsBadModuleFor, IsBadOriginalFor, Loads, Rewritten};
+ghost use Rattle.script_opening.specs.declared.way.Way.TheVariants.{Host, Run};
+ghost use Rattle.script_opening.specs.Playing.{settings_for};
+ghost use Rattle.script_opening.specs.Views.{IsBadModuleFor, IsBadOriginalFor, Loads, Rewritten};
 
 use crate::way::Way;
 use call_graph::{Choice, ImportList, Policy, Settings};

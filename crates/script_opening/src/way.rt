@@ -1,5 +1,5 @@
 ghost use Rattle.std.specs.Prelude.{◌≡◌};
-ghost use Rattle.script_command.specs.Playing.{asks_all};
+ghost use Rattle.script_opening.specs.Playing.{asks_all};
 
 /// How the programs of a script are taken.
 #[derive(Clone, Copy, Debug, PartialEq, Eq)]
