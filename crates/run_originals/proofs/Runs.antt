@@ -92,4 +92,4 @@ sources_of files (y ∷ ys) stages ranges =
 pub runs_of_originals : RunsAreOfOriginals
 runs_of_originals files name play =
     let have = sources_of files play.parts play.stages.each (in_range files name play) in
-    (have.sources, have.are_sources, λ ds ds' text told calm. told_of_originals have.sources play.parts _ ds ds' told.lines have.rewritten told.world calm)
+    (have.sources, have.are_sources, λ old new text told calm. told_of_originals have.sources play.parts _ _ _ told.lines have.rewritten told.world calm)

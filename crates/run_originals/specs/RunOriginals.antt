@@ -2,7 +2,9 @@
 use Rattle.std.specs.Prelude.{◌≡◌, ℕ, List, Option, Some}
 use Rattle.std.specs.List.{AllZip}
 use Rattle.vault_port.specs.Files.{Files}
-use Rattle.wa_model.specs.World.{BlockingWorld, Device}
+use Rattle.wa_model.specs.World.{BlockingWorld}
+use Rattle.event_order.specs.Left.{Counted}
+use Rattle.turn_taking.specs.Calls.{devices_of}
 use Rattle.source_modules.specs.Sources.{IsValidSource}
 use Rattle.host_files.specs.Views.{Holds}
 use Rattle.script_opening.specs.Playing.{Play, detaches_in, settings_for}
@@ -23,6 +25,6 @@ abbrev pub RunsAreOfOriginals : Type 0
 RunsAreOfOriginals =
     (files : Option Files) (name : List ℕ) (play : Play Run files name)
     → (sources : List Source) × AllZip (IsSource files) sources play.parts
-    × ((ds ds' : List Device) (text : List ℕ) (told : AreTold play.parts (detaches_in play.whole) ds ds' text)
+    × ((old new : List Counted) (text : List ℕ) (told : AreTold play.parts (detaches_in play.whole) old new text)
     → AllZip StaysOff (originals_for sources play.parts) told.world.actors
-    → BlockingWorld (originals_for sources play.parts) (detaches_in play.whole) ds told.lines ds')
+    → BlockingWorld (originals_for sources play.parts) (detaches_in play.whole) (devices_of old) told.lines (devices_of new))

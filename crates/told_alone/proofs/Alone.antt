@@ -13,6 +13,7 @@ use Rattle.wa_model.specs.World.{Device, ProtocolWorld}
 use Rattle.world_laws.specs.AloneLines.{Unbound, own_lines}
 use Rattle.world_laws.proofs.AloneLines.{own_lines_alone}
 use Rattle.world_replays.proofs.Replays.{unbound_fix_lines}
+use Rattle.turn_taking.specs.Calls.{devices_of}
 use Rattle.world_hosting.specs.Bindings.{bound_imports, where_func}
 use Rattle.world_hosting.specs.Worlds.{world_program, world_programs}
 use Rattle.told_alone.specs.ToldAlone.{AloneText, UnboundWithoutLines, alone_text}
@@ -34,16 +35,16 @@ unbound_without_lines x none i = ap (λ (bs : List BindText). unwrap_or (slice_g
 -- ---- alone
 
 pub alone_text_told : AloneText
-alone_text_told parts detaches ds ds' text told i x there unbound = (
-  record { lines = own_lines i told.lines; world = own; text_is = refl },
-  λ last alone h. h.text_is ∙ ap (alone_text x) (same last h.lines h.world),
+alone_text_told parts detaches old new text told i x there unbound = (
+  own,
+  λ last alone h. h.text_is ∙ ap (alone_text x) (same (devices_of last) h.lines h.world),
 )
   where
     at : slice_get (world_programs parts) i ≡ Some (world_program x)
     at = slice_get-map world_program parts i ∙ ap (option_map world_program) there
 
     own : ProtocolWorld (world_program x ∷ []) [] [] (own_lines i told.lines) []
-    own = own_lines_alone (world_programs parts) detaches ds ds' told.lines i (world_program x) at unbound told.world
+    own = own_lines_alone (world_programs parts) detaches (devices_of old) (devices_of new) told.lines i (world_program x) at unbound told.world
 
     same : (last : List Device) (lines : List Line) → ProtocolWorld (world_program x ∷ []) [] [] lines last → lines ≡ own_lines i told.lines
     same last lines world =

@@ -1,4 +1,5 @@
 pub mod Bindings
+pub mod Counts
 pub mod Laws
 pub mod Parted
 pub mod Places

@@ -9,13 +9,16 @@ use Rattle.wa_model.specs.Plan.{AnswerFits}
 use Rattle.wa_model.specs.Script.{EntryText, GlobalText, ProgramText, ShowText}
 use Rattle.wa_model.specs.Transcript.{Names, Transcript, event_lines}
 use Rattle.wa_model.specs.World.{Device, Look, Program, ProtocolWorld, ends_turn}
+use Rattle.event_order.specs.Left.{Counted}
 use Rattle.host_moves.specs.Moves.{HasShortPokes}
 use Rattle.pause_host.specs.Settings.{calls_of}
 use Rattle.script_setup.specs.SetUpRules.{SetUp, named_entry, program_names}
+use Rattle.turn_taking.specs.Calls.{devices_of}
 use Rattle.vault_port.specs.declared.whole.PutFault.{PutFault}
 use Rattle.vault_port.specs.declared.whole.PutFault.TheVariants.{Fault, Memory}
 use Rattle.vault_port.specs.Taken.{Appends, AppendsLess}
 use Rattle.world_hosting.specs.Bindings.{bindings}
+use Rattle.world_hosting.specs.Counts.{Took}
 
 -- ---- what is asked of a program
 
@@ -81,28 +84,29 @@ turn_count [] = 0
 turn_count (l ∷ ls) = turns_at l.event + turn_count ls
 
 -- The text tells a whole run of the protocol world, from these devices to those: its lines, and the last line.
-pub record AreTold (parts : List Part) (detaches : List Detach) (ds ds' : List Device) (text : List ℕ) : Type 0 where
+pub record AreTold (parts : List Part) (detaches : List Detach) (old new : List Counted) (text : List ℕ) : Type 0 where
   pub lines : List Line
-  pub world : ProtocolWorld (world_programs parts) detaches ds lines ds'
+  pub world : ProtocolWorld (world_programs parts) detaches (devices_of old) lines (devices_of new)
+  pub took : Took (world_programs parts) detaches 0 lines old (turn_count lines) new
   pub text_is : text ≡ Transcript (map part_names parts) (length parts) (turn_count lines) lines
 
 -- It tells the first lines of one.
-pub record AreBegun (parts : List Part) (detaches : List Detach) (ds : List Device) (text : List ℕ) : Type 0 where
+pub record AreBegun (parts : List Part) (detaches : List Detach) (old : List Counted) (text : List ℕ) : Type 0 where
   pub lines : List Line
   pub more : List Line
   pub last : List Device
-  pub world : ProtocolWorld (world_programs parts) detaches ds (lines ++ more) last
+  pub world : ProtocolWorld (world_programs parts) detaches (devices_of old) (lines ++ more) last
   pub text_is : text ≡ event_lines (map part_names parts) lines
 
 -- A whole such text came behind what was printed,
-abbrev pub Tells : List Part → List Detach → (ds ds' : List Device) → (old new : List ℕ) → Type 0
-Tells parts detaches ds ds' old new = (text : List ℕ) × AreTold parts detaches ds ds' text × Appends text old new
+abbrev pub Tells : List Part → List Detach → (cs cs' : List Counted) → (old new : List ℕ) → Type 0
+Tells parts detaches cs cs' old new = (text : List ℕ) × AreTold parts detaches cs cs' text × Appends text old new
 
 -- or some first bytes of one, and not all of them where the sink failed.
 abbrev pub PrintsPart : PutFault → (text old new : List ℕ) → Type 0
 PrintsPart Fault text old new = AppendsLess text old new
 PrintsPart Memory text old new = (n : ℕ) × (new ≡ old ++ take n text)
 
-abbrev pub TellsPart : PutFault → List Part → List Detach → (ds ds' : List Device) → (old new : List ℕ) → Type 0
-TellsPart fault parts detaches ds ds' old new =
-    (text : List ℕ) × (AreBegun parts detaches ds text ⊎ AreTold parts detaches ds ds' text) × PrintsPart fault text old new
+abbrev pub TellsPart : PutFault → List Part → List Detach → (cs cs' : List Counted) → (old new : List ℕ) → Type 0
+TellsPart fault parts detaches cs cs' old new =
+    (text : List ℕ) × (AreBegun parts detaches cs text ⊎ AreTold parts detaches cs cs' text) × PrintsPart fault text old new

@@ -4,12 +4,12 @@ ghost use Rattle.std.specs.Result.{IfErr};
 ghost use Rattle.vault_port.specs.Counts.{HasRisen};
 ghost use Rattle.vault_port.specs.Told.{Becomes};
 ghost use Rattle.wa_model.specs.declared.answers.Detach.{Detach as DetachValue};
-ghost use Rattle.wa_model.specs.World.{Device};
-ghost use Rattle.device_port.specs.Listed.{of_all};
 ghost use Rattle.host_turns.specs.Supplies.{IsLent};
 ghost use Rattle.transcript.specs.Printing.{names_of};
+ghost use Rattle.turn_taking.specs.Calls.{devices_of};
 ghost use Rattle.turn_taking.specs.Standing.{InRange};
 ghost use Rattle.many_host.specs.Hosts.{HostTold};
+ghost use Rattle.world_hosting.specs.Counts.{counted};
 ghost use Rattle.world_hosting.specs.Parted.{CanHost};
 ghost use Rattle.world_hosting.specs.Views.{AreStaged};
 ghost use Rattle.world_hosting.specs.Worlds.{Part, Tells, TellsPart, part_names, world_programs};
@@ -41,9 +41,9 @@ pub fn host_programs<S: Sink>(
     requires few { length staged.items ≤ 16 }
     ensures same_list { devices.new.list.ghost_name ≡ devices.old.list.ghost_name }
     ensures told { (parts : List Part) → AreStaged parts staged.entry.items
-        → OnOk result (Becomes (S.taken out.old) (S.taken out.new) (Tells parts detaches.items (of_all seen devices.old) (of_all seen devices.new))) }
+        → OnOk result (Becomes (S.taken out.old) (S.taken out.new) (Tells parts detaches.items (counted seen faults devices.old) (counted seen faults devices.new))) }
     ensures part { (parts : List Part) → AreStaged parts staged.entry.items
-        → IfErr result (λ fault. Becomes (S.taken out.old) (S.taken out.new) (TellsPart fault parts detaches.items (of_all seen devices.old) (of_all seen devices.new))) }
+        → IfErr result (λ fault. Becomes (S.taken out.old) (S.taken out.new) (TellsPart fault parts detaches.items (counted seen faults devices.old) (counted seen faults devices.new))) }
     ensures fault { IsErrOf result PutFault.Fault → HasRisen (S.faults out.old) (S.faults out.new) }
     ensures faults { S.faults out.old ≤ S.faults out.new }
 {
@@ -65,9 +65,9 @@ fn host_parted<S: Sink>(
     requires few { length parted.programs.items ≤ 16 }
     ensures same_list { devices.new.list.ghost_name ≡ devices.old.list.ghost_name }
     ensures told { (parts : List Part) → CanHost parts parted.entry
-        → OnOk result (Becomes (S.taken out.old) (S.taken out.new) (Tells parts detaches.items (of_all seen devices.old) (of_all seen devices.new))) }
+        → OnOk result (Becomes (S.taken out.old) (S.taken out.new) (Tells parts detaches.items (counted seen faults devices.old) (counted seen faults devices.new))) }
     ensures part { (parts : List Part) → CanHost parts parted.entry
-        → IfErr result (λ fault. Becomes (S.taken out.old) (S.taken out.new) (TellsPart fault parts detaches.items (of_all seen devices.old) (of_all seen devices.new))) }
+        → IfErr result (λ fault. Becomes (S.taken out.old) (S.taken out.new) (TellsPart fault parts detaches.items (counted seen faults devices.old) (counted seen faults devices.new))) }
     ensures fault { IsErrOf result PutFault.Fault → HasRisen (S.faults out.old) (S.faults out.new) }
     ensures faults { S.faults out.old ≤ S.faults out.new }
 {
@@ -95,12 +95,12 @@ fn tell_lines<S: Sink>(
     requires lent { IsLent }
     requires range { InRange host.old.turns }
     ensures same_list { devices.new.list.ghost_name ≡ devices.old.list.ghost_name }
-    ensures told { (parts : List Part) (detaches : List DetachValue) (ds : List Device) → HostTold (world_programs parts) detaches ds [] host.old (of_all seen devices.old)
-        → map names_of names.now ≡ map part_names parts
-        → OnOk result (Becomes (S.taken out.old) (S.taken out.new) (Tells parts detaches ds (of_all seen devices.new))) }
-    ensures part { (parts : List Part) (detaches : List DetachValue) (ds : List Device) → HostTold (world_programs parts) detaches ds [] host.old (of_all seen devices.old)
-        → map names_of names.now ≡ map part_names parts
-        → IfErr result (λ fault. Becomes (S.taken out.old) (S.taken out.new) (TellsPart fault parts detaches ds (of_all seen devices.new))) }
+    ensures told { (parts : List Part) (detaches : List DetachValue) → HostTold (world_programs parts) detaches (devices_of (counted seen faults devices.old)) [] host.old (devices_of (counted seen faults devices.old))
+        → host.old.turns.begun ≡ 0 → map names_of names.now ≡ map part_names parts
+        → OnOk result (Becomes (S.taken out.old) (S.taken out.new) (Tells parts detaches (counted seen faults devices.old) (counted seen faults devices.new))) }
+    ensures part { (parts : List Part) (detaches : List DetachValue) → HostTold (world_programs parts) detaches (devices_of (counted seen faults devices.old)) [] host.old (devices_of (counted seen faults devices.old))
+        → host.old.turns.begun ≡ 0 → map names_of names.now ≡ map part_names parts
+        → IfErr result (λ fault. Becomes (S.taken out.old) (S.taken out.new) (TellsPart fault parts detaches (counted seen faults devices.old) (counted seen faults devices.new))) }
     ensures fault { IsErrOf result PutFault.Fault → HasRisen (S.faults out.old) (S.faults out.new) }
     ensures faults { S.faults out.old ≤ S.faults out.new }
 {
