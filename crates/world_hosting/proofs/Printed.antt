@@ -14,17 +14,20 @@ use Rattle.wa_model.specs.View.{line_of}
 use Rattle.wa_model.specs.Transcript as T
 use Rattle.wa_model.specs.Transcript.{event_line, event_lines, last_line, names_at}
 use Rattle.wa_model.specs.World.{Device, Program, ProtocolWorld}
+use Rattle.device_port.specs.declared.devices.Devices.{Devices}
+use Rattle.device_port.specs.Listed.{of_all}
 use Rattle.event_order.specs.Dues.{HaveEnded}
 use Rattle.event_order.specs.Left.{Counted}
 use Rattle.told_notes.specs.Laws.{BeginsWorld}
 use Rattle.turn_taking.specs.Calls.{TakesCall, TakesNext, devices_of, left_at}
 use Rattle.turn_taking.specs.Standing.{LooksOut}
+use Rattle.turn_taking.proofs.Counts.{counted_devices}
 use Rattle.many_host.specs.declared.host.Host.{Host}
 use Rattle.many_host.specs.Hosts.{HostNext, HostTold}
 use Rattle.many_host.proofs.Worlds.{told_begins_world}
 use Rattle.transcript.specs.declared.events.Names.{Names}
 use Rattle.transcript.specs.Printing.{names_of}
-use Rattle.world_hosting.specs.Counts.{Took}
+use Rattle.world_hosting.specs.Counts.{Took, counted}
 use Rattle.world_hosting.specs.Worlds.{AreBegun, AreTold, Part, PrintsPart, Tells, TellsPart, part_names, turn_count, world_programs}
 use Rattle.world_hosting.proofs.TurnCounts.{turns_begun}
 use Rattle.world_hosting.proofs.Texts.{becomes_by, becomes_same, line_more, then_less, then_printed}
@@ -162,3 +165,15 @@ none_left P Q r is m = subst (λ (o : Option LineValue). MatchOption o P (λ l. 
 pub none_is : {X : Type 0} (o : Option X) → ((x : X) → o ≡ Some x → ⊥) → o ≡ None
 none_is None h = refl
 none_is (Some x) h = absurd (h x refl)
+
+-- ---- devices, seen and counted
+
+module _ {X : Type 0} {F : X → Type 0} (f : (x : X) × F x → Device) (g : (x : X) × F x → ℕ) (programs : List Program) (detaches : List Detach) (ds : List Device) (lines : List Line) (d : Devices X F) where
+  pub host_seen : (h : Host) → HostTold programs detaches ds lines h (devices_of (counted f g d)) → HostTold programs detaches ds lines h (of_all f d)
+  host_seen h told = subst (λ (es : List Device). HostTold programs detaches ds lines h es) (counted_devices f g d) told
+
+  pub host_counted : (h : Host) → HostTold programs detaches ds lines h (of_all f d) → HostTold programs detaches ds lines h (devices_of (counted f g d))
+  host_counted h told = subst (λ (es : List Device). HostTold programs detaches ds lines h es) (sym (counted_devices f g d)) told
+
+  pub world_counted : ProtocolWorld programs detaches ds lines (of_all f d) → ProtocolWorld programs detaches ds lines (devices_of (counted f g d))
+  world_counted world = subst (λ (es : List Device). ProtocolWorld programs detaches ds lines es) (sym (counted_devices f g d)) world
