@@ -12,7 +12,7 @@ use Rattle.printing.specs.Refused.{EndsInMemory, Prints, PrintsMemory}
 use Rattle.printing.proofs.Printed.{memory_alone}
 use Rattle.gen_module.specs.Generated.{generated}
 use Rattle.gen_command.specs.Printed as G
-use Rattle.script_command.specs.declared.way.Way.TheVariants.{Host, Run}
+use Rattle.script_opening.specs.declared.way.Way.TheVariants.{Host, Run}
 use Rattle.script_command.proofs.Ending.{out_of_memory_alone}
 use Rattle.transform_command.specs.Ends as T
 use Rattle.transform_command.specs.Transforms.{RunsOutOfMemory}

@@ -8,11 +8,12 @@ use Rattle.wa_types.specs.Pausing.{Settings}
 use Rattle.wa_model.specs.Command.{Command, transform}
 use Rattle.wa_model.specs.Spelled.{Spelled, rewrites, hosts, runs, generates}
 use Rattle.wa_model.specs.Transcript.{refusal_line, write_fault}
+use Rattle.wa_model.specs.World.{Device}
 use Rattle.printing.specs.Refused.{Prints}
 use Rattle.gen_module.specs.Generated.{generated}
 use Rattle.gen_command.specs.Printed as G
-use Rattle.script_command.specs.declared.way.Way.{Way}
-use Rattle.script_command.specs.declared.way.Way.TheVariants.{Host, Run}
+use Rattle.script_opening.specs.declared.way.Way.{Way}
+use Rattle.script_opening.specs.declared.way.Way.TheVariants.{Host, Run}
 use Rattle.script_command.specs.Ends as P
 use Rattle.transform_command.specs.Ends as T
 
@@ -27,7 +28,13 @@ OnScript (Some (hosts script)) P = P
 OnScript (Some (runs script)) P = P
 OnScript _ P = Unit {0}
 
--- A call: what its words spell; the files, the counts of faults and what the sink has taken, before and after it.
+-- this holds where words play none
+abbrev pub OffScript : Option Spelled → Type 0 → Type 0
+OffScript (Some (hosts script)) P = Unit {0}
+OffScript (Some (runs script)) P = Unit {0}
+OffScript _ P = P
+
+-- A call: what its words spell; the files, the counts of faults, what the sink has taken and the devices, before and after it.
 pub record Call : Type 0 where
   pub spelled : Option Spelled
   pub files : Option Files
@@ -40,6 +47,8 @@ pub record Call : Type 0 where
   pub sink_faults' : ℕ
   pub taken : Option (List ℕ)
   pub taken' : Option (List ℕ)
+  pub devices : List Device
+  pub devices' : List Device
 
 abbrev pub transform_call : Call → Settings → (input output : List ℕ) → T.Call
 transform_call c s from to = record {
@@ -57,7 +66,7 @@ transform_call c s from to = record {
 }
 
 abbrev pub script_call : Call → Way → (script : List ℕ) → P.Call
-script_call c way script = P.call way script c.files c.fetch_faults c.fetch_faults' c.sink_faults c.sink_faults' c.taken c.taken'
+script_call c way script = P.call way script c.files c.fetch_faults c.fetch_faults' c.sink_faults c.sink_faults' c.taken c.taken' c.devices c.devices'
 
 -- Of `gen`: the module is written and the lines on its run are printed; memory is wanting; the module could not be written; or
 -- the sink failed.
