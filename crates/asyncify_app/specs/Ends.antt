@@ -14,6 +14,7 @@ use Rattle.gen_module.specs.Generated.{generated}
 use Rattle.gen_command.specs.Printed as G
 use Rattle.script_opening.specs.declared.way.Way.{Way}
 use Rattle.script_opening.specs.declared.way.Way.TheVariants.{Host, Run}
+use Rattle.script_command.specs.Answers as A
 use Rattle.script_command.specs.Ends as P
 use Rattle.transform_command.specs.Ends as T
 
@@ -83,8 +84,8 @@ GeneratesOnce c n output status =
 abbrev pub EndsBy : Call → Option Spelled → ℕ → Type 0
 EndsBy c None status = (status ≡ 2) ⊎ (status ≡ 9)
 EndsBy c (Some (rewrites (transform s input output))) status = T.HasOneEnd (transform_call c s input output) status
-EndsBy c (Some (hosts script)) status = P.HasEnd (script_call c Host script) status
-EndsBy c (Some (runs script)) status = P.HasEnd (script_call c Run script) status
+EndsBy c (Some (hosts script)) status = A.HasOneEnd (script_call c Host script) status
+EndsBy c (Some (runs script)) status = A.HasOneEnd (script_call c Run script) status
 EndsBy c (Some (generates n output)) status = GeneratesOnce c n output status
 
 abbrev pub HasOneEnd : Call → ℕ → Type 0

@@ -1,7 +1,8 @@
 // A script, played with a list of boxed devices.
 ghost use Rattle.std.specs.Prelude.{◌≡◌, ◌≢◌, ◌≤◌, map};
 ghost use Rattle.host_turns.specs.Supplies.{IsLent};
-ghost use Rattle.script_command.specs.Ends.{HasEnd, IsStatus, call};
+ghost use Rattle.script_command.specs.Answers.{HasOneEnd};
+ghost use Rattle.script_command.specs.Ends.{IsStatus, call};
 
 use device_port::{Device, Devices};
 use script_command::play_script;
@@ -19,7 +20,7 @@ pub(crate) fn play_with<V: Vault, S: Sink>(
     script: &str,
 ) -> u8
     requires lent { IsLent }
-    ensures one_end { HasEnd (call way script.now (V.files vault.old) (V.fetch_faults vault.old) (V.fetch_faults vault.new)
+    ensures one_end { HasOneEnd (call way script.now (V.files vault.old) (V.fetch_faults vault.old) (V.fetch_faults vault.new)
         (S.faults out.old) (S.faults out.new) (S.taken out.old) (S.taken out.new) (map seen devices.old.items) (map seen devices.new.items)) result }
     ensures status { IsStatus way result }
     ensures devices { result ≢ 0 → result ≢ 9 → result ≢ 12 → map seen devices.new.items ≡ map seen devices.old.items }

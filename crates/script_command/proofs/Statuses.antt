@@ -13,8 +13,8 @@ use Rattle.script_opening.specs.declared.way.Way.{Way}
 use Rattle.script_opening.specs.declared.way.Way.TheVariants.{Host, Run}
 use Rattle.script_opening.specs.declared.opening.OpenFault.{OpenFault}
 use Rattle.script_opening.specs.declared.opening.OpenFault.TheVariants.{Memory, Read, Script, Module, Rule}
-use Rattle.script_command.specs.Ends.{Call, End, done, memory, sink_fault, refused, read_fault_of, refusal_of_cause, status_of_end, HasEnd, IsWhy, IsStatus}
-use Rattle.script_opening.specs.Playing.{Cause, bad_script, bad_module, bad_line, IsBadModule, IsRefused}
+use Rattle.script_command.specs.Ends.{Call, End, done, memory, sink_fault, refused, read_fault_of, status_of_end, HasEnd, IsWhy, IsStatus}
+use Rattle.script_opening.specs.Playing.{Cause, bad_script, bad_module, bad_line, IsBadModule, IsRefused, refusal_of_cause}
 use Rattle.script_opening.specs.Views.{Blames}
 use Rattle.script_command.specs.Faults.{IsToldFault}
 

@@ -8,6 +8,7 @@ ghost use Rattle.script_opening.specs.Playing.{Play, detaches_in};
 ghost use Rattle.script_opening.specs.Views.{Blames, CanPlay, Opens};
 ghost use Rattle.script_opening.specs.declared.way.Way.{Way as WayValue};
 ghost use Rattle.world_hosting.specs.Views.{AreStaged};
+ghost use Rattle.script_command.specs.Answers.{HasOneEnd};
 ghost use Rattle.script_command.specs.Ends.{HasEnd, IsStatus, call};
 ghost use Rattle.script_command.specs.Faults.{IsToldFault};
 
@@ -37,7 +38,7 @@ pub fn play_script<V: Vault, S: Sink>(
     script: &str,
 ) -> u8
     requires lent { IsLent }
-    ensures one_end { HasEnd (call way script.now (V.files vault.old) (V.fetch_faults vault.old) (V.fetch_faults vault.new)
+    ensures one_end { HasOneEnd (call way script.now (V.files vault.old) (V.fetch_faults vault.old) (V.fetch_faults vault.new)
         (S.faults out.old) (S.faults out.new) (S.taken out.old) (S.taken out.new) (of_all seen devices.old) (of_all seen devices.new)) result }
     ensures status { IsStatus way result }
     ensures same_list { devices.new.list.ghost_name ≡ devices.old.list.ghost_name }
