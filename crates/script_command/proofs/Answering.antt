@@ -56,6 +56,17 @@ module _ (c : Call) (status : ℕ) (all : Files) (told : c.files ≡ Some all) w
         absurd (never_missing p read (subst (λ (files : Option Files). IsRead c.way files c.name read) told why.0) (subst (λ (files : Option Files). IsMissing files read) told missing))
   ]
 
+-- a refusal leaves the devices
+kept_by : (c : Call) (status : ℕ) (which : End) → status ≡ status_of_end which → IsWhy c which → (status ≡ 0 → ⊥) → (status ≡ 9 → ⊥) → (status ≡ 12 → ⊥) → c.devices' ≡ c.devices
+kept_by c status done is why zero nine twelve = absurd (zero is)
+kept_by c status memory is why zero nine twelve = absurd (nine is)
+kept_by c status sink_fault is why zero nine twelve = absurd (twelve is)
+kept_by c status (refused cause) is why zero nine twelve = why.2
+kept_by c status (read_fault_of name) is why zero nine twelve = why.3
+
+pub kept_devices : (c : Call) (status : ℕ) → HasEnd c status → (status ≡ 0 → ⊥) → (status ≡ 9 → ⊥) → (status ≡ 12 → ⊥) → c.devices' ≡ c.devices
+kept_devices c status h zero nine twelve = kept_by c status h.which h.by_status h.why zero nine twelve
+
 pub one_end : (c : Call) (status : ℕ) → HasEnd c status → HasOneEnd c status
 one_end c status h = record {
   end = h;
