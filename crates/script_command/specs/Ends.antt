@@ -4,12 +4,12 @@ use Rattle.vault_port.specs.Counts.{HasRisen}
 use Rattle.vault_port.specs.Files.{Files, IsMissing}
 use Rattle.vault_port.specs.Taken.{Appends, AppendsLess}
 use Rattle.vault_port.specs.Told.{Becomes}
-use Rattle.wa_model.specs.Transcript.{Refusal, script, read_fault, refusal_line}
+use Rattle.wa_model.specs.Transcript.{read_fault, refusal_line}
 use Rattle.wa_model.specs.World.{Device}
 use Rattle.printing.specs.Refused.{status_of, Prints, PrintsMemory}
 use Rattle.script_opening.specs.declared.way.Way.{Way}
 use Rattle.script_opening.specs.declared.way.Way.TheVariants.{Run}
-use Rattle.script_opening.specs.Playing.{Cause, bad_script, bad_module, bad_line, Play, IsRefused, IsRead}
+use Rattle.script_opening.specs.Playing.{Cause, bad_module, Play, IsRefused, IsRead, refusal_of_cause}
 use Rattle.script_command.specs.Transcripts.{IsTranscript, IsBeginning}
 
 -- A call: its way and its script; the files; the counts of faults, what the sink has taken and the devices, before and after it. (The
@@ -47,12 +47,7 @@ pub data End : Type 0 where
   refused : (cause : Cause) → End
   read_fault_of : (name : List ℕ) → End
 
--- what is told of a cause; a refusal of a program's module names it
-abbrev pub refusal_of_cause : Cause → Refusal
-refusal_of_cause (bad_script r) = r
-refusal_of_cause (bad_module number r) = r
-refusal_of_cause (bad_line line rule) = script line rule
-
+-- a refusal of a program's module names the program
 abbrev pub program_of_cause : Cause → Option ℕ
 program_of_cause (bad_module number r) = Some number
 program_of_cause _ = None

@@ -1,11 +1,14 @@
 // A script, played.
-ghost use Rattle.std.specs.Prelude.{◌≡◌, ◌≤◌, ℕ, List, Option};
+ghost use Rattle.std.specs.Prelude.{◌≡◌, ◌≤◌, ℕ, List, Option, length};
 ghost use Rattle.vault_port.specs.Files.{Files};
+ghost use Rattle.wa_model.specs.World.{Device};
 ghost use Rattle.device_port.specs.Listed.{of_all};
 ghost use Rattle.host_turns.specs.Supplies.{IsLent};
-ghost use Rattle.script_opening.specs.Views.{Blames, CanPlay, Opens, parts_of};
+ghost use Rattle.script_opening.specs.Playing.{Play, detaches_in};
+ghost use Rattle.script_opening.specs.Views.{Blames, CanPlay, Opens};
 ghost use Rattle.script_opening.specs.declared.way.Way.{Way as WayValue};
 ghost use Rattle.world_hosting.specs.Views.{AreStaged};
+ghost use Rattle.script_command.specs.Answers.{HasOneEnd};
 ghost use Rattle.script_command.specs.Ends.{HasEnd, IsStatus, call};
 ghost use Rattle.script_command.specs.Faults.{IsToldFault};
 
@@ -35,7 +38,7 @@ pub fn play_script<V: Vault, S: Sink>(
     script: &str,
 ) -> u8
     requires lent { IsLent }
-    ensures one_end { HasEnd (call way script.now (V.files vault.old) (V.fetch_faults vault.old) (V.fetch_faults vault.new)
+    ensures one_end { HasOneEnd (call way script.now (V.files vault.old) (V.fetch_faults vault.old) (V.fetch_faults vault.new)
         (S.faults out.old) (S.faults out.new) (S.taken out.old) (S.taken out.new) (of_all seen devices.old) (of_all seen devices.new)) result }
     ensures status { IsStatus way result }
     ensures same_list { devices.new.list.ghost_name ≡ devices.old.list.ghost_name }
@@ -77,6 +80,11 @@ fn tell<S: Sink>(
     detaches: Vec<Detach>,
 ) -> u8
     requires lent { IsLent }
+    requires few { length staged.items ≤ 16 }
+    ensures end { (way : WayValue) (files : Option Files) (name : List ℕ) (faults faults' : ℕ) (play : Play way files name)
+        → AreStaged play.parts staged.entry.items → detaches_in play.whole ≡ detaches.items
+        → HasEnd (call way name files faults faults' (S.faults out.old) (S.faults out.new) (S.taken out.old) (S.taken out.new)
+        (of_all seen devices.old) (of_all seen devices.new)) result }
     ensures same_list { devices.new.list.ghost_name ≡ devices.old.list.ghost_name }
     ensures faults { S.faults out.old ≤ S.faults out.new }
 {

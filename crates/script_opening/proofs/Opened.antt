@@ -1,7 +1,8 @@
 -- Programs that are opened one after another, and why one isn't.
 use Rattle.std.proofs.Common.{◌≡◌, ◌⊎◌, ◌≤◌, inl, inr, ℕ, suc, List, [], ◌∷◌, ◌++◌, length, map, Option, Some, None, Result, Ok, Err, refl, sym, ap, ◌∙◌, subst, arith, append_assoc}
-use Rattle.std.specs.Prelude.{All}
+use Rattle.std.specs.Prelude.{All, Bool, OnOk}
 use Rattle.std.specs.List.{AllZip}
+use Rattle.std.specs.Result.{IfErr}
 use Rattle.std.proofs.lemmas.List.{length-map, length-append, map-append}
 use Rattle.std.proofs.lemmas.List.Elements.{All-nil, All-cons, All-append}
 use Rattle.vault_port.specs.Counts.{HasRisen}
@@ -12,14 +13,21 @@ use Rattle.wa_model.specs.Script.{ProgramText, Script, ScriptFault, breaks}
 use Rattle.transcript.specs.Printing.{refusal_of}
 use Rattle.script_reader.specs.declared.script.ProgramText.{ProgramText as ProgramValue}
 use Rattle.script_reader.specs.Views.{program_of}
-use Rattle.script_setup.specs.SetUpRules.{SetUp}
-use Rattle.world_hosting.specs.Worlds.{Part}
+use Rattle.wa_types.specs.Syntax.{Module}
+use Rattle.host_setup.specs.Views.{entry_of as named_entry_of}
+use Rattle.script_setup.specs.declared.setting.SetUp.{SetUp as SetUpValue}
+use Rattle.script_setup.specs.SetUpRules.{SetUp, named_entry, set_up_rules}
+use Rattle.script_setup.specs.Views.{set_up_of}
+use Rattle.world_hosting.specs.Worlds.{FitsPlan, IsListing, Part}
+use Rattle.world_hosting.specs.Views.{listing}
+use Rattle.world_hosting.proofs.Starts.{suits_by_rules}
+use Rattle.script_opening.specs.declared.modules.Loaded.{Loaded}
 use Rattle.script_opening.specs.declared.way.Way.{Way}
 use Rattle.script_opening.specs.declared.programs.Planned.{Planned}
 use Rattle.script_opening.specs.declared.programs.Programs.{Programs}
 use Rattle.script_opening.specs.declared.opening.OpenFault.{OpenFault}
 use Rattle.script_opening.specs.declared.opening.OpenFault.TheVariants.{Memory, Read, Script as a_script, Module as a_module, Rule as a_rule}
-use Rattle.script_opening.specs.Playing.{AreStages, IsBadModule, IsModule, IsReached, IsStage, BreaksRule}
+use Rattle.script_opening.specs.Playing.{AreStages, IsBadModule, IsModule, IsReached, IsStage, BreaksRule, asks_all}
 use Rattle.script_opening.specs.Views.{AreOpened, Blames, BlamesLine, BlamesNext, BlamesPrograms, CanStage, IsUnread, OpensNext, part_of, parts_of}
 
 -- ---- lists in step
@@ -135,3 +143,33 @@ next_blamed way files mid f g h number t (Read read) same le b =
 next_blamed way files mid f g h number t (a_script kind) same le b = absurd b
 next_blamed way files mid f g h number t (a_module n kind) same le b = (b.0, subst (λ (all : Option Files). IsBadModule way all t (refusal_of kind)) same b.1)
 next_blamed way files mid f g h number t (a_rule line rule) same le b = subst (λ (all : Option Files). BreaksRule way all t line rule) same b
+
+-- ---- set-up rules
+
+pub rules_asked : (asked all : Bool) (p : Module) (t : ProgramText) (told : Result SetUp ScriptFault) → asked ≡ all → set_up_rules asked p t ≡ told → set_up_rules all p t ≡ told
+rules_asked asked all p t told e h = sym (ap (λ (b : Bool). set_up_rules b p t) e) ∙ h
+
+on_both : {A B C : Type 0} (r : Result (Unit {0}) OpenFault) → OnOk r A → OnOk r B → (A → B → C) → OnOk r C
+on_both (Ok x) a b f = f a b
+on_both (Err e) a b f = tt
+
+pub plans_next : (way : Way) (files : Option Files) (l : Loaded) (text : ProgramValue) (given : SetUpValue) (asked : Bool) → asked ≡ asks_all way → FitsPlan (program_of text)
+    → IsListing (module_of l.valid) (listing l.listed) → IsModule way files (program_of text) (module_of l.valid) (listing l.listed)
+    → set_up_rules asked (module_of l.valid) (program_of text) ≡ Ok (set_up_of given) → map named_entry_of given.entries.items ≡ map named_entry (program_of text).entries
+    → (old new : Programs) (r : Result (Unit {0}) OpenFault) → OnOk r (new.modules.items ≡ old.modules.items ++ l.valid ∷ [])
+    → OnOk r (new.planned.items ≡ old.planned.items ++ record { listed = l.listed; text = text; given = given } ∷ []) → OnOk r (OpensNext way files (program_of text) old new)
+plans_next way files l text given asked asks fits told is made entries old new r ms ps =
+    on_both r ms ps
+    (λ m p. record {
+      valid = l.valid;
+      planned = record { listed = l.listed; text = text; given = given };
+      modules_are = m;
+      planned_are = p;
+      text_is = refl;
+      stage = record { module_is = is; set_up = rules_asked asked (asks_all way) (module_of l.valid) (program_of text) (Ok (set_up_of given)) asks made };
+      can = record { fits = fits; listing = told; suits = suits_by_rules asked (module_of l.valid) (program_of text) given made entries };
+    })
+
+pub memory_blamed : (told : Result SetUp ScriptFault) (r : Result (Unit {0}) OpenFault) → IfErr r (λ fault. fault ≡ Memory) → IfErr r (λ fault. BlamesLine told fault)
+memory_blamed told (Ok x) h = tt
+memory_blamed told (Err fault) h = subst (BlamesLine told) (sym h) tt

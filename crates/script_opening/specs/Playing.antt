@@ -7,7 +7,7 @@ use Rattle.wa_types.specs.Syntax.{Module}
 use Rattle.wa_model.specs.Command.{choice_said}
 use Rattle.wa_model.specs.declared.answers.Detach.{Detach}
 use Rattle.wa_model.specs.Script.{DetachText, ProgramText, Script, breaks}
-use Rattle.wa_model.specs.Transcript.{Refusal}
+use Rattle.wa_model.specs.Transcript.{Refusal, script}
 use Rattle.host_modules.specs.Prepared.{IsPrepared, IsUnprepared}
 use Rattle.host_files.specs.Scripts.{IsScript, IsNoScript}
 use Rattle.host_files.specs.Views.{Holds}
@@ -110,6 +110,12 @@ pub data Cause : Type 0 where
   bad_script : (refusal : Refusal) → Cause
   bad_module : (number : ℕ) → (refusal : Refusal) → Cause
   bad_line : (line rule : ℕ) → Cause
+
+-- what is told of a cause
+abbrev pub refusal_of_cause : Cause → Refusal
+refusal_of_cause (bad_script r) = r
+refusal_of_cause (bad_module number r) = r
+refusal_of_cause (bad_line line rule) = script line rule
 
 -- a line of the program's text breaks a rule over its module
 abbrev pub BreaksRule : Way → Option Files → ProgramText → (line rule : ℕ) → Type 0

@@ -6,13 +6,13 @@ ghost use Rattle.script_opening.specs.Views.{Blames, CanPlay, Opens};
 use crate::programs::{Programs, open_programs, unread};
 use crate::way::Way;
 use host_files::{FileFault, fetch_script};
-use world_hosting::scripts_fit;
 use std::alloc::{AllocError, Global};
 use thiserror::Error;
 use transcript::RefusalKind;
 use vault_port::Vault;
 use wa_model::Detach;
 use wa_types::Name;
+use world_hosting::scripts_fit;
 
 /// A script's programs, all set up over their modules, and the devices that it takes out.
 #[derive(Debug, Drop)]
