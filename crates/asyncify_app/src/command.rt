@@ -57,8 +57,8 @@ pub fn asyncify<V: Vault, S: Sink>(
       sink_faults' = S.faults out.new;
       taken = S.taken out.old;
       taken' = S.taken out.new;
-      devices = map seen devices.old.items;
-      devices' = map seen devices.new.items;
+      devices = map (λ d. record { device = seen d; faults = faults d }) devices.old.items;
+      devices' = map (λ d. record { device = seen d; faults = faults d }) devices.new.items;
     }) result }
 
     // The causes.
@@ -97,8 +97,8 @@ pub fn asyncify<V: Vault, S: Sink>(
         IsRefusal result → Becomes (S.taken out.old) (S.taken out.new) (PrintsRefusal settings (V.files vault.old) input result (S.faults out.old) (S.faults out.new))) }
 
     // The devices.
-    ensures devices_off_scripts { OffScript (spelled (map string_bytes words.now)) (map seen devices.new.items ≡ map seen devices.old.items) }
-    ensures devices_refused { result ≢ 0 → result ≢ 9 → result ≢ 12 → map seen devices.new.items ≡ map seen devices.old.items }
+    ensures devices_off_scripts { OffScript (spelled (map string_bytes words.now)) (map (λ d. record { device = seen d; faults = faults d }) devices.new.items ≡ map (λ d. record { device = seen d; faults = faults d }) devices.old.items) }
+    ensures devices_refused { result ≢ 0 → result ≢ 9 → result ≢ 12 → map (λ d. record { device = seen d; faults = faults d }) devices.new.items ≡ map (λ d. record { device = seen d; faults = faults d }) devices.old.items }
 
     // No count falls.
     ensures fetch_faults { V.fetch_faults vault.old ≤ V.fetch_faults vault.new }
