@@ -1,3 +1,3 @@
-pub mod Opened
+pub mod Openings
 pub mod Originals
 pub mod Scripts

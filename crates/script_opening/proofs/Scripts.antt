@@ -19,7 +19,7 @@ use Rattle.script_opening.specs.declared.opening.OpenFault.{OpenFault}
 use Rattle.script_opening.specs.declared.opening.OpenFault.TheVariants.{Memory, Read, Script as a_script, Module as a_module, Rule as a_rule}
 use Rattle.script_opening.specs.Playing.{HasScript, IsReached, Reaches, detach_for}
 use Rattle.script_opening.specs.Views.{AreOpened, Blames, BlamesNext, BlamesPrograms, CanPlay, IsUnread, Opens}
-use Rattle.script_opening.proofs.Opened.{next_blamed, text_in, texts_of_parts}
+use Rattle.script_opening.proofs.Openings.{next_blamed, text_in, texts_of_parts}
 
 -- ---- what is opened
 

@@ -57,7 +57,9 @@ pub(crate) fn open_programs<V: Vault>(
         planned: Vec::new(alloc),
     };
     for text in texts {
-        open_next(alloc, vault, way, &mut programs, text)?;
+        if let Err(fault) = open_next(alloc, vault, way, &mut programs, text) {
+            return Err(fault);
+        }
     }
     Ok(programs)
 }

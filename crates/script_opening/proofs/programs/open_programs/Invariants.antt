@@ -1,6 +1,6 @@
 use Rattle.std.proofs.Common.{◌≡◌, ◌≤◌, map}
 use Rattle.script_reader.specs.Views.{program_of}
-use Rattle.script_opening.proofs.Opened.{SoFar}
+use Rattle.script_opening.proofs.Openings.{SoFar}
 use Rattle.script_opening.proofs.programs.open_programs.Given as goal
 
 -- those that are opened, and those to come; the files are as they were

@@ -4,7 +4,7 @@ use Rattle.std.proofs.lemmas.List.{length-map}
 use Rattle.wa_types.specs.View.{module_of}
 use Rattle.script_reader.specs.Views.{entry_of, program_of}
 use Rattle.script_setup.specs.SetUpRules.{set_up_rules}
-use Rattle.script_opening.proofs.Opened.{plans_next, memory_blamed, rules_asked}
+use Rattle.script_opening.proofs.Openings.{plans_next, memory_blamed, rules_asked}
 use Rattle.script_opening.proofs.programs.plan_program.Goals as goal
 
 pub set_up_program-requires : goal.set_up_program-requires

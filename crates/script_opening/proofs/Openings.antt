@@ -1,10 +1,10 @@
 -- Programs that are opened one after another, and why one isn't.
-use Rattle.std.proofs.Common.{◌≡◌, ◌⊎◌, ◌≤◌, inl, inr, ℕ, suc, List, [], ◌∷◌, ◌++◌, length, map, Option, Some, None, Result, Ok, Err, refl, sym, ap, ◌∙◌, subst, arith, append_assoc}
+use Rattle.std.proofs.Common.{◌≡◌, ◌⊎◌, ◌+◌, ◌≤◌, inl, inr, ℕ, suc, List, [], ◌∷◌, ◌++◌, length, map, Option, Some, None, Result, Ok, Err, refl, sym, ap, ◌∙◌, subst, arith, append_assoc}
 use Rattle.std.specs.Prelude.{All, Bool, OnOk}
 use Rattle.std.specs.List.{AllZip}
 use Rattle.std.specs.Result.{IfErr}
 use Rattle.std.proofs.lemmas.List.{length-map, length-append, map-append}
-use Rattle.std.proofs.lemmas.List.Elements.{All-nil, All-cons, All-append}
+use Rattle.std.proofs.lemmas.List.Elements.{All-nil, All-cons, All-append, All-head, All-tail}
 use Rattle.vault_port.specs.Counts.{HasRisen}
 use Rattle.vault_port.specs.Files.{Files, IsMissing}
 use Rattle.wa_types.specs.View.{module_of}
@@ -53,6 +53,10 @@ texts_of_parts [] (q ∷ ps) h = absurd h
 texts_of_parts (w ∷ vs) [] h = absurd h
 texts_of_parts (w ∷ vs) (q ∷ ps) h = ap (λ (ts : List ProgramText). program_of q.text ∷ ts) (texts_of_parts vs ps h.1)
 
+pub none_left : {A : Type 0} (xs : List A) → length xs ≡ 0 → xs ≡ []
+none_left [] e = refl
+none_left (x ∷ xs) e = absurd (omega (arith, e))
+
 -- ---- programs so far
 
 -- These are set up over their modules, and the texts to come stand behind theirs.
@@ -84,6 +88,21 @@ module _ (way : Way) (files : Option Files) where
         each = subst (λ (xs : List ModuleValue). AllZip CanStage xs new.planned.items) (sym o.modules_are)
             (subst (λ (xs : List Planned). AllZip CanStage (ms ++ o.valid ∷ []) xs) (sym o.planned_are) (zip_more CanStage ms ps o.valid o.planned s.each o.can));
       }
+
+  -- the texts to come, as they are held
+  pub turned : (ps : Programs) (rest behind : List ProgramValue) (t : ProgramValue) (texts : List ProgramText) → rest ≡ t ∷ behind → SoFar way files ps (map program_of rest) texts
+      → SoFar way files ps (program_of t ∷ map program_of behind) texts
+  turned ps rest behind t texts e s = subst (λ (ts : List ProgramValue). SoFar way files ps (map program_of ts) texts) e s
+
+  pub ended : (ps : Programs) (rest : List ProgramValue) (texts : List ProgramText) → rest ≡ [] → SoFar way files ps (map program_of rest) texts → SoFar way files ps [] texts
+  ended ps rest texts e s = subst (λ (ts : List ProgramValue). SoFar way files ps (map program_of ts) texts) e s
+
+  -- the next fits a plan, where all do
+  pub next_fits : (ps : Programs) (t : ProgramText) (rest texts : List ProgramText) → SoFar way files ps (t ∷ rest) texts → All FitsPlan texts → FitsPlan t
+  next_fits ps t rest texts s all = one_of (map text_in ps.planned.items) (subst (All FitsPlan) (sym s.texts_are) all) where
+    one_of : (before : List ProgramText) → All FitsPlan (before ++ t ∷ rest) → FitsPlan t
+    one_of [] h = All-head FitsPlan t rest h
+    one_of (u ∷ us) h = one_of us (All-tail FitsPlan u (us ++ t ∷ rest) h)
 
   pub all_opened : (ps : Programs) (texts : List ProgramText) → SoFar way files ps [] texts → AreOpened way files texts ps
   all_opened ps texts s =
