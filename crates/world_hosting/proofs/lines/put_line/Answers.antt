@@ -14,9 +14,9 @@ returns-in_default-clause-less g c = nothing_printed _ _ (line_some _ _)
 pub returns-clause-printed : goal.returns-clause-printed
 returns-clause-printed g c =
     subst (λ (n : Names). OnOk c.put_own_line.result (Becomes (g.S.Sink.taken c.args.out.now) (g.S.Sink.taken c.put_own_line.new.out) (Appends (event_line n (line_of c.args.line.now)))))
-    (own_names c.args.names.now c.args.line.now.program c.in-Some.own.now ?) c.put_own_line.ensures.printed
+    (own_names c.args.names.now c.args.line.now.program c.in-Some.own.now c.in-Some.ensures.lookup.0 c.in-Some.ensures.lookup.1) c.put_own_line.ensures.printed
 
 pub returns-clause-less : goal.returns-clause-less
 returns-clause-less g c =
     subst (λ (n : Names). OnErr c.put_own_line.result (Becomes (g.S.Sink.taken c.args.out.now) (g.S.Sink.taken c.put_own_line.new.out) (AppendsLess (event_line n (line_of c.args.line.now)))))
-    (own_names c.args.names.now c.args.line.now.program c.in-Some.own.now ?) c.put_own_line.ensures.less
+    (own_names c.args.names.now c.args.line.now.program c.in-Some.own.now c.in-Some.ensures.lookup.0 c.in-Some.ensures.lookup.1) c.put_own_line.ensures.less
