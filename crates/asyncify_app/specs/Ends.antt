@@ -8,7 +8,7 @@ use Rattle.wa_types.specs.Pausing.{Settings}
 use Rattle.wa_model.specs.Command.{Command, transform}
 use Rattle.wa_model.specs.Spelled.{Spelled, rewrites, hosts, runs, generates}
 use Rattle.wa_model.specs.Transcript.{refusal_line, write_fault}
-use Rattle.wa_model.specs.World.{Device}
+use Rattle.event_order.specs.Left.{Counted}
 use Rattle.printing.specs.Refused.{Prints}
 use Rattle.gen_module.specs.Generated.{generated}
 use Rattle.gen_command.specs.Printed as G
@@ -35,7 +35,7 @@ OffScript (Some (hosts script)) P = Unit {0}
 OffScript (Some (runs script)) P = Unit {0}
 OffScript _ P = P
 
--- A call: what its words spell; the files, the counts of faults, what the sink has taken and the devices, before and after it.
+-- A call: what its words spell; the files, the counts of faults, what the sink has taken and the devices, with their counts, before and after it.
 pub record Call : Type 0 where
   pub spelled : Option Spelled
   pub files : Option Files
@@ -48,8 +48,8 @@ pub record Call : Type 0 where
   pub sink_faults' : ℕ
   pub taken : Option (List ℕ)
   pub taken' : Option (List ℕ)
-  pub devices : List Device
-  pub devices' : List Device
+  pub devices : List Counted
+  pub devices' : List Counted
 
 abbrev pub transform_call : Call → Settings → (input output : List ℕ) → T.Call
 transform_call c s from to = record {

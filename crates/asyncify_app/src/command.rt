@@ -11,6 +11,7 @@ ghost use Rattle.printing.specs.Refused.{Prints, PrintsMemory};
 ghost use Rattle.transform_command.specs.Ends.{IsRefusal};
 ghost use Rattle.transform_command.specs.Transforms.{HasCause, HoldsSource, IsCutShort, IsTransformed, PrintsRefusal, PrintsDone, PrintsLess, RunsOutOfMemory};
 ghost use Rattle.host_turns.specs.Supplies.{IsLent};
+ghost use Rattle.asyncify_app.specs.Devices.{counted_boxes};
 ghost use Rattle.asyncify_app.specs.Ends.{HasOneEnd, OffScript, OnScript, rewriting};
 
 use crate::playing::play_with;
@@ -57,8 +58,8 @@ pub fn asyncify<V: Vault, S: Sink>(
       sink_faults' = S.faults out.new;
       taken = S.taken out.old;
       taken' = S.taken out.new;
-      devices = map seen devices.old.items;
-      devices' = map seen devices.new.items;
+      devices = counted_boxes seen faults devices.old.items;
+      devices' = counted_boxes seen faults devices.new.items;
     }) result }
 
     // The causes.
@@ -97,8 +98,8 @@ pub fn asyncify<V: Vault, S: Sink>(
         IsRefusal result → Becomes (S.taken out.old) (S.taken out.new) (PrintsRefusal settings (V.files vault.old) input result (S.faults out.old) (S.faults out.new))) }
 
     // The devices.
-    ensures devices_off_scripts { OffScript (spelled (map string_bytes words.now)) (map seen devices.new.items ≡ map seen devices.old.items) }
-    ensures devices_refused { result ≢ 0 → result ≢ 9 → result ≢ 12 → map seen devices.new.items ≡ map seen devices.old.items }
+    ensures devices_off_scripts { OffScript (spelled (map string_bytes words.now)) (counted_boxes seen faults devices.new.items ≡ counted_boxes seen faults devices.old.items) }
+    ensures devices_refused { result ≢ 0 → result ≢ 9 → result ≢ 12 → counted_boxes seen faults devices.new.items ≡ counted_boxes seen faults devices.old.items }
 
     // No count falls.
     ensures fetch_faults { V.fetch_faults vault.old ≤ V.fetch_faults vault.new }

@@ -1,6 +1,7 @@
 // A script, played with a list of boxed devices.
-ghost use Rattle.std.specs.Prelude.{◌≡◌, ◌≢◌, ◌≤◌, map};
+ghost use Rattle.std.specs.Prelude.{◌≡◌, ◌≢◌, ◌≤◌};
 ghost use Rattle.host_turns.specs.Supplies.{IsLent};
+ghost use Rattle.asyncify_app.specs.Devices.{counted_boxes};
 ghost use Rattle.script_command.specs.Answers.{HasOneEnd};
 ghost use Rattle.script_command.specs.Ends.{IsStatus, call};
 
@@ -21,9 +22,10 @@ pub(crate) fn play_with<V: Vault, S: Sink>(
 ) -> u8
     requires lent { IsLent }
     ensures one_end { HasOneEnd (call way script.now (V.files vault.old) (V.fetch_faults vault.old) (V.fetch_faults vault.new)
-        (S.faults out.old) (S.faults out.new) (S.taken out.old) (S.taken out.new) (map seen devices.old.items) (map seen devices.new.items)) result }
+        (S.faults out.old) (S.faults out.new) (S.taken out.old) (S.taken out.new)
+        (counted_boxes seen faults devices.old.items) (counted_boxes seen faults devices.new.items)) result }
     ensures status { IsStatus way result }
-    ensures devices { result ≢ 0 → result ≢ 9 → result ≢ 12 → map seen devices.new.items ≡ map seen devices.old.items }
+    ensures devices { result ≢ 0 → result ≢ 9 → result ≢ 12 → counted_boxes seen faults devices.new.items ≡ counted_boxes seen faults devices.old.items }
     ensures kept { V.files vault.new ≡ V.files vault.old }
     ensures fetch_faults { V.fetch_faults vault.old ≤ V.fetch_faults vault.new }
     ensures save_faults { V.save_faults vault.new ≡ V.save_faults vault.old }

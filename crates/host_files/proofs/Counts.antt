@@ -1,8 +1,9 @@
 -- How many programs a script has.
-use Rattle.std.proofs.Common.{◌≡◌, ℕ, suc, ◌+◌, ◌≤◌, List, [], ◌∷◌, length, Option, Some, None, Bool, true, false, Result, Ok, Err, refl, sym, ap, ◌∙◌, subst, arith, eqb-false}
+use Rattle.std.proofs.Common.{◌≡◌, ℕ, suc, ◌+◌, ◌≤◌, List, [], ◌∷◌, length, Option, Some, None, Bool, true, false, Result, Ok, Err, refl, sym, ap, ◌∙◌, subst, arith}
 use Rattle.std.specs.Prelude.{nat_eq, ◌&&◌, if◌then◌else◌, slice_get}
 use Rattle.std.specs.List.{filter}
 use Rattle.std.specs.Str.Lines.{lines}
+use Rattle.std.proofs.lemmas.Bool.{eqb-false}
 use Rattle.wa_model.specs.Script.{ProgramText, Script, ScriptFault, breaks, too_many}
 use Rattle.wa_model.specs.ScriptLines.{Statement, begins_program, lists_imports, ignores_imports, saves, has_area, has_steps, sets_global, binds, enters, answers, shows, detaches, line_says}
 use Rattle.wa_model.specs.ScriptText.{AreaText, Group, Numbered, area_of, fault_of, grouped, grouped_with, has_bad_list, in_program, is_early, is_one_too_many, is_program, is_repeated, lines_by, most_programs, onto}
@@ -51,25 +52,28 @@ onto_ok s (Ok more) ss P e f =
     subst P same (f more refl)
 onto_ok s (Err x) ss P e f = cc
 
+abbrev Later : ℕ → List (List ℕ) → Type 0
+Later line ls = (told : List Statement) (more : List Numbered) → begun told ≤ 16 → statements (suc line) told ls ≡ Ok more → Few told more
+
 few_told : (ls : List (List ℕ)) (line : ℕ) (earlier : List Statement) (ss : List Numbered) → begun earlier ≤ 16 → statements line earlier ls ≡ Ok ss → Few earlier ss
 few_told [] line earlier ss le e =
     let same : [] ≡ ss = cc in
     subst (Few earlier) same (omega (arith, le))
-few_told (l ∷ ls) line earlier ss le e = by (line_says l) e where
+few_told (l ∷ ls) line earlier ss le e = by (line_says l) e (λ told more few is. few_told ls (suc line) told more few is) where
   with_statement : (s : Statement) (fault : Option ScriptFault) → fault_of line earlier s ≡ fault
-      → unless_fault fault (record { line = line; says = s }) (statements (suc line) (s ∷ earlier) ls) ≡ Ok ss → Few earlier ss
-  with_statement s (Some f) is h = cc
-  with_statement s None is h =
+      → unless_fault fault (record { line = line; says = s }) (statements (suc line) (s ∷ earlier) ls) ≡ Ok ss → Later line ls → Few earlier ss
+  with_statement s (Some f) is h later = cc
+  with_statement s None is h later =
       onto_ok (record { line = line; says = s }) (statements (suc line) (s ∷ earlier) ls) ss (Few earlier) h
       (λ more told.
-      let few = few_told ls (suc line) (s ∷ earlier) more (room_for line earlier s is le) told in
+      let few = later (s ∷ earlier) more (room_for line earlier s is le) told in
       let n = begun_more s earlier in
       omega (arith, few, n))
 
-  by : (says : Result (Option Statement) ℕ) → with_line line earlier says (λ told. statements (suc line) told ls) ≡ Ok ss → Few earlier ss
-  by (Err rule) h = cc
-  by (Ok None) h = few_told ls (suc line) earlier ss le h
-  by (Ok (Some s)) h = with_statement s (fault_of line earlier s) refl h
+  by : (says : Result (Option Statement) ℕ) → with_line line earlier says (λ told. statements (suc line) told ls) ≡ Ok ss → Later line ls → Few earlier ss
+  by (Err rule) h later = cc
+  by (Ok None) h later = later earlier ss le h
+  by (Ok (Some s)) h later = with_statement s (fault_of line earlier s) refl h later
 
 -- ---- groups
 
@@ -78,29 +82,30 @@ groups_told [] = refl
 groups_told (s ∷ ss) = by s.says (groups_told ss) where
   by : (x : Statement) → length (grouped ss).groups ≡ programs_told ss → length (grouped_with s.line x (grouped ss)).groups ≡ (if is_program x then 1 else 0) + programs_told ss
   by (begins_program path) e = omega (arith, e)
-  by (lists_imports list) e = e
-  by ignores_imports e = e
-  by (saves live) e = e
-  by (has_area at len) e = e
-  by (has_steps n) e = e
-  by (sets_global name value) e = e
-  by (binds import device) e = e
-  by (enters name args) e = e
-  by (answers line) e = e
-  by (shows at len) e = e
-  by (detaches device before) e = e
+  by (lists_imports list) e = omega (arith, e)
+  by ignores_imports e = omega (arith, e)
+  by (saves live) e = omega (arith, e)
+  by (has_area at len) e = omega (arith, e)
+  by (has_steps n) e = omega (arith, e)
+  by (sets_global name value) e = omega (arith, e)
+  by (binds import device) e = omega (arith, e)
+  by (enters name args) e = omega (arith, e)
+  by (answers line) e = omega (arith, e)
+  by (shows at len) e = omega (arith, e)
+  by (detaches device before) e = omega (arith, e)
 
 as_many : (gs : List Group) (programs : List ProgramText) → programs_of gs ≡ Ok programs → length programs ≡ length gs
 as_many [] programs e =
     let same : [] ≡ programs = cc in
     sym (ap (λ (ps : List ProgramText). length ps) same)
-as_many (g ∷ gs) programs e = by (slice_get (lines_by area_of g.told) 0) (programs_of gs) refl e where
-  by : (a : Option AreaText) (r : Result (List ProgramText) ScriptFault) → programs_of gs ≡ r → with_program g a r ≡ Ok programs → length programs ≡ suc (length gs)
-  by None r is h = cc
-  by (Some a) (Err f) is h = cc
-  by (Some a) (Ok more) is h =
+as_many (g ∷ gs) programs e = by (slice_get (lines_by area_of g.told) 0) (programs_of gs) refl e (as_many gs) where
+  by : (a : Option AreaText) (r : Result (List ProgramText) ScriptFault) → programs_of gs ≡ r → with_program g a r ≡ Ok programs
+      → ((more : List ProgramText) → programs_of gs ≡ Ok more → length more ≡ length gs) → length programs ≡ suc (length gs)
+  by None r is h rest = cc
+  by (Some a) (Err f) is h rest = cc
+  by (Some a) (Ok more) is h rest =
       let same : program_of g a ∷ more ≡ programs = cc in
-      let n = as_many gs more is in
+      let n = rest more is in
       sym (ap (λ (ps : List ProgramText). length ps) same) ∙ ap suc n
 
 -- ---- scripts

@@ -7,7 +7,7 @@ use Rattle.vault_port.specs.Told.{Becomes}
 use Rattle.vault_port.specs.declared.whole.PutFault.TheVariants.{Fault, Memory}
 use Rattle.wa_model.specs.declared.answers.Detach.{Detach}
 use Rattle.wa_model.specs.Transcript.{refusal_line, read_fault}
-use Rattle.wa_model.specs.World.{Device}
+use Rattle.event_order.specs.Left.{Counted}
 use Rattle.printing.specs.Refused.{status_of, EndsInMemory, Prints, PrintsMemory, memory_line}
 use Rattle.printing.proofs.Printed.{memory_alone}
 use Rattle.script_opening.specs.declared.way.Way.{Way}
@@ -64,7 +64,7 @@ unread c status name same is why by printed wanting = elim by [
 front_then : (line : List ℕ) (x y z : List ℕ) → (n : ℕ) → y ≡ x ++ take n line → EndsInMemory y z → PrintsMemory line x z
 front_then line x y z n e h = (n, h.0, h.1 ∙ ap (λ s. s ++ take h.0 memory_line) e)
 
-module _ (way : Way) (name : List ℕ) (files : Option Files) (fetched fetched' put put' : ℕ) (ds ds' : List Device) (play : Play way files name)
+module _ (way : Way) (name : List ℕ) (files : Option Files) (fetched fetched' put put' : ℕ) (ds ds' : List Counted) (play : Play way files name)
     (detaches : List Detach) (same : detaches_in play.whole ≡ detaches) where
   told_so : (text : List ℕ) → AreTold play.parts detaches ds ds' text → IsTranscript play ds ds' text
   told_so text h = subst (λ (l : List Detach). AreTold play.parts l ds ds' text) (sym same) h

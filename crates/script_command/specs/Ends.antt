@@ -5,14 +5,14 @@ use Rattle.vault_port.specs.Files.{Files, IsMissing}
 use Rattle.vault_port.specs.Taken.{Appends, AppendsLess}
 use Rattle.vault_port.specs.Told.{Becomes}
 use Rattle.wa_model.specs.Transcript.{read_fault, refusal_line}
-use Rattle.wa_model.specs.World.{Device}
+use Rattle.event_order.specs.Left.{Counted}
 use Rattle.printing.specs.Refused.{status_of, Prints, PrintsMemory}
 use Rattle.script_opening.specs.declared.way.Way.{Way}
 use Rattle.script_opening.specs.declared.way.Way.TheVariants.{Run}
 use Rattle.script_opening.specs.Playing.{Cause, bad_module, Play, IsRefused, IsRead, refusal_of_cause}
 use Rattle.script_command.specs.Transcripts.{IsTranscript, IsBeginning}
 
--- A call: its way and its script; the files; the counts of faults, what the sink has taken and the devices, before and after it. (The
+-- A call: its way and its script; the files; the counts of faults, what the sink has taken and the devices, with their counts, before and after it. (The
 -- files stay as they are.)
 pub record Call : Type 0 where
   pub way : Way
@@ -24,10 +24,10 @@ pub record Call : Type 0 where
   pub sink_faults' : ℕ
   pub taken : Option (List ℕ)
   pub taken' : Option (List ℕ)
-  pub devices : List Device
-  pub devices' : List Device
+  pub devices : List Counted
+  pub devices' : List Counted
 
-abbrev pub call : Way → (script : List ℕ) → Option Files → (fetched fetched' put put' : ℕ) → (old new : Option (List ℕ)) → (ds ds' : List Device) → Call
+abbrev pub call : Way → (script : List ℕ) → Option Files → (fetched fetched' put put' : ℕ) → (old new : Option (List ℕ)) → (ds ds' : List Counted) → Call
 call way spelled all fetched fetched' put put' old new ds ds' = record {
   way = way;
   name = spelled;

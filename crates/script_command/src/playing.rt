@@ -1,12 +1,12 @@
 // A script, played.
 ghost use Rattle.std.specs.Prelude.{◌≡◌, ◌≤◌, ℕ, List, Option, length};
 ghost use Rattle.vault_port.specs.Files.{Files};
-ghost use Rattle.wa_model.specs.World.{Device};
-ghost use Rattle.device_port.specs.Listed.{of_all};
+ghost use Rattle.event_order.specs.Left.{Counted};
 ghost use Rattle.host_turns.specs.Supplies.{IsLent};
 ghost use Rattle.script_opening.specs.Playing.{Play, detaches_in};
 ghost use Rattle.script_opening.specs.Views.{Blames, CanPlay, Opens};
 ghost use Rattle.script_opening.specs.declared.way.Way.{Way as WayValue};
+ghost use Rattle.world_hosting.specs.Counts.{counted};
 ghost use Rattle.world_hosting.specs.Views.{AreStaged};
 ghost use Rattle.script_command.specs.Answers.{HasOneEnd};
 ghost use Rattle.script_command.specs.Ends.{HasEnd, IsStatus, call};
@@ -39,7 +39,7 @@ pub fn play_script<V: Vault, S: Sink>(
 ) -> u8
     requires lent { IsLent }
     ensures one_end { HasOneEnd (call way script.now (V.files vault.old) (V.fetch_faults vault.old) (V.fetch_faults vault.new)
-        (S.faults out.old) (S.faults out.new) (S.taken out.old) (S.taken out.new) (of_all seen devices.old) (of_all seen devices.new)) result }
+        (S.faults out.old) (S.faults out.new) (S.taken out.old) (S.taken out.new) (counted seen faults devices.old) (counted seen faults devices.new)) result }
     ensures status { IsStatus way result }
     ensures same_list { devices.new.list.ghost_name ≡ devices.old.list.ghost_name }
     ensures kept { V.files vault.new ≡ V.files vault.old }
@@ -59,7 +59,7 @@ fn play<S: Sink>(alloc: Global, out: &mut S, devices: &mut Devices<'_>, opened: 
     requires plays { CanPlay opened }
     ensures end { (way : WayValue) (files : Option Files) (name : List ℕ) (faults faults' : ℕ) → Opens way files name opened
         → HasEnd (call way name files faults faults' (S.faults out.old) (S.faults out.new) (S.taken out.old) (S.taken out.new)
-        (of_all seen devices.old) (of_all seen devices.new)) result }
+        (counted seen faults devices.old) (counted seen faults devices.new)) result }
     ensures same_list { devices.new.list.ghost_name ≡ devices.old.list.ghost_name }
     ensures faults { S.faults out.old ≤ S.faults out.new }
 {
@@ -84,7 +84,7 @@ fn tell<S: Sink>(
     ensures end { (way : WayValue) (files : Option Files) (name : List ℕ) (faults faults' : ℕ) (play : Play way files name)
         → AreStaged play.parts staged.entry.items → detaches_in play.whole ≡ detaches.items
         → HasEnd (call way name files faults faults' (S.faults out.old) (S.faults out.new) (S.taken out.old) (S.taken out.new)
-        (of_all seen devices.old) (of_all seen devices.new)) result }
+        (counted seen faults devices.old) (counted seen faults devices.new)) result }
     ensures same_list { devices.new.list.ghost_name ≡ devices.old.list.ghost_name }
     ensures faults { S.faults out.old ≤ S.faults out.new }
 {
@@ -98,7 +98,7 @@ fn tell<S: Sink>(
 // Prints why a script isn't played.
 fn refuse_script<S: Sink>(alloc: Global, out: &mut S, fault: OpenFault) -> u8
     requires { IsToldFault fault }
-    ensures end { (way : WayValue) (files : Option Files) (name : List ℕ) (faults faults' : ℕ) (ds : List Device) → Blames way files faults faults' name fault
+    ensures end { (way : WayValue) (files : Option Files) (name : List ℕ) (faults faults' : ℕ) (ds : List Counted) → Blames way files faults faults' name fault
         → HasEnd (call way name files faults faults' (S.faults out.old) (S.faults out.new) (S.taken out.old) (S.taken out.new) ds ds) result }
     ensures faults { S.faults out.old ≤ S.faults out.new }
 {

@@ -2,7 +2,6 @@
 use Rattle.std.proofs.Common.{Err, ap, subst}
 use Rattle.vault_port.specs.Told.{Becomes}
 use Rattle.vault_port.specs.declared.whole.PutFault.{PutFault}
-use Rattle.device_port.specs.Listed.{of_all}
 use Rattle.world_hosting.specs.Worlds.{TellsPart}
 use Rattle.script_command.proofs.Ending.{programs_cut, programs_told, programs_wanting}
 use Rattle.script_command.proofs.playing.tell.Goals as goal
