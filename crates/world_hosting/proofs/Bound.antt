@@ -1,5 +1,5 @@
 -- Devices by the names of imports: tables of places, one more line behind those before it.
-use Rattle.std.proofs.Common.{◌≡◌, ℕ, ◌+◌, ◌<◌, ◌≤◌, List, [], ◌∷◌, ◌++◌, length, map, get_or, take, Option, Some, None, Bool, true, false, cond, ap, sym, ◌∙◌, refl, if◌then◌else◌, slice_get}
+use Rattle.std.proofs.Common.{◌≡◌, ℕ, suc, ◌+◌, ◌<◌, ◌≤◌, List, [], ◌∷◌, ◌++◌, length, map, get_or, take, Option, Some, None, Bool, true, false, cond, ap, sym, ◌∙◌, refl, if◌then◌else◌, slice_get}
 use Rattle.std.specs.List.{cons_option, filter_map}
 use Rattle.std.specs.Str.{bytes_eq}
 use Rattle.std.specs.Borrow.{Bor}
@@ -28,7 +28,7 @@ bound_each (x ∷ xs) binds = by (imported_func x.kind) (bound_each xs binds) wh
   by : (o : Option ℕ) → length (bound_imports xs binds) ≡ length (filter_map (λ (i : Import). imported_func i.kind) xs)
       → length (cons_option (where_func o (last_device (joined_name x) binds)) (bound_imports xs binds)) ≡ length (cons_option o (filter_map (λ (i : Import). imported_func i.kind) xs))
   by None more = more
-  by (Some sort) more = ap (λ (n : ℕ). 1 + n) more
+  by (Some sort) more = ap suc more
 
 -- by tables that tell the same
 pub same_devices : (f h : List ℕ → Option (List ℕ)) (imports : List Import) → ((name : List ℕ) → f name ≡ h name)

@@ -1,14 +1,19 @@
 -- Texts of lines, one behind others, and what of them was printed.
-use Rattle.std.proofs.Common.{◌≡◌, inl, inr, ℕ, suc, ◌+◌, ◌<◌, ◌≤◌, List, [], ◌∷◌, ◌++◌, length, take, Option, Some, None, refl, sym, ap, ◌∙◌, append_assoc, append-nil, arith, subst}
+use Rattle.std.proofs.Common.{◌≡◌, inl, inr, ℕ, suc, ◌+◌, ◌<◌, ◌≤◌, List, [], ◌∷◌, ◌++◌, length, map, get_or, nat_lt, take, true, Option, Some, None, refl, sym, ap, ◌∙◌, append_assoc, append-nil, arith, subst}
 use Rattle.std.specs.Prelude.{codes}
 use Rattle.std.specs.Fmt.{decimal}
+use Rattle.std.specs.Option.{option_map, unwrap_or}
 use Rattle.std.proofs.lemmas.List.{length-append}
+use Rattle.std.proofs.lemmas.Bool.{ltb-true}
+use Rattle.std.proofs.lemmas.Option.{slice_get-map, slice_get_read}
 use Rattle.vault_port.specs.Counts.{HasRisen}
 use Rattle.vault_port.specs.Taken.{Appends, AppendsLess}
 use Rattle.vault_port.specs.Told.{Becomes}
 use Rattle.vault_port.proofs.Telling.{Becomes_then}
+use Rattle.transcript.specs.declared.events.Names.{Names as NamesValue}
+use Rattle.transcript.specs.Printing.{names_of}
 use Rattle.wa_model.specs.Outside.{Line}
-use Rattle.wa_model.specs.Transcript.{Names, event_lines, event_line, event_text, last_line, line_end, names_at}
+use Rattle.wa_model.specs.Transcript.{Names, event_lines, event_line, event_text, last_line, line_end, names_at, no_names}
 
 lines_append : (names : List Names) (front bs : List Line) → event_lines names (front ++ bs) ≡ event_lines names front ++ event_lines names bs
 lines_append names [] bs = refl
@@ -72,3 +77,10 @@ last_some programs events = ends_some (codes "programs " ++ decimal programs ++ 
 -- nothing is less of a text that isn't empty
 pub nothing_printed : (text : List ℕ) (o : Option (List ℕ)) → 0 < length text → Becomes o o (AppendsLess text)
 nothing_printed text o h = becomes_same (AppendsLess text) (λ x. (0, h, sym (append-nil x))) o
+
+-- ---- names
+
+-- the names that stand at a program's number
+pub own_names : (names : List NamesValue) (i : ℕ) (own : NamesValue) → true ≡ nat_lt i (length names) → own ≡ get_or names i own → names_of own ≡ names_at (map names_of names) i
+own_names names i own within is =
+    sym (ap (λ (o : Option Names). unwrap_or o no_names) (slice_get-map names_of names i ∙ ap (option_map names_of) (slice_get_read names (length names) i own refl (ltb-true i (length names) (sym within)) is)))

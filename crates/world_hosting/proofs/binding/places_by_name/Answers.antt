@@ -4,7 +4,7 @@ use Rattle.world_hosting.proofs.binding.places_by_name.Goals as goal
 
 pub loop-place-preserved : goal.loop-place-preserved
 loop-place-preserved c =
-    next_places c.args.binds.now (place_in c.loop-place.places) (place_in c.put_place.new.places) c.loop-place.place c.loop-bind-item.result c.loop-place-test.true c.loop-bind-item.is c.loop-place.invariant
+    next_places c.args.binds.now (place_in c.loop-place.places) (place_in c.put_place.new.places) c.loop-place.place c.index-binds-place.result c.loop-place-test.true c.index-binds-place.is c.loop-place.invariant
     c.in_ok-put_place.ensures
 
 pub returns : goal.returns

@@ -11,17 +11,19 @@ pub new-requires : goal.new-requires
 new-requires c =
     let t = c.args.text in
     let x : Plan = record { «module» = c.args.valid; listed = c.args.listed; binds = c.in_ok-binds.binds; area = t.area; steps = t.steps; globals = c.args.given.globals; entries = c.args.given.entries; answers = t.answers } in
+    let bound = c.in_ok-binds.ensures ∙ ap (λ m. bindings (module_of m) (map bind_of c.deref.result.now)) c.module-2.ensures.same ∙ ap (λ bs. bindings (module_of c.args.valid.now) (map bind_of bs)) c.deref.ensures.value in
     is_plan (program_of t) c.args.given x
-    (record { entries = refl; globals = refl; area = refl; steps = refl; answers = refl; binds = c.in_ok-binds.ensures ∙ ap (λ m. bindings (module_of m) (program_of t).binds) c.module-2.ensures.same })
+    (record { entries = refl; globals = refl; area = refl; steps = refl; answers = refl; binds = bound })
     c.requires.suits c.requires.listed c.requires.fits
 
 pub returns-in-Ok : goal.returns-in-Ok
 returns-in-Ok c =
     let t = c.args.text in
     let x : Plan = record { «module» = c.args.valid; listed = c.args.listed; binds = c.in_ok-binds.binds; area = t.area; steps = t.steps; globals = c.args.given.globals; entries = c.args.given.entries; answers = t.answers } in
+    let bound = c.in_ok-binds.ensures ∙ ap (λ m. bindings (module_of m) (map bind_of c.deref.result.now)) c.module-2.ensures.same ∙ ap (λ bs. bindings (module_of c.args.valid.now) (map bind_of bs)) c.deref.ensures.value in
     let told =
     begins (program_of t) c.args.given x
-    (record { entries = refl; globals = refl; area = refl; steps = refl; answers = refl; binds = c.in_ok-binds.ensures ∙ ap (λ m. bindings (module_of m) (program_of t).binds) c.module-2.ensures.same })
+    (record { entries = refl; globals = refl; area = refl; steps = refl; answers = refl; binds = bound })
     c.requires.suits c.in-Ok.program c.in-Ok.ensures in
     record {
       follows = told.0;
