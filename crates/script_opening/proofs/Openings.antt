@@ -1,5 +1,5 @@
 -- Programs that are opened one after another, and why one isn't.
-use Rattle.std.proofs.Common.{◌≡◌, ◌⊎◌, ◌+◌, ◌≤◌, inl, inr, ℕ, suc, List, [], ◌∷◌, ◌++◌, length, map, Option, Some, None, Result, Ok, Err, refl, sym, ap, ◌∙◌, subst, arith, append_assoc}
+use Rattle.std.proofs.Common.{◌≡◌, ◌⊎◌, ◌+◌, ◌≤◌, inl, inr, ℕ, List, [], ◌∷◌, ◌++◌, length, map, Option, Result, Ok, Err, refl, sym, ap, ◌∙◌, subst, arith, append_assoc}
 use Rattle.std.specs.Prelude.{All, Bool, OnOk}
 use Rattle.std.specs.List.{AllZip}
 use Rattle.std.specs.Result.{IfErr}
@@ -9,7 +9,7 @@ use Rattle.vault_port.specs.Counts.{HasRisen}
 use Rattle.vault_port.specs.Files.{Files, IsMissing}
 use Rattle.wa_types.specs.View.{module_of}
 use Rattle.wa_types.specs.declared.syntax.Module.{Module as ModuleValue}
-use Rattle.wa_model.specs.Script.{ProgramText, Script, ScriptFault, breaks}
+use Rattle.wa_model.specs.Script.{ProgramText, ScriptFault, breaks}
 use Rattle.transcript.specs.Printing.{refusal_of}
 use Rattle.script_reader.specs.declared.script.ProgramText.{ProgramText as ProgramValue}
 use Rattle.script_reader.specs.Views.{program_of}
@@ -27,8 +27,8 @@ use Rattle.script_opening.specs.declared.programs.Planned.{Planned}
 use Rattle.script_opening.specs.declared.programs.Programs.{Programs}
 use Rattle.script_opening.specs.declared.opening.OpenFault.{OpenFault}
 use Rattle.script_opening.specs.declared.opening.OpenFault.TheVariants.{Memory, Read, Script as a_script, Module as a_module, Rule as a_rule}
-use Rattle.script_opening.specs.Playing.{AreStages, IsBadModule, IsModule, IsReached, IsStage, BreaksRule, asks_all}
-use Rattle.script_opening.specs.Views.{AreOpened, Blames, BlamesLine, BlamesNext, BlamesPrograms, CanStage, IsUnread, OpensNext, part_of, parts_of}
+use Rattle.script_opening.specs.Playing.{IsBadModule, IsModule, IsReached, IsStage, BreaksRule, asks_all}
+use Rattle.script_opening.specs.Views.{AreOpened, BlamesLine, BlamesNext, CanStage, IsUnread, OpensNext, part_of, parts_of}
 
 -- ---- lists in step
 

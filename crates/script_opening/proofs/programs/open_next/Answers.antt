@@ -1,10 +1,9 @@
 -- A program more, or why it isn't set up.
-use Rattle.std.proofs.Common.{Some}
 use Rattle.host_files.proofs.Fronts.{if_err_weaker}
 use Rattle.wa_types.specs.View.{module_of}
 use Rattle.script_reader.specs.Views.{program_of}
 use Rattle.world_hosting.specs.Views.{listing}
-use Rattle.script_opening.proofs.Openings.{line_blamed, unread_module}
+use Rattle.script_opening.proofs.Openings.{line_blamed}
 use Rattle.script_opening.proofs.programs.open_next.Goals as goal
 
 pub returns-in-Ok-clause-opened : goal.returns-in-Ok-clause-opened

@@ -30,9 +30,12 @@ loop-text-preserved g c = record {
 }
 
 pub returns-in-Err-clause-refused : goal.returns-in-Err-clause-refused
-returns-in-Err-clause-refused g c =
-    (_, program_of c.in-Some.text, reached c.args.way _ _ _ _ _ (turned c.args.way _ _ _ _ _ _ c.in-Some.ensures.steps.0 c.loop-text.invariant.so_far),
-    next_blamed c.args.way _ _ _ _ _ _ (program_of c.in-Some.text) _ c.loop-text.invariant.kept c.loop-text.invariant.faults c.in-Err.ensures.refused)
+returns-in-Err-clause-refused g c = (
+  _,
+  program_of c.in-Some.text,
+  reached c.args.way _ _ _ _ _ (turned c.args.way _ _ _ _ _ _ c.in-Some.ensures.steps.0 c.loop-text.invariant.so_far),
+  next_blamed c.args.way _ _ _ _ _ _ (program_of c.in-Some.text) _ c.loop-text.invariant.kept c.loop-text.invariant.faults c.in-Err.ensures.refused,
+)
 
 pub returns-clause-opened : goal.returns-clause-opened
 returns-clause-opened g c =

@@ -1,10 +1,10 @@
 -- A program over its module, once it keeps the set-up rules.
-use Rattle.std.proofs.Common.{◌≡◌, ◌∙◌, sym, ap, arith}
+use Rattle.std.proofs.Common.{arith}
 use Rattle.std.proofs.lemmas.List.{length-map}
 use Rattle.wa_types.specs.View.{module_of}
 use Rattle.script_reader.specs.Views.{entry_of, program_of}
 use Rattle.script_setup.specs.SetUpRules.{set_up_rules}
-use Rattle.script_opening.proofs.Openings.{plans_next, memory_blamed, rules_asked}
+use Rattle.script_opening.proofs.Openings.{plans_next, memory_blamed}
 use Rattle.script_opening.proofs.programs.plan_program.Goals as goal
 
 pub set_up_program-requires : goal.set_up_program-requires
