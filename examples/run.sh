@@ -1,11 +1,14 @@
 #!/usr/bin/env bash
 # Rewrites examples/story.wasm, runs it with Node under examples/host.mjs, each read and sleep a pause, and compares what it prints with what
-# the original prints with imports that answer at once. Without Node it says so, and does nothing more. First it runs ask.script, and looks
-# whether README shows the files of that example as they are.
+# the original prints with imports that answer at once. Without Node it says so, and does nothing more. First it runs ask.script and
+# turns.script, and looks whether README shows the files of the first as they are, and docs/COMMAND.md those of the second.
 cd "$(dirname "$0")" || exit 1
-../asyncify run ask.script | diff ask.lines - || { echo "examples: ask.script prints other lines"; exit 1; }
-for file in ask.c ask.script ask.lines; do
-    python3 -c "import sys; sys.exit(open('$file').read() not in open('../README.md').read())" || { echo "examples: README has another $file"; exit 1; }
+for script in ask turns; do
+    ../asyncify run $script.script | diff $script.lines - || { echo "examples: $script.script prints other lines"; exit 1; }
+done
+for shown in README.md:ask.c README.md:ask.script README.md:ask.lines docs/COMMAND.md:turns.script docs/COMMAND.md:turns.lines; do
+    file=${shown#*:} document=${shown%:*}
+    python3 -c "import sys; sys.exit(open('$file').read() not in open('../$document').read())" || { echo "examples: $document has another $file"; exit 1; }
 done
 command -v node >/dev/null || { echo "examples: no node, not run"; exit 0; }
 out=$(mktemp -d)

@@ -12,7 +12,8 @@ use Rattle.printing.specs.Refused.{EndsInMemory, Prints, PrintsMemory}
 use Rattle.printing.proofs.Printed.{memory_alone}
 use Rattle.gen_module.specs.Generated.{generated}
 use Rattle.gen_command.specs.Printed as G
-use Rattle.script_command.specs.declared.way.Way.TheVariants.{Host, Run}
+use Rattle.script_opening.specs.declared.way.Way.TheVariants.{Host, Run}
+use Rattle.script_command.proofs.Answering.{one_end}
 use Rattle.script_command.proofs.Ending.{out_of_memory_alone}
 use Rattle.transform_command.specs.Ends as T
 use Rattle.transform_command.specs.Transforms.{RunsOutOfMemory}
@@ -48,8 +49,8 @@ module _ (c : Call) (status : ℕ) (nine : status ≡ 9) (kept : c.files' ≡ c.
   by_memory : (o : Option Spelled) → EndsBy c o status
   by_memory None = inr nine
   by_memory (Some (rewrites (transform s input output))) = TransformEnds.memory_ends (transform_call c s input output) status nine
-  by_memory (Some (hosts script)) = out_of_memory_alone (script_call c Host script) status nine printed
-  by_memory (Some (runs script)) = out_of_memory_alone (script_call c Run script) status nine printed
+  by_memory (Some (hosts script)) = one_end (script_call c Host script) status (out_of_memory_alone (script_call c Host script) status nine printed)
+  by_memory (Some (runs script)) = one_end (script_call c Run script) status (out_of_memory_alone (script_call c Run script) status nine printed)
   by_memory (Some (generates n output)) = inr (inl (nine, none_saved output (Enc (generated n)), no_line n output))
 
   -- Memory is wanting before the words are read.

@@ -4,7 +4,7 @@ use Rattle.wa_types.specs.declared.bounds.LimitKind.TheVariants.{File}
 use Rattle.source_modules.specs.Sources.{Cause, malformed, float, deep, limit, reserved, invalid, rewritten_locals, long_output, refusal_for}
 use Rattle.printing.specs.Refused.{status_of}
 use Rattle.transform_command.specs.Ends.{IsRefusal}
-use Rattle.script_command.specs.declared.way.Way.{Way}
+use Rattle.script_opening.specs.declared.way.Way.{Way}
 use Rattle.script_command.specs.Ends.{IsStatus}
 
 abbrev IsOne : ℕ → Type 0

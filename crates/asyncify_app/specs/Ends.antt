@@ -8,11 +8,13 @@ use Rattle.wa_types.specs.Pausing.{Settings}
 use Rattle.wa_model.specs.Command.{Command, transform}
 use Rattle.wa_model.specs.Spelled.{Spelled, rewrites, hosts, runs, generates}
 use Rattle.wa_model.specs.Transcript.{refusal_line, write_fault}
+use Rattle.event_order.specs.Left.{Counted}
 use Rattle.printing.specs.Refused.{Prints}
 use Rattle.gen_module.specs.Generated.{generated}
 use Rattle.gen_command.specs.Printed as G
-use Rattle.script_command.specs.declared.way.Way.{Way}
-use Rattle.script_command.specs.declared.way.Way.TheVariants.{Host, Run}
+use Rattle.script_opening.specs.declared.way.Way.{Way}
+use Rattle.script_opening.specs.declared.way.Way.TheVariants.{Host, Run}
+use Rattle.script_command.specs.Answers as A
 use Rattle.script_command.specs.Ends as P
 use Rattle.transform_command.specs.Ends as T
 
@@ -27,7 +29,13 @@ OnScript (Some (hosts script)) P = P
 OnScript (Some (runs script)) P = P
 OnScript _ P = Unit {0}
 
--- A call: what its words spell; the files, the counts of faults and what the sink has taken, before and after it.
+-- this holds where words play none
+abbrev pub OffScript : Option Spelled → Type 0 → Type 0
+OffScript (Some (hosts script)) P = Unit {0}
+OffScript (Some (runs script)) P = Unit {0}
+OffScript _ P = P
+
+-- A call: what its words spell; the files, the counts of faults, what the sink has taken and the devices, with their counts, before and after it.
 pub record Call : Type 0 where
   pub spelled : Option Spelled
   pub files : Option Files
@@ -40,6 +48,8 @@ pub record Call : Type 0 where
   pub sink_faults' : ℕ
   pub taken : Option (List ℕ)
   pub taken' : Option (List ℕ)
+  pub devices : List Counted
+  pub devices' : List Counted
 
 abbrev pub transform_call : Call → Settings → (input output : List ℕ) → T.Call
 transform_call c s from to = record {
@@ -57,7 +67,7 @@ transform_call c s from to = record {
 }
 
 abbrev pub script_call : Call → Way → (script : List ℕ) → P.Call
-script_call c way script = P.call way script c.files c.fetch_faults c.fetch_faults' c.sink_faults c.sink_faults' c.taken c.taken'
+script_call c way script = P.call way script c.files c.fetch_faults c.fetch_faults' c.sink_faults c.sink_faults' c.taken c.taken' c.devices c.devices'
 
 -- Of `gen`: the module is written and the lines on its run are printed; memory is wanting; the module could not be written; or
 -- the sink failed.
@@ -74,8 +84,8 @@ GeneratesOnce c n output status =
 abbrev pub EndsBy : Call → Option Spelled → ℕ → Type 0
 EndsBy c None status = (status ≡ 2) ⊎ (status ≡ 9)
 EndsBy c (Some (rewrites (transform s input output))) status = T.HasOneEnd (transform_call c s input output) status
-EndsBy c (Some (hosts script)) status = P.HasEnd (script_call c Host script) status
-EndsBy c (Some (runs script)) status = P.HasEnd (script_call c Run script) status
+EndsBy c (Some (hosts script)) status = A.HasOneEnd (script_call c Host script) status
+EndsBy c (Some (runs script)) status = A.HasOneEnd (script_call c Run script) status
 EndsBy c (Some (generates n output)) status = GeneratesOnce c n output status
 
 abbrev pub HasOneEnd : Call → ℕ → Type 0

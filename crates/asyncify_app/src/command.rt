@@ -1,5 +1,5 @@
 // A command from its words to its status.
-ghost use Rattle.std.specs.Prelude.{◌≡◌, ◌⊎◌, ◌≤◌, map, None, IsSome};
+ghost use Rattle.std.specs.Prelude.{◌≡◌, ◌≢◌, ◌⊎◌, ◌≤◌, map, None, IsSome};
 ghost use Rattle.std.specs.String.{string_bytes};
 ghost use Rattle.vault_port.specs.Counts.{HasRisen};
 ghost use Rattle.vault_port.specs.Files.{bytes_of, IsMissing};
@@ -10,27 +10,34 @@ ghost use Rattle.wa_model.specs.Transcript.{read_fault, refusal_line, usage, wri
 ghost use Rattle.printing.specs.Refused.{Prints, PrintsMemory};
 ghost use Rattle.transform_command.specs.Ends.{IsRefusal};
 ghost use Rattle.transform_command.specs.Transforms.{HasCause, HoldsSource, IsCutShort, IsTransformed, PrintsRefusal, PrintsDone, PrintsLess, RunsOutOfMemory};
-ghost use Rattle.asyncify_app.specs.Ends.{HasOneEnd, OnScript, rewriting};
+ghost use Rattle.host_turns.specs.Supplies.{IsLent};
+ghost use Rattle.asyncify_app.specs.Devices.{counted_boxes};
+ghost use Rattle.asyncify_app.specs.Ends.{HasOneEnd, OffScript, OnScript, rewriting};
 
+use crate::playing::play_with;
 use command_words::{Command, WordsFault, read_words};
+use device_port::Device;
 use gen_command::run_generated;
 use printing::{out_of_memory, refuse};
-use script_command::{Way, play_script};
+use script_opening::Way;
 use std::alloc::Global;
 use transcript::RefusalKind;
 use transform_command::run_transform;
 use vault_port::{Sink, Vault};
 
-/// Runs the command that the words spell, without the program's own name, over a vault of files and a sink for what
-/// it prints, and answers its status: 0 done, 2 no command, 3 bytes that spell no module, 4 a float, 5 a module that isn't
+/// Runs the command that the words spell, without the program's own name, over a vault of files, a sink for what it prints, and
+/// devices that answer imports of the programs of a script, and answers its status: 0 done, 2 no command, 3 bytes that spell no module, 4 a float, 5 a module that isn't
 /// valid, 6 a limit, 7 a reserved name, 8 a line of a script, 9 want of memory, 10 a file that could not be read, 11 one that could not be
-/// written, 12 a sink that failed. Each refusal prints a line. Want of memory may come in the place of any other answer.
+/// written, 12 a sink that failed. Each refusal prints a line, and changes no device. Want of memory may come in the place of any other
+/// answer.
 pub fn asyncify<V: Vault, S: Sink>(
     alloc: Global,
     words: &[String],
     vault: &mut V,
     out: &mut S,
+    devices: &mut Vec<Box<dyn Device>>,
 ) -> u8
+    requires lent { IsLent }
     ensures usage { spelled (map string_bytes words.now) ≡ None → (result ≡ 2) ⊎ (result ≡ 9) }
     ensures usage_alone { result ≡ 2 → spelled (map string_bytes words.now) ≡ None }
     ensures usage_files { spelled (map string_bytes words.now) ≡ None → V.files vault.new ≡ V.files vault.old }
@@ -51,6 +58,8 @@ pub fn asyncify<V: Vault, S: Sink>(
       sink_faults' = S.faults out.new;
       taken = S.taken out.old;
       taken' = S.taken out.new;
+      devices = counted_boxes seen (λ b. (⟦<dyn Device as Device>⟧ b.vtable).faults b.value) devices.old.items;
+      devices' = counted_boxes seen (λ b. (⟦<dyn Device as Device>⟧ b.vtable).faults b.value) devices.new.items;
     }) result }
 
     // The causes.
@@ -88,6 +97,14 @@ pub fn asyncify<V: Vault, S: Sink>(
     ensures prints_refusal { OnTransform (rewriting (spelled (map string_bytes words.now))) (λ settings input output.
         IsRefusal result → Becomes (S.taken out.old) (S.taken out.new) (PrintsRefusal settings (V.files vault.old) input result (S.faults out.old) (S.faults out.new))) }
 
+    // The devices.
+    ensures devices_off_scripts { OffScript (spelled (map string_bytes words.now))
+        (counted_boxes seen (λ b. (⟦<dyn Device as Device>⟧ b.vtable).faults b.value) devices.new.items
+        ≡ counted_boxes seen (λ b. (⟦<dyn Device as Device>⟧ b.vtable).faults b.value) devices.old.items) }
+    ensures devices_refused { result ≢ 0 → result ≢ 9 → result ≢ 12
+        → counted_boxes seen (λ b. (⟦<dyn Device as Device>⟧ b.vtable).faults b.value) devices.new.items
+        ≡ counted_boxes seen (λ b. (⟦<dyn Device as Device>⟧ b.vtable).faults b.value) devices.old.items }
+
     // No count falls.
     ensures fetch_faults { V.fetch_faults vault.old ≤ V.fetch_faults vault.new }
     ensures save_faults { V.save_faults vault.old ≤ V.save_faults vault.new }
@@ -103,8 +120,8 @@ pub fn asyncify<V: Vault, S: Sink>(
                 output,
             },
         ) => run_transform(alloc, vault, out, &settings, input, output),
-        Ok(Command::Host { script }) => play_script(alloc, vault, out, Way::Host, script),
-        Ok(Command::Run { script }) => play_script(alloc, vault, out, Way::Run, script),
+        Ok(Command::Host { script }) => play_with(alloc, vault, out, devices, Way::Host, script),
+        Ok(Command::Run { script }) => play_with(alloc, vault, out, devices, Way::Run, script),
         Ok(Command::Gen { number, output }) => run_generated(alloc, vault, out, number, output),
     }
 }

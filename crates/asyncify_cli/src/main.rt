@@ -1,17 +1,22 @@
-//! The program `asyncify`: `asyncify_app::asyncify` over the files of the system and standard output.
+//! The program `asyncify`: `asyncify_app::asyncify` over the files of the system, standard output, and two devices.
 //!
 //! It ends with the status that the call answers, 9 where there is no memory to make what it is given.
 #![tactic(auto)]
 
 use asyncify_app::asyncify;
+use device_port::{Counter, Device, Echo};
 use std::env;
 use std::io::ErrorKind;
 use std::process::ExitCode;
 use std::rt::{Env, Files};
 use vault_port::{FileVault, OutSink};
+use wa_types::Name;
 
 /// The status of want of memory.
 const MEMORY: u8 = 9;
+
+/// The ticks after which a program goes on that has asked the counter.
+const COUNTER_TICKS: u32 = 2;
 
 fn main(rt: HostRuntime) -> ExitCode {
     ExitCode::from(run(&rt).unwrap_or(MEMORY))
@@ -22,7 +27,13 @@ fn run<R: Files + Print + Env + AllocGlobal + Clone + Drop>(rt: &R) -> Option<u8
     let words = words(rt)?;
     let mut vault = FileVault::new(rt.clone().ok()?);
     let mut out = OutSink::new(rt.clone().ok()?);
-    Some(asyncify(rt.alloc(), &words, &mut vault, &mut out))
+    let alloc = rt.alloc();
+    let counter = Counter::new(alloc, Name::new(alloc, "counter").ok()?, COUNTER_TICKS);
+    let echo = Echo::new(alloc, Name::new(alloc, "echo").ok()?);
+    let mut devices: Vec<Box<dyn Device>> = Vec::new(alloc);
+    devices.push(Box::new(alloc, counter).ok()?).ok()?;
+    devices.push(Box::new(alloc, echo).ok()?).ok()?;
+    Some(asyncify(alloc, &words, &mut vault, &mut out, &mut devices))
 }
 
 /// The words behind the program's own name; none at all, so that they spell no command, where one of them isn't

@@ -1,2 +1,3 @@
+pub mod Counts
 pub mod Fronts
 pub mod Looking

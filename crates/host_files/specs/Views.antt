@@ -1,6 +1,5 @@
 -- What is answered, as plain data.
-use Rattle.std.specs.Prelude.{◌≡◌, ℕ, List, Option, Bool, Result, Ok, Err}
-use Rattle.std.specs.Option.{option_map}
+use Rattle.std.specs.Prelude.{◌≡◌, ℕ, List, Option, Result, Ok, Err}
 use Rattle.vault_port.specs.Files.{Files, bytes_of}
 use Rattle.vault_port.specs.Told.{WhereTold}
 use Rattle.wa_model.specs.Script as T
@@ -13,21 +12,17 @@ use Rattle.host_modules.specs.declared.reading.PreparedFault.TheVariants as P
 use Rattle.host_modules.specs.Prepared.{IsOfContent, IsUnprepared}
 use Rattle.host_files.specs.declared.fault.FileFault.{FileFault}
 use Rattle.host_files.specs.declared.fault.FileFault.TheVariants.{Memory, Read, Refused}
-use Rattle.host_files.specs.declared.serving.Unserved.{Unserved as UnservedValue}
 use Rattle.host_files.specs.declared.serving.Seen.{Seen}
 use Rattle.host_files.specs.declared.serving.Seen.TheVariants.{On, Found}
 use Rattle.host_files.specs.declared.serving.ServeFault.{ServeFault}
 use Rattle.host_files.specs.declared.serving.ServeFault.TheVariants as S
 use Rattle.host_files.specs.declared.serving.Told.{Told}
 use Rattle.host_files.specs.declared.serving.Told.TheVariants.{Rule, TooMany}
-use Rattle.host_files.specs.Scripts.{Unserved, unserved_by, IsNoScript}
+use Rattle.host_files.specs.Scripts.{live_by, IsNoScript}
 
 abbrev pub fault_of : Told → T.ScriptFault
 fault_of (Rule line rule) = T.breaks line rule
 fault_of (TooMany found) = T.too_many found
-
-abbrev pub unserved_of : UnservedValue → Unserved
-unserved_of u = record { line = u.line; fault = fault_of u.fault }
 
 -- The script that is told, or the fault tells why there is none; want of memory may come at any time.
 abbrev pub Serves : Result Script ServeFault → Result T.Script T.ScriptFault → Type 0
@@ -36,9 +31,9 @@ Serves (Err S.Memory) told = Unit {0}
 Serves (Err (S.Fault fault)) told = told ≡ Err (fault_of fault)
 
 -- what a line says to the search: it goes on, or ends so, whatever stands behind
-abbrev pub Sees : (line : ℕ) → (begun : Bool) → Result (Option Statement) ℕ → Seen → Type 0
-Sees line begun says (On next) = (later : Bool → Option Unserved) → unserved_by line begun says later ≡ later next
-Sees line begun says (Found found) = (later : Bool → Option Unserved) → unserved_by line begun says later ≡ option_map unserved_of found
+abbrev pub Sees : (line room : ℕ) → Result (Option Statement) ℕ → Seen → Type 0
+Sees line room says (On next) = (later : ℕ → Option ℕ) → live_by line room says later ≡ later next
+Sees line room says (Found found) = (later : ℕ → Option ℕ) → live_by line room says later ≡ found
 
 -- a refusal for which the bytes are no script
 abbrev pub IsNoScriptFor : List ℕ → FileFault → Type 0

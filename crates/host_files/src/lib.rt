@@ -1,7 +1,7 @@
 //! The files that hosting commands read: scripts and prepared modules.
 //!
-//! `fetch_script` answers the script in a file, as far as commands can serve it today: one program, without devices, whose frames
-//! save all locals (`specs/Scripts.antt`). `fetch_prepared` answers the prepared module in a file. Both tell why there is none.
+//! `fetch_script` answers the script in a file, as far as commands can serve it today: all but lines `save live`
+//! (`specs/Scripts.antt`). `fetch_prepared` answers the prepared module in a file. Both tell why there is none.
 #![tactic(auto)]
 
 mod fault;

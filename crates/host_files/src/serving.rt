@@ -1,14 +1,14 @@
-// Lines that no command can serve yet.
-ghost use Rattle.std.specs.Prelude.{◌≡◌, ◌≤◌, Err, IfOk, Ok, Result, length, false, if◌then◌else◌};
-ghost use Rattle.std.specs.Option.{option_map};
+// The one line that no command can serve yet.
+ghost use Rattle.std.specs.Prelude.{◌≡◌, ◌≤◌, ◌-◌, nat_eq, Err, IfOk, Ok, Result, Some, None, length, if◌then◌else◌};
 ghost use Rattle.std.specs.Str.Lines.{lines};
 ghost use Rattle.wa_model.specs.ScriptLines.{line_says};
-ghost use Rattle.wa_model.specs.ScriptText.{is_program};
+ghost use Rattle.wa_model.specs.ScriptText.{most_programs};
 ghost use Rattle.script_lines.specs.Statements.{statement_of};
 ghost use Rattle.wa_model.specs.Script.{Script as PlainScript, ScriptFault as PlainFault, breaks, too_many};
 ghost use Rattle.script_reader.specs.Views.{Blames, script_of};
-ghost use Rattle.host_files.specs.Scripts.{first_unserved, in_front_of, served_script, unserved_fault};
-ghost use Rattle.host_files.specs.Views.{Sees, Serves, fault_of, unserved_of};
+ghost use Rattle.host_files.specs.Scripts.{first_live, in_front_of, served_script};
+ghost use Rattle.host_files.specs.Views.{Sees, Serves, fault_of};
+ghost use Rattle.host_files.specs.declared.serving.Seen.TheVariants.{On, Found};
 
 use crate::lines::first_line;
 use script_lines::{LineFault, Statement, read_line};
@@ -40,28 +40,27 @@ impl From<AllocError> for ServeFault {
     }
 }
 
-/// A line that no command can serve yet, and the fault that is told of it.
-#[derive(Clone, Copy, Debug, PartialEq, Eq)]
-pub(crate) struct Unserved {
-    pub line: u32,
-    pub fault: Told,
-}
-
-/// What a line says to the search for such a line.
+/// What a line says to the search for a line `save live`.
 #[derive(Clone, Copy, Debug, PartialEq, Eq)]
 pub(crate) enum Seen {
-    /// It goes on; whether a program has begun by now.
-    On(bool),
-    /// It ends with this.
-    Found(Option<Unserved>),
+    /// It goes on; how many more programs may begin.
+    On(u32),
+    /// It ends with this line.
+    Found(Option<u32>),
 }
+
+/// The rule that a line `save live` breaks.
+const FORM: u8 = 3;
+
+/// As many programs may a script have.
+const PROGRAM_LIMIT: u32 = 16;
 
 /// The script that a text of at most 1,048,576 bytes is, as far as commands can serve it, or its first fault.
 pub(crate) fn served_script(alloc: Global, bytes: &[u8]) -> Result<Script, ServeFault>
     requires { length bytes.now ≤ 1_048_576 }
     ensures { Serves result (served_script bytes.now) }
 {
-    let found = first_unserved(alloc, bytes)?;
+    let found = first_live(alloc, bytes)?;
     match read_script(alloc, bytes) {
         Ok(script) => unless_found(found, script),
         Err(fault) => Err(served_fault(found, fault)),
@@ -69,8 +68,8 @@ pub(crate) fn served_script(alloc: Global, bytes: &[u8]) -> Result<Script, Serve
 }
 
 // The first of what is found and of a fault of the script.
-fn served_fault(found: Option<Unserved>, fault: ScriptFault) -> ServeFault
-    ensures { (told : Result PlainScript PlainFault) → Blames fault told → Serves (Err result) (in_front_of (option_map unserved_of found) told) }
+fn served_fault(found: Option<u32>, fault: ScriptFault) -> ServeFault
+    ensures { (told : Result PlainScript PlainFault) → Blames fault told → Serves (Err result) (in_front_of found told) }
 {
     match fault {
         ScriptFault::Memory => ServeFault::Memory,
@@ -79,53 +78,56 @@ fn served_fault(found: Option<Unserved>, fault: ScriptFault) -> ServeFault
     }
 }
 
-fn unless_found(found: Option<Unserved>, script: Script) -> Result<Script, ServeFault>
-    ensures { Serves result (in_front_of (option_map unserved_of found) (Ok (script_of script))) }
+fn unless_found(found: Option<u32>, script: Script) -> Result<Script, ServeFault>
+    ensures { Serves result (in_front_of found (Ok (script_of script))) }
 {
     match found {
-        Some(unserved) => Err(ServeFault::Fault(unserved.fault)),
+        Some(line) => Err(ServeFault::Fault(Told::Rule { line, rule: FORM })),
         None => Ok(script),
     }
 }
 
 // The first of what is found and of a rule that a line breaks.
-fn first_fault(found: Option<Unserved>, line: u32, rule: u8) -> Told
-    ensures { in_front_of (option_map unserved_of found) (Err (breaks line rule)) ≡ Err (fault_of result) }
+fn first_fault(found: Option<u32>, line: u32, rule: u8) -> Told
+    ensures { in_front_of found (Err (breaks line rule)) ≡ Err (fault_of result) }
 {
     match found {
         None => Told::Rule { line, rule },
-        Some(unserved) => {
-            if line < unserved.line && rule != 7 {
+        Some(live) => {
+            if line < live && rule != 7 {
                 return Told::Rule { line, rule };
             }
-            unserved.fault
+            Told::Rule {
+                line: live,
+                rule: FORM,
+            }
         }
     }
 }
 
 // What is found, or else that there are so many programs.
-fn found_or(found: Option<Unserved>, programs: u32) -> Told
-    ensures { in_front_of (option_map unserved_of found) (Err (too_many programs)) ≡ Err (fault_of result) }
+fn found_or(found: Option<u32>, programs: u32) -> Told
+    ensures { in_front_of found (Err (too_many programs)) ≡ Err (fault_of result) }
 {
     match found {
         None => Told::TooMany { found: programs },
-        Some(unserved) => unserved.fault,
+        Some(line) => Told::Rule { line, rule: FORM },
     }
 }
 
-// The first line of a text of at most 1,048,576 bytes that no command can serve yet.
-fn first_unserved(alloc: Global, bytes: &[u8]) -> Result<Option<Unserved>, AllocError>
+// The first line `save live` of a text of at most 1,048,576 bytes, where no line before it ends the search.
+fn first_live(alloc: Global, bytes: &[u8]) -> Result<Option<u32>, AllocError>
     requires { length bytes.now ≤ 1_048_576 }
-    ensures { IfOk result (λ found. option_map unserved_of found ≡ first_unserved 1 false (lines bytes.now)) }
+    ensures { IfOk result (λ found. found ≡ first_live 1 most_programs (lines bytes.now)) }
 {
     let mut rest = bytes;
     let mut line = 0u32;
-    let mut begun = false;
+    let mut room = PROGRAM_LIMIT;
     while !rest.is_empty() {
         let (text, behind) = first_line(rest);
         line += 1;
-        match look_at(alloc, line, begun, text)? {
-            Seen::On(next) => begun = next,
+        match look_at(alloc, line, room, text)? {
+            Seen::On(next) => room = next,
             Seen::Found(found) => return Ok(found),
         }
         rest = behind;
@@ -133,46 +135,43 @@ fn first_unserved(alloc: Global, bytes: &[u8]) -> Result<Option<Unserved>, Alloc
     Ok(None)
 }
 
-fn look_at(alloc: Global, line: u32, begun: bool, text: &[u8]) -> Result<Seen, AllocError>
-    ensures { IfOk result (λ seen. Sees line begun (line_says text.now) seen) }
+fn look_at(alloc: Global, line: u32, room: u32, text: &[u8]) -> Result<Seen, AllocError>
+    ensures { IfOk result (λ seen. Sees line room (line_says text.now) seen) }
 {
     match read_line(alloc, text) {
-        Ok(None) => Ok(Seen::On(begun)),
-        Ok(Some(statement)) => Ok(see(line, begun, &statement)),
+        Ok(None) => Ok(Seen::On(room)),
+        Ok(Some(statement)) => Ok(see(line, room, &statement)),
         Err(LineFault::Rule(_)) => Ok(Seen::Found(None)),
         Err(LineFault::Memory) => Err(AllocError),
     }
 }
 
-fn see(line: u32, begun: bool, statement: &Statement) -> Seen
-    ensures { Sees line begun (Ok (Some (statement_of statement.now))) result }
-{
-    match unserved_fault(line, begun, statement) {
-        Some(fault) => Seen::Found(Some(Unserved { line, fault })),
-        None => Seen::On(begun || is_program(statement)),
-    }
-}
-
-fn unserved_fault(line: u32, begun: bool, statement: &Statement) -> Option<Told>
-    ensures { option_map fault_of result ≡ unserved_fault line begun (statement_of statement.now) }
+fn see(line: u32, room: u32, statement: &Statement) -> Seen
+    ensures { Sees line room (Ok (Some (statement_of statement.now))) result }
 {
     match statement {
-        Statement::Device { .. } => Some(Told::Rule { line, rule: 2 }),
-        Statement::Detach(_) => Some(Told::Rule { line, rule: 2 }),
-        Statement::Save { live } => fault_if(*live, Told::Rule { line, rule: 3 }),
-        Statement::Program(_) => fault_if(begun, Told::TooMany { found: 2 }),
-        _ => None,
+        Statement::Save { live } => see_policy(line, room, *live),
+        Statement::Program(_) => see_program(room),
+        _ => Seen::On(room),
     }
 }
 
-fn fault_if(is_so: bool, fault: Told) -> Option<Told>
-    ensures { result ≡ (if is_so then Some fault else None) }
+fn see_policy(line: u32, room: u32, live: bool) -> Seen
+    ensures { result ≡ (if live then Found (Some line) else On room) }
 {
-    if is_so { Some(fault) } else { None }
+    if live {
+        Seen::Found(Some(line))
+    } else {
+        Seen::On(room)
+    }
 }
 
-fn is_program(statement: &Statement) -> bool
-    ensures { result ≡ is_program (statement_of statement.now) }
+fn see_program(room: u32) -> Seen
+    ensures { result ≡ (if nat_eq room 0 then Found None else On (room - 1)) }
 {
-    matches!(statement, Statement::Program(_))
+    if room == 0 {
+        Seen::Found(None)
+    } else {
+        Seen::On(room - 1)
+    }
 }

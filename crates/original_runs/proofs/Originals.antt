@@ -1,21 +1,16 @@
--- What is told of a rewritten module is told of its original.
+-- What is told of rewritten modules is told of their originals.
 use Rattle.std.proofs.Common.{◌≡◌, ℕ, List, [], ◌∷◌, map, Option, Some, None, Bool, true, false, cond, is_none, refl, sym, ap, ◌∙◌, subst, All, position, Ok}
 use Rattle.std.specs.List.{filter_map, AllZip}
-use Rattle.std.proofs.lemmas.List.Elements.{All-nil, All-cons, All-head, All-map}
+use Rattle.std.proofs.lemmas.List.Elements.{All-nil, All-cons, All-map}
 use Rattle.wa_types.specs.declared.syntax.Import.{Import}
 use Rattle.wa_types.specs.Modules.{imported, imported_global}
-use Rattle.wa_types.specs.Pausing.{Settings, Listed, TellsMayPause}
-use Rattle.wa_types.specs.Sizes.{WellFormed, value_fits}
+use Rattle.wa_types.specs.Sizes.{value_fits}
 use Rattle.wa_types.specs.Syntax.{Module}
 use Rattle.wa_types.specs.Typing.{GlobalType}
 use Rattle.wa_model.specs.Fitting.{types_of, global_types}
-use Rattle.wa_model.specs.Outside.{Line}
-use Rattle.wa_model.specs.Plan.{EntryFits, Fits}
-use Rattle.wa_model.specs.Rewrites.{Rewrites}
-use Rattle.wa_model.specs.Script.{ProgramText}
+use Rattle.wa_model.specs.Plan.{EntryFits, Fits, Plan}
 use Rattle.wa_model.specs.ScriptLines.{or_else}
-use Rattle.wa_model.specs.Untouched.{Untouched}
-use Rattle.wa_model.specs.World.{Actor, BlockingWorld, Original, ProtocolWorld, StartsHeld}
+use Rattle.wa_model.specs.World.{Actor, Original}
 use Rattle.world_laws.specs.Originals.{MayRun, Orderly, StandsIn, met}
 use Rattle.world_laws.proofs.Stories.{none_ignored}
 use Rattle.world_laws.proofs.Worlds.{worlds_of_originals}
@@ -23,10 +18,11 @@ use Rattle.run_laws.specs.FittingStates.{EntryTyped}
 use Rattle.host_setup.specs.SetUp.{Fault, NamedEntry, all_told, area_bad, entry_funcs, entry_missing, fault_at, first_fault, is_area_in, least_pages, module_fault, set_up, unless_fault}
 use Rattle.pause_host.specs.Settings.{calls_of}
 use Rattle.pause_host.proofs.Making.{set_up_fine}
-use Rattle.script_setup.specs.SetUpRules.{SetUp, named_entry, set_up_rules}
+use Rattle.script_setup.specs.SetUpRules.{named_entry}
 use Rattle.script_setup.proofs.GlobalTypes.{given_by_rules}
-use Rattle.hosting.specs.Hosted.{HasRanges, hosted_program}
-use Rattle.original_runs.specs.OriginalRuns.{ToldOfOriginals, hosted_original}
+use Rattle.world_hosting.specs.Bindings.{bound_imports}
+use Rattle.world_hosting.specs.Worlds.{Part, world_program, world_programs}
+use Rattle.original_runs.specs.OriginalRuns.{IsRewritten, Source, StaysOff, ToldOfOriginals, original_for, originals_for}
 use Rattle.original_runs.proofs.Entries.{area_fits, entries_fit}
 use Rattle.original_runs.proofs.Values.{are_typed, globals_fit, kept_by_rules, none_passes, shows_off}
 
@@ -54,51 +50,80 @@ none_missing p area es funcs e =
     let two = rest_none _ _ one in
     none_passes is_none (entry_funcs p es) (no_place entry_missing (position is_none (entry_funcs p es)) (first_none (fault_at entry_missing (position is_none (entry_funcs p es))) _ two))
 
--- ---- the plan fits the original
+-- ---- one program
 
-module _ (m p : Module) (settings : Settings) (which : List Bool) (t : ProgramText) (s : SetUp) (rw : Rewrites m settings p) (tells : TellsMayPause m settings which) (ranges : HasRanges t)
-    (rules : set_up_rules true p t ≡ Ok s) where
+module _ (x : Source) (y : Part) (is : IsRewritten x y) where
   abbrev o : Original
-  o = hosted_original m settings t s
+  o = original_for x y
 
   abbrev es : List NamedEntry
-  es = map named_entry t.entries
+  es = map named_entry y.text.entries
 
+  abbrev m : Module
+  m = x.original
+
+  -- the plan fits the original
   fits : Fits m o.program.plan
   fits =
-      let given = given_by_rules true p t s rules in
-      let kept = kept_by_rules p t s rules in
-      let fine = set_up_fine p rw.valid_rewritten t.area es s.funcs given.funcs in
-      let all = entries_fit m p settings rw which tells es (none_missing p t.area es s.funcs given.funcs) (subst (λ (fs : List ℕ). All (EntryTyped p) (calls_of es fs)) fine.funcs_are fine.entries)
-      (All-map (λ (e : NamedEntry). All value_fits e.args) named_entry t.entries ranges.entries) in
-      let types : types_of s.globals ≡ map (λ (g : GlobalType). g.ty) (imported imported_global m) =
-      given.globals ∙ ap (λ (is : List Import). global_types (filter_map (λ (i : Import). imported_global i.kind) is)) rw.imports in
+      let given = given_by_rules true y.source y.text y.given is.set_up in
+      let kept = kept_by_rules y.source y.text y.given is.set_up in
+      let fine = set_up_fine y.source is.rewrites.valid_rewritten y.text.area es y.given.funcs given.funcs in
+      let all = entries_fit m y.source x.settings is.rewrites is.which is.tells es (none_missing y.source y.text.area es y.given.funcs given.funcs)
+      (subst (λ (fs : List ℕ). All (EntryTyped y.source) (calls_of es fs)) fine.funcs_are fine.entries)
+      (All-map (λ (e : NamedEntry). All value_fits e.args) named_entry y.text.entries is.ranges.entries) in
+      let types : types_of y.given.globals ≡ map (λ (g : GlobalType). g.ty) (imported imported_global m) =
+      given.globals ∙ ap (λ (imports : List Import). global_types (filter_map (λ (i : Import). imported_global i.kind) imports)) is.rewrites.imports in
       record {
         globals = record {
-          typed = are_typed (map (λ (g : GlobalType). g.ty) (imported imported_global m)) s.globals types;
-          ranges = subst (All value_fits) (sym kept.globals) (globals_fit t.globals ranges.globals p.imports);
+          typed = are_typed (map (λ (g : GlobalType). g.ty) (imported imported_global m)) y.given.globals types;
+          ranges = subst (All value_fits) (sym kept.globals) (globals_fit y.text.globals is.ranges.globals y.source.imports);
         };
         entries = subst (λ (fs : List ℕ). All (EntryFits m) (calls_of es fs)) (sym fine.funcs_are) all;
-        area = area_fits m p settings rw which tells t.area fine.area_fits;
+        area = area_fits m y.source x.settings is.rewrites is.which is.tells y.text.area fine.area_fits;
       }
 
-  may_run : WellFormed m → MayRun o
-  may_run formed = record { well_formed = formed; fits = fits; listed = refl; answers = ranges.answers; looks = shows_off t.area t.shows (kept_by_rules p t s rules).shows }
+  may_run : MayRun o
+  may_run = record { well_formed = is.well_formed; fits = fits; listed = refl; answers = is.ranges.answers; looks = shows_off y.text.area y.text.shows (kept_by_rules y.source y.text y.given is.set_up).shows }
 
-  stands_in : StandsIn o (hosted_program p (Some (Listed m settings)) t s)
-  stands_in = record { rewrites = rw; plan = refl; steps = refl; answers = refl; binds = refl; looks = refl }
+  abbrev planned : Option (List Bool) → Plan
+  planned listed = record { globals = y.given.globals; entries = calls_of es y.given.funcs; area = y.text.area; listed = listed }
 
-  of_world : WellFormed m → settings.ignore_indirect ≡ false → (lines : List Line) → (world : ProtocolWorld (hosted_program p (Some (Listed m settings)) t s ∷ []) [] [] lines [])
-      → All (λ (a : Actor). Untouched m o.program.plan (met a) t.steps) world.actors → BlockingWorld (o ∷ []) [] [] lines []
-  of_world formed heeds lines world calm =
-      worlds_of_originals (o ∷ []) (hosted_program p (Some (Listed m settings)) t s ∷ []) [] [] [] lines (stands_in, tt) (All-cons MayRun o [] (may_run formed) (All-nil MayRun)) world
-      (by world.actors world.starts calm)
-    where
-      by : (actors : List Actor) → AllZip StartsHeld (hosted_program p (Some (Listed m settings)) t s ∷ []) actors → All (λ (a : Actor). Untouched m o.program.plan (met a) t.steps) actors
-          → AllZip (λ (x : Original) (a : Actor). Orderly x (met a)) (o ∷ []) actors
-      by [] starts h = starts
-      by (a ∷ []) starts h = (none_ignored o (met a) which (may_run formed) tells heeds (All-head (λ (a : Actor). Untouched m o.program.plan (met a) t.steps) a [] h), tt)
-      by (a ∷ b ∷ more) starts h = absurd starts.1
+  stands_in : StandsIn o (world_program y)
+  stands_in = record {
+    rewrites = is.rewrites;
+    plan = ap planned is.listed;
+    steps = refl;
+    answers = refl;
+    binds = ap (λ (imports : List Import). bound_imports imports y.text.binds) is.rewrites.imports;
+    looks = refl;
+  }
+
+  orderly : (a : Actor) → StaysOff o a → Orderly o (met a)
+  orderly a calm = none_ignored o (met a) is.which may_run is.tells is.heeds calm
+
+-- ---- all of them
+
+all_stand_in : (xs : List Source) (ys : List Part) → AllZip IsRewritten xs ys → AllZip StandsIn (originals_for xs ys) (world_programs ys)
+all_stand_in [] [] h = tt
+all_stand_in [] (y ∷ ys) h = absurd h
+all_stand_in (x ∷ xs) [] h = absurd h
+all_stand_in (x ∷ xs) (y ∷ ys) h = (stands_in x y h.0, all_stand_in xs ys h.1)
+
+all_may_run : (xs : List Source) (ys : List Part) → AllZip IsRewritten xs ys → All MayRun (originals_for xs ys)
+all_may_run [] ys h = All-nil MayRun
+all_may_run (x ∷ xs) [] h = absurd h
+all_may_run (x ∷ xs) (y ∷ ys) h = All-cons MayRun (original_for x y) (originals_for xs ys) (may_run x y h.0) (all_may_run xs ys h.1)
+
+abbrev MetOrderly : Original → Actor → Type 0
+MetOrderly o a = Orderly o (met a)
+
+all_orderly : (xs : List Source) (ys : List Part) (actors : List Actor) → AllZip IsRewritten xs ys → AllZip StaysOff (originals_for xs ys) actors → AllZip MetOrderly (originals_for xs ys) actors
+all_orderly [] ys [] h calm = tt
+all_orderly [] ys (a ∷ actors) h calm = absurd calm
+all_orderly (x ∷ xs) [] actors h calm = absurd h
+all_orderly (x ∷ xs) (y ∷ ys) [] h calm = absurd calm
+all_orderly (x ∷ xs) (y ∷ ys) (a ∷ actors) h calm = (orderly x y h.0 a calm.0, all_orderly xs ys actors h.1 calm.1)
 
 pub told_of_originals : ToldOfOriginals
-told_of_originals m p settings which t s text rw formed tells heeds ranges rules told calm = of_world m p settings which t s rw tells ranges rules formed heeds told.lines told.world calm
+told_of_originals xs ys detaches ds ds' lines h world calm =
+    worlds_of_originals (originals_for xs ys) (world_programs ys) detaches ds ds' lines (all_stand_in xs ys h) (all_may_run xs ys h) world (all_orderly xs ys world.actors h calm)

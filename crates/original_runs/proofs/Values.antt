@@ -26,7 +26,7 @@ use Rattle.host_setup.specs.SetUp as H
 use Rattle.script_setup.specs.SetUpRules.{SetUp, bad_global, bad_show, global_line, global_values, last_value, named_entry, overlaps}
 use Rattle.script_setup.specs.SetUpRules.{set_up_rules, show_line, told_at, told_funcs, unless_told, value_or_zero, with_lines}
 use Rattle.world_laws.specs.Originals.{ShowsOff}
-use Rattle.hosting.specs.Hosted.{look_at}
+use Rattle.world_hosting.specs.Worlds.{look_at}
 
 -- ---- what the rules tell
 

@@ -2,7 +2,7 @@
 
 ghost use Rattle.original_runs.specs.OriginalRuns.{ToldOfOriginals};
 
-/// What is told of a rewritten module is told of its original.
+/// What is told of rewritten modules is told of their originals.
 pub fn told_of_originals()
     ensures { ToldOfOriginals }
 {}

@@ -1,8 +1,8 @@
-//! What is told of a rewritten module, as a run of its original with blocking imports.
+//! What is told of rewritten modules, as a run of their originals with blocking imports.
 //!
-//! A script's program is run over its module, rewritten. Where the original touches no byte of the area, the lines that were told
-//! are those of a run of the blocking world of the original (`specs/OriginalRuns.antt`): the program, set up by the rules, is a plan
-//! that fits the original.
+//! A script's programs are run over their modules, rewritten. Where no original touches a byte of its area, the lines that were told
+//! are those of a run of the blocking world of the originals, with the same devices (`specs/OriginalRuns.antt`): each program, set up
+//! by the rules, is a plan that fits its original.
 #![tactic(auto)]
 
 mod laws;

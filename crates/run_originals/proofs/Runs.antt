@@ -1,22 +1,21 @@
--- What is run is a rewritten original.
-use Rattle.std.proofs.Common.{◌≡◌, ℕ, List, [], ◌∷◌, Option, Some, None, Bool, true, false, All, Result, Ok, Err, sym, ap, ◌∙◌, subst, if◌then◌else◌}
+-- What is run are rewritten originals.
+use Rattle.std.proofs.Common.{◌≡◌, ℕ, List, [], ◌∷◌, map, Option, Some, None, Bool, true, false, All, Result, Ok, Err, sym, ap, ◌∙◌, subst, if◌then◌else◌}
+use Rattle.std.specs.List.{AllZip}
 use Rattle.std.specs.Option.{option_map}
-use Rattle.std.proofs.lemmas.List.Elements.{All-head}
+use Rattle.std.proofs.lemmas.List.Elements.{All-head, All-tail}
 use Rattle.vault_port.specs.Files.{Files}
 use Rattle.wa_types.specs.Pausing.{Choice, Settings, save_all}
 use Rattle.wa_model.specs.Command.{choice_said}
 use Rattle.wa_model.specs.Script.{ProgramText, Script, ScriptFault, breaks, too_many}
 use Rattle.wa_model.specs.ScriptText.{script_text}
-use Rattle.wa_model.specs.Untouched.{Untouched}
-use Rattle.wa_model.specs.World.{Actor, BlockingWorld}
-use Rattle.world_laws.specs.Originals.{met}
-use Rattle.host_files.specs.Scripts.{Unserved, in_front_of, is_earlier, served_script}
-use Rattle.hosting.specs.Hosted.{HasRanges, IsTold}
-use Rattle.hosting.proofs.ScriptPrograms.{scripts_are_in_range}
-use Rattle.original_runs.specs.OriginalRuns.{hosted_original}
+use Rattle.host_files.specs.Scripts.{in_front_of, is_earlier, served_script}
+use Rattle.script_opening.specs.Playing.{IsStage, Play}
+use Rattle.script_opening.specs.declared.way.Way.TheVariants.{Run}
+use Rattle.world_hosting.specs.Worlds.{HasRanges, Part}
+use Rattle.world_hosting.proofs.ScriptPrograms.{scripts_are_in_range}
+use Rattle.original_runs.specs.OriginalRuns.{IsRewritten, Source}
 use Rattle.original_runs.proofs.Originals.{told_of_originals}
-use Rattle.script_command.specs.Playing.{HasProgram}
-use Rattle.run_originals.specs.RunOriginals.{RunsAreOfOriginals}
+use Rattle.run_originals.specs.RunOriginals.{IsSource, RunsAreOfOriginals}
 
 -- ---- the script's text
 
@@ -24,21 +23,25 @@ one_fault : (b : Bool) (f g : ScriptFault) (s : Script) → (if b then Err f els
 one_fault true f g s e = cc
 one_fault false f g s e = cc
 
-told_ok : (u : Option Unserved) (told : Result Script ScriptFault) (s : Script) → in_front_of u told ≡ Ok s → told ≡ Ok s
+told_ok : (live : Option ℕ) (told : Result Script ScriptFault) (s : Script) → in_front_of live told ≡ Ok s → told ≡ Ok s
 told_ok None told s e = e
-told_ok (Some u) (Ok x) s e = absurd cc
-told_ok (Some u) (Err (too_many found)) s e = absurd cc
-told_ok (Some u) (Err (breaks line rule)) s e = absurd (one_fault (is_earlier line rule u) (breaks line rule) u.fault s e)
+told_ok (Some live) (Ok x) s e = absurd cc
+told_ok (Some live) (Err (too_many found)) s e = absurd cc
+told_ok (Some live) (Err (breaks line rule)) s e = absurd (one_fault (is_earlier line rule live) (breaks line rule) (breaks live 3) s e)
 
 text_told : (bytes : List ℕ) (s : Script) → served_script bytes ≡ Ok s → script_text bytes ≡ Ok s
 unfolding served_script
 text_told bytes s e = told_ok _ (script_text bytes) s e
 
-in_range : (files : Option Files) (name : List ℕ) (t : ProgramText) → HasProgram files name t → HasRanges t
-in_range files name t h =
-    All-head HasRanges t [] (subst (All HasRanges) h.one (scripts_are_in_range h.bytes h.whole (text_told h.bytes h.whole h.script.text)))
+abbrev texts_of : List Part → List ProgramText
+texts_of ys = map (λ (y : Part). y.text) ys
 
--- ---- its settings
+in_range : (files : Option Files) (name : List ℕ) (play : Play Run files name) → All HasRanges (texts_of play.parts)
+in_range files name play =
+    let h = play.of_script in
+    subst (All HasRanges) (sym play.stages.texts_are) (scripts_are_in_range h.bytes play.whole (text_told h.bytes play.whole h.script.text))
+
+-- ---- one program
 
 heeds : (o : Option Choice) (s : Settings) → option_map (λ (c : Choice). record { choice = c; ignore_indirect = false; policy = save_all }) o ≡ Some s → s.ignore_indirect ≡ false
 heeds None s e = cc
@@ -47,25 +50,46 @@ heeds (Some c) s e =
     let same : of ≡ s = cc in
     sym (ap (λ (x : Settings). x.ignore_indirect) same)
 
--- ---- what is run
+-- its original
+pub record HasSource (files : Option Files) (y : Part) : Type 0 where
+  pub of : Source
+  pub is_source : IsSource files of y
+  pub rewritten : IsRewritten of y
 
-pub runs_of_originals : RunsAreOfOriginals
-runs_of_originals files name stage text told =
-    let bytes = stage.module_is.0 in
-    let listed = stage.module_is.1 in
+source_of : (files : Option Files) (y : Part) → IsStage Run files y → HasRanges y.text → HasSource files y
+source_of files y stage ranges =
     let settings = stage.module_is.3.0 in
     let runs = stage.module_is.3.2 in
-    let m = runs.source in
-    let o = hosted_original m settings stage.program stage.given in (
-      m,
-      settings,
-      record { bytes = bytes; holds = stage.module_is.2; source = runs.rewritable.accepted; settings_are = stage.module_is.3.1 },
-      subst
-          (λ (l : Option (List Bool)). (of : IsTold stage.source l stage.program stage.given text) → All (λ (a : Actor). Untouched m o.program.plan (met a) stage.program.steps) of.world.actors
-          → BlockingWorld (o ∷ []) [] [] of.lines [])
-          (sym (stage.module_is.4 ∙ ap (λ (l : List Bool). Some l) runs.listed_is))
-          (λ of calm. told_of_originals m stage.source settings runs.which stage.program stage.given text runs.rewrites runs.well_formed runs.rewritable.tells
-          (heeds (choice_said stage.program.list stage.program.ignore_imports) settings stage.module_is.3.1)
-          (in_range files name stage.program stage.of_script) stage.set_up of calm)
-          told,
-    )
+    record {
+      of = record { original = runs.source; settings = settings };
+      is_source = record { bytes = stage.module_is.0; holds = stage.module_is.2; source = runs.rewritable.accepted; settings_are = stage.module_is.3.1 };
+      rewritten = record {
+        rewrites = runs.rewrites;
+        well_formed = runs.well_formed;
+        which = runs.which;
+        tells = runs.rewritable.tells;
+        heeds = heeds (choice_said y.text.list y.text.ignore_imports) settings stage.module_is.3.1;
+        listed = stage.module_is.4 ∙ ap (λ (l : List Bool). Some l) runs.listed_is;
+        ranges = ranges;
+        set_up = stage.set_up;
+      };
+    }
+
+-- ---- all of them
+
+pub record HaveSources (files : Option Files) (ys : List Part) : Type 0 where
+  pub sources : List Source
+  pub are_sources : AllZip (IsSource files) sources ys
+  pub rewritten : AllZip IsRewritten sources ys
+
+sources_of : (files : Option Files) (ys : List Part) → All (IsStage Run files) ys → All HasRanges (texts_of ys) → HaveSources files ys
+sources_of files [] stages ranges = record { sources = []; are_sources = tt; rewritten = tt }
+sources_of files (y ∷ ys) stages ranges =
+    let first = source_of files y (All-head (IsStage Run files) y ys stages) (All-head HasRanges y.text (texts_of ys) ranges) in
+    let rest = sources_of files ys (All-tail (IsStage Run files) y ys stages) (All-tail HasRanges y.text (texts_of ys) ranges) in
+    record { sources = first.of ∷ rest.sources; are_sources = (first.is_source, rest.are_sources); rewritten = (first.rewritten, rest.rewritten) }
+
+pub runs_of_originals : RunsAreOfOriginals
+runs_of_originals files name play =
+    let have = sources_of files play.parts play.stages.each (in_range files name play) in
+    (have.sources, have.are_sources, λ old new text told calm. told_of_originals have.sources play.parts _ _ _ told.lines have.rewritten told.world calm)

@@ -1,31 +1,30 @@
--- What `run` tells of a program, as a run of its original.
-use Rattle.std.specs.Prelude.{◌≡◌, ℕ, List, [], ◌∷◌, Option, Some, All}
+-- What `run` tells of a script's programs, as a run of their originals.
+use Rattle.std.specs.Prelude.{◌≡◌, ℕ, List, Option, Some}
+use Rattle.std.specs.List.{AllZip}
 use Rattle.vault_port.specs.Files.{Files}
-use Rattle.wa_types.specs.Pausing.{Settings}
-use Rattle.wa_types.specs.Syntax.{Module}
-use Rattle.wa_model.specs.Script.{ProgramText}
-use Rattle.wa_model.specs.Untouched.{Untouched}
-use Rattle.wa_model.specs.World.{Actor, BlockingWorld}
-use Rattle.world_laws.specs.Originals.{met}
+use Rattle.wa_model.specs.World.{BlockingWorld}
+use Rattle.event_order.specs.Left.{Counted}
+use Rattle.turn_taking.specs.Calls.{devices_of}
 use Rattle.source_modules.specs.Sources.{IsValidSource}
 use Rattle.host_files.specs.Views.{Holds}
-use Rattle.hosting.specs.Hosted.{IsTold}
-use Rattle.original_runs.specs.OriginalRuns.{hosted_original}
-use Rattle.script_command.specs.Playing.{Stage, settings_for}
-use Rattle.script_command.specs.declared.way.Way.TheVariants.{Run}
+use Rattle.script_opening.specs.Playing.{Play, detaches_in, settings_for}
+use Rattle.script_opening.specs.declared.way.Way.TheVariants.{Run}
+use Rattle.world_hosting.specs.Worlds.{AreTold, Part}
+use Rattle.original_runs.specs.OriginalRuns.{Source, StaysOff, originals_for}
 
 -- The program's file spells this valid module, and these are the settings of its lines.
-pub record IsOriginal (files : Option Files) (t : ProgramText) (m : Module) (settings : Settings) : Type 0 where
+pub record IsSource (files : Option Files) (x : Source) (y : Part) : Type 0 where
   pub bytes : List ℕ
-  pub holds : Holds files t.path bytes
-  pub source : IsValidSource bytes m
-  pub settings_are : settings_for t ≡ Some settings
+  pub holds : Holds files y.text.path bytes
+  pub source : IsValidSource bytes x.original
+  pub settings_are : settings_for y.text ≡ Some x.settings
 
--- What is told under `run` has an original: where that touches no byte of the area with the outcomes that the calls met, the lines
--- are those of a run of its blocking world.
+-- What is told under `run` has originals: where each touches no byte of its area with the outcomes that its calls met, the lines are
+-- those of a run of their blocking world, with the same devices.
 abbrev pub RunsAreOfOriginals : Type 0
 RunsAreOfOriginals =
-    (files : Option Files) (name : List ℕ) (stage : Stage Run files name) (text : List ℕ) (told : IsTold stage.source stage.listed stage.program stage.given text)
-    → (m : Module) × (settings : Settings) × IsOriginal files stage.program m settings
-    × (All (λ (a : Actor). Untouched m (hosted_original m settings stage.program stage.given).program.plan (met a) stage.program.steps) told.world.actors
-    → BlockingWorld (hosted_original m settings stage.program stage.given ∷ []) [] [] told.lines [])
+    (files : Option Files) (name : List ℕ) (play : Play Run files name)
+    → (sources : List Source) × AllZip (IsSource files) sources play.parts
+    × ((old new : List Counted) (text : List ℕ) (told : AreTold play.parts (detaches_in play.whole) old new text)
+    → AllZip StaysOff (originals_for sources play.parts) told.world.actors
+    → BlockingWorld (originals_for sources play.parts) (detaches_in play.whole) (devices_of old) told.lines (devices_of new))

@@ -2,7 +2,7 @@
 
 ghost use Rattle.run_originals.specs.RunOriginals.{RunsAreOfOriginals};
 
-/// What `run` tells of a program is told of its original.
+/// What `run` tells of programs is told of their originals.
 pub fn runs_are_of_originals()
     ensures { RunsAreOfOriginals }
 {}

@@ -1,7 +1,7 @@
-//! What `run SCRIPT` prints, as a run of the script's original with blocking imports.
+//! What `run SCRIPT` prints, as a run of the script's originals with blocking imports.
 //!
-//! Under `run` a program's original is rewritten first. Where it touches no byte of the area, the lines that are printed are those
-//! of a run of the blocking world of the original itself (`specs/RunOriginals.antt`).
+//! Under `run` each program's original is rewritten first. Where no original touches a byte of its area, the lines that are printed
+//! are those of a run of the blocking world of the originals themselves (`specs/RunOriginals.antt`).
 #![tactic(auto)]
 
 mod laws;

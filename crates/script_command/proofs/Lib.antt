@@ -1,4 +1,4 @@
+pub mod Answering
 pub mod Ending
-pub mod Opened
-pub mod Originals
+pub mod StagedParts
 pub mod Statuses

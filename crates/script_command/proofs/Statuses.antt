@@ -9,13 +9,14 @@ use Rattle.host_files.specs.Scripts.{IsNoScript}
 use Rattle.printing.specs.Refused.{status_of}
 use Rattle.source_modules.specs.Sources as S
 use Rattle.source_modules.specs.Sources.{refusal_for}
-use Rattle.script_command.specs.declared.way.Way.{Way}
-use Rattle.script_command.specs.declared.way.Way.TheVariants.{Host, Run}
-use Rattle.script_command.specs.declared.opening.OpenFault.{OpenFault}
-use Rattle.script_command.specs.declared.opening.OpenFault.TheVariants.{Memory, Read, Script, Module}
-use Rattle.script_command.specs.Ends.{Call, End, done, memory, sink_fault, refused, read_fault_of, refusal_of_cause, status_of_end, HasEnd, IsWhy, IsStatus}
-use Rattle.script_command.specs.Playing.{Cause, bad_script, bad_module, bad_line, IsBadModule, IsRefused}
-use Rattle.script_command.specs.Views.{Blames, IsToldFault}
+use Rattle.script_opening.specs.declared.way.Way.{Way}
+use Rattle.script_opening.specs.declared.way.Way.TheVariants.{Host, Run}
+use Rattle.script_opening.specs.declared.opening.OpenFault.{OpenFault}
+use Rattle.script_opening.specs.declared.opening.OpenFault.TheVariants.{Memory, Read, Script, Module, Rule}
+use Rattle.script_command.specs.Ends.{Call, End, done, memory, sink_fault, refused, read_fault_of, status_of_end, HasEnd, IsWhy, IsStatus}
+use Rattle.script_opening.specs.Playing.{Cause, bad_script, bad_module, bad_line, IsBadModule, IsRefused, refusal_of_cause}
+use Rattle.script_opening.specs.Views.{Blames}
+use Rattle.script_command.specs.Faults.{IsToldFault}
 
 -- ---- refusals of contents
 
@@ -65,7 +66,8 @@ pub told_fault : (way : Way) (files : Option Files) (faults faults' : ℕ) (name
 told_fault way files faults faults' name Memory h = tt
 told_fault way files faults faults' name (Read read) h = tt
 told_fault way files faults faults' name (Script kind) h = script_content h.0 _ h.2
-told_fault way files faults faults' name (Module kind) h = module_content way files h.0 _ h.2
+told_fault way files faults faults' name (Module number kind) h = module_content way files h.0 _ h.2
+told_fault way files faults faults' name (Rule line rule) h = tt
 
 -- want of memory has a status of its own
 pub never_nine : (r : Refusal) → IsOfContent r → status_of r ≢ 9
@@ -135,7 +137,7 @@ module_status Run n files t r e h = content_status n r e (module_content Run fil
 
 refused_status : (way : Way) (n : ℕ) (files : Option Files) (name : List ℕ) (c : Cause) → n ≡ status_of (refusal_of_cause c) → IsRefused way files name c → IsStatus way n
 refused_status way n files name (bad_script r) e h = script_status way n h.0 r e h.2
-refused_status way n files name (bad_module r) e h = module_status way n files h.0 r e h.2
+refused_status way n files name (bad_module number r) e h = module_status way n files h.0 r e h.2
 refused_status way n files name (bad_line line rule) e h = eight way n e
 
 by_end : (c : Call) (n : ℕ) (which : End) → n ≡ status_of_end which → IsWhy c which → IsStatus c.way n

@@ -4,14 +4,16 @@ use Rattle.vault_port.specs.Counts.{HasRisen}
 use Rattle.vault_port.specs.Files.{Files, IsMissing}
 use Rattle.vault_port.specs.Taken.{Appends, AppendsLess}
 use Rattle.vault_port.specs.Told.{Becomes}
-use Rattle.wa_model.specs.Transcript.{Refusal, script, read_fault, refusal_line}
+use Rattle.wa_model.specs.Transcript.{read_fault, refusal_line}
+use Rattle.event_order.specs.Left.{Counted}
 use Rattle.printing.specs.Refused.{status_of, Prints, PrintsMemory}
-use Rattle.script_command.specs.declared.way.Way.{Way}
-use Rattle.script_command.specs.declared.way.Way.TheVariants.{Run}
-use Rattle.script_command.specs.Playing.{Cause, bad_script, bad_module, bad_line, Play, IsTranscript, IsBeginning, IsRefused, IsRead}
+use Rattle.script_opening.specs.declared.way.Way.{Way}
+use Rattle.script_opening.specs.declared.way.Way.TheVariants.{Run}
+use Rattle.script_opening.specs.Playing.{Cause, bad_module, Play, IsRefused, IsRead, refusal_of_cause}
+use Rattle.script_command.specs.Transcripts.{IsTranscript, IsBeginning}
 
--- A call: its way and its script; the files; the counts of faults and what the sink has taken, before and after it. (The files
--- stay as they are.)
+-- A call: its way and its script; the files; the counts of faults, what the sink has taken and the devices, with their counts, before and after it. (The
+-- files stay as they are.)
 pub record Call : Type 0 where
   pub way : Way
   pub name : List ℕ
@@ -22,9 +24,11 @@ pub record Call : Type 0 where
   pub sink_faults' : ℕ
   pub taken : Option (List ℕ)
   pub taken' : Option (List ℕ)
+  pub devices : List Counted
+  pub devices' : List Counted
 
-abbrev pub call : Way → (script : List ℕ) → Option Files → (fetched fetched' put put' : ℕ) → (old new : Option (List ℕ)) → Call
-call way spelled all fetched fetched' put put' old new = record {
+abbrev pub call : Way → (script : List ℕ) → Option Files → (fetched fetched' put put' : ℕ) → (old new : Option (List ℕ)) → (ds ds' : List Counted) → Call
+call way spelled all fetched fetched' put put' old new ds ds' = record {
   way = way;
   name = spelled;
   files = all;
@@ -34,6 +38,8 @@ call way spelled all fetched fetched' put put' old new = record {
   sink_faults' = put';
   taken = old;
   taken' = new;
+  devices = ds;
+  devices' = ds';
 }
 
 pub data End : Type 0 where
@@ -41,14 +47,9 @@ pub data End : Type 0 where
   refused : (cause : Cause) → End
   read_fault_of : (name : List ℕ) → End
 
--- what is told of a cause; a refusal of the first program's module names it
-abbrev pub refusal_of_cause : Cause → Refusal
-refusal_of_cause (bad_script r) = r
-refusal_of_cause (bad_module r) = r
-refusal_of_cause (bad_line line rule) = script line rule
-
+-- a refusal of a program's module names the program
 abbrev pub program_of_cause : Cause → Option ℕ
-program_of_cause (bad_module r) = Some 0
+program_of_cause (bad_module number r) = Some number
 program_of_cause _ = None
 
 abbrev pub cause_line : Cause → List ℕ
@@ -64,21 +65,24 @@ status_of_end sink_fault = 12
 -- a line that a call may have begun to print: of what is played, of a cause, or of a file that couldn't be read
 abbrev pub IsLine : Call → List ℕ → Type 0
 IsLine c line =
-    ((play : Play c.way c.files c.name) × IsBeginning play line)
+    ((play : Play c.way c.files c.name) × IsBeginning play c.devices line)
     ⊎ ((cause : Cause) × IsRefused c.way c.files c.name cause × (line ≡ cause_line cause))
-    ⊎ ((read : List ℕ) × IsRead c.files c.name read × (line ≡ refusal_line None (read_fault read)))
+    ⊎ ((read : List ℕ) × IsRead c.way c.files c.name read × (line ≡ refusal_line None (read_fault read)))
 
--- Why a call has this end, and what was printed.
+-- Why a call has this end, what was printed, and what became of the devices: what is played takes them from those that were there to
+-- those that are left, and a refusal leaves them as they were.
 abbrev pub IsWhy : Call → End → Type 0
-IsWhy c done = (play : Play c.way c.files c.name) × Becomes c.taken c.taken' (λ old new. (text : List ℕ) × IsTranscript play text × Appends text old new)
-IsWhy c (refused cause) = IsRefused c.way c.files c.name cause × Becomes c.taken c.taken' (Prints (cause_line cause) c.sink_faults c.sink_faults')
+IsWhy c done =
+    (play : Play c.way c.files c.name) × Becomes c.taken c.taken' (λ old new. (text : List ℕ) × IsTranscript play c.devices c.devices' text × Appends text old new)
+IsWhy c (refused cause) =
+    IsRefused c.way c.files c.name cause × Becomes c.taken c.taken' (Prints (cause_line cause) c.sink_faults c.sink_faults') × (c.devices' ≡ c.devices)
 IsWhy c memory = Becomes c.taken c.taken' (λ old new. (line : List ℕ) × IsLine c line × PrintsMemory line old new)
 IsWhy c (read_fault_of read) =
-    IsRead c.files c.name read × (HasRisen c.fetch_faults c.fetch_faults' ⊎ IsMissing c.files read)
-    × Becomes c.taken c.taken' (Prints (refusal_line None (read_fault read)) c.sink_faults c.sink_faults')
+    IsRead c.way c.files c.name read × (HasRisen c.fetch_faults c.fetch_faults' ⊎ IsMissing c.files read)
+    × Becomes c.taken c.taken' (Prints (refusal_line None (read_fault read)) c.sink_faults c.sink_faults') × (c.devices' ≡ c.devices)
 IsWhy c sink_fault =
     (play : Play c.way c.files c.name) × HasRisen c.sink_faults c.sink_faults'
-    × Becomes c.taken c.taken' (λ old new. (text : List ℕ) × IsBeginning play text × AppendsLess text old new)
+    × Becomes c.taken c.taken' (λ old new. (text : List ℕ) × IsBeginning play c.devices text × AppendsLess text old new)
 
 -- The call has one end, by its status, and the reason for it.
 pub record HasEnd (c : Call) (status : ℕ) : Type 0 where

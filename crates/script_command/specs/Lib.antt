@@ -1,3 +1,4 @@
+pub mod Answers
 pub mod Ends
-pub mod Playing
-pub mod Views
+pub mod Faults
+pub mod Transcripts

@@ -1,13 +1,11 @@
 //! The commands that play a script: `host`, over prepared modules as they are, and `run`, over originals that are rewritten first.
 //!
-//! `play_script` reads the script, then its program's module, sets the program up and prints its transcript
-//! (`specs/Playing.antt`). It has one end, by its status, with a reason and what was printed (`specs/Ends.antt`).
+//! `play_script` opens the script, whose programs are then all set up, and prints the transcript of what they tell, with the devices
+//! that the caller lends (`specs/Transcripts.antt`). It has one end, by its status, with a reason, what was printed and what became of
+//! the devices (`specs/Ends.antt`).
 #![tactic(auto)]
 
-mod modules;
-mod opening;
 mod playing;
-mod way;
+mod staging;
 
 pub use playing::play_script;
-pub use way::Way;

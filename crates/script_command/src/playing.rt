@@ -1,106 +1,116 @@
 // A script, played.
-ghost use Rattle.std.specs.Prelude.{◌≡◌, ◌≤◌, ℕ, List, Option};
+ghost use Rattle.std.specs.Prelude.{◌≡◌, ◌≤◌, ℕ, List, Option, length};
 ghost use Rattle.vault_port.specs.Files.{Files};
+ghost use Rattle.event_order.specs.Left.{Counted};
+ghost use Rattle.host_turns.specs.Supplies.{IsLent};
+ghost use Rattle.script_opening.specs.Playing.{Play, detaches_in};
+ghost use Rattle.script_opening.specs.Views.{Blames, CanPlay, Opens};
+ghost use Rattle.script_opening.specs.declared.way.Way.{Way as WayValue};
+ghost use Rattle.world_hosting.specs.Counts.{counted};
+ghost use Rattle.world_hosting.specs.Views.{AreStaged};
+ghost use Rattle.script_command.specs.Answers.{HasOneEnd};
 ghost use Rattle.script_command.specs.Ends.{HasEnd, IsStatus, call};
-ghost use Rattle.script_command.specs.Views.{Blames, CanHost, EachCanHost, IsToldFault, Opens, OpensProgram};
-ghost use Rattle.script_command.specs.Playing.{HasNoProgram};
-ghost use Rattle.script_command.specs.declared.way.Way.{Way as WayValue};
+ghost use Rattle.script_command.specs.Faults.{IsToldFault};
 
-use crate::opening::{OpenFault, Opened, open_script};
-use crate::way::Way;
-use hosting::{HostFault, host_program};
+use crate::staging::stage_all;
+use device_port::{Device, Devices};
 use printing::{out_of_memory, refuse, refuse_program};
+use script_opening::{OpenFault, Opened, Programs, Way, open_script};
 use std::alloc::Global;
 use transcript::RefusalKind;
-use vault_port::{PutFault, Sink, Vault, put_whole};
+use vault_port::{PutFault, Sink, Vault};
+use wa_model::Detach;
+use world_hosting::{Staged, host_programs};
 
 /// The status of a sink that failed while a transcript was printed.
 const SINK_FAULT: u8 = 12;
 
-/// `host SCRIPT` or `run SCRIPT`: reads the script, then its program's module, sets the program up, and prints its transcript.
-/// Answers the status: 0 done; 3 to 7 for the program's module, by why it is refused; 8 for a line of the script; 6 for its length
-/// or a second program too; 9 want of memory; 10 for a file that could not be read; 12 for a sink that failed. No file changes.
+/// `host SCRIPT` or `run SCRIPT`: reads the script, then each of its programs in order, its module first and then its set-up rules,
+/// and prints the transcript of what they tell, with these devices. Answers the status: 0 done; 3 to 7 for a program's module, by why
+/// it is refused; 8 for a line of the script; 6 for its length or a seventeenth program too; 9 want of memory; 10 for a file that could
+/// not be read; 12 for a sink that failed. No file changes, and a refused script changes no device.
 pub fn play_script<V: Vault, S: Sink>(
     alloc: Global,
     vault: &mut V,
     out: &mut S,
+    devices: &mut Devices<'_>,
     way: Way,
     script: &str,
 ) -> u8
-    ensures one_end { HasEnd (call way script.now (V.files vault.old) (V.fetch_faults vault.old) (V.fetch_faults vault.new)
-        (S.faults out.old) (S.faults out.new) (S.taken out.old) (S.taken out.new)) result }
+    requires lent { IsLent }
+    ensures one_end { HasOneEnd (call way script.now (V.files vault.old) (V.fetch_faults vault.old) (V.fetch_faults vault.new)
+        (S.faults out.old) (S.faults out.new) (S.taken out.old) (S.taken out.new)
+        (counted seen (λ d. (⟦<dyn Device as Device>⟧ d.0).faults d.1) devices.old)
+        (counted seen (λ d. (⟦<dyn Device as Device>⟧ d.0).faults d.1) devices.new)) result }
     ensures status { IsStatus way result }
+    ensures same_list { devices.new.list.ghost_name ≡ devices.old.list.ghost_name }
     ensures kept { V.files vault.new ≡ V.files vault.old }
     ensures fetch_faults { V.fetch_faults vault.old ≤ V.fetch_faults vault.new }
     ensures save_faults { V.save_faults vault.new ≡ V.save_faults vault.old }
     ensures sink_faults { S.faults out.old ≤ S.faults out.new }
 {
     match open_script(alloc, vault, way, script) {
-        Ok(opened) => play(alloc, out, way, opened),
+        Ok(opened) => play(alloc, out, devices, opened),
         Err(fault) => refuse_script(alloc, out, fault),
     }
 }
 
-// Plays the program that was opened, or nothing.
-fn play<S: Sink>(alloc: Global, out: &mut S, way: Way, opened: Option<Opened>) -> u8
-    requires { EachCanHost opened }
-    ensures end { (files : Option Files) (name : List ℕ) (faults faults' : ℕ) → Opens way files name opened
-        → HasEnd (call way name files faults faults' (S.faults out.old) (S.faults out.new) (S.taken out.old) (S.taken out.new)) result }
+// Plays what was opened.
+fn play<S: Sink>(alloc: Global, out: &mut S, devices: &mut Devices<'_>, opened: Opened) -> u8
+    requires lent { IsLent }
+    requires plays { CanPlay opened }
+    ensures end { (way : WayValue) (files : Option Files) (name : List ℕ) (fetched fetched' : ℕ) → Opens way files name opened
+        → HasEnd (call way name files fetched fetched' (S.faults out.old) (S.faults out.new) (S.taken out.old) (S.taken out.new)
+        (counted seen (λ d. (⟦<dyn Device as Device>⟧ d.0).faults d.1) devices.old)
+        (counted seen (λ d. (⟦<dyn Device as Device>⟧ d.0).faults d.1) devices.new)) result }
+    ensures same_list { devices.new.list.ghost_name ≡ devices.old.list.ghost_name }
     ensures faults { S.faults out.old ≤ S.faults out.new }
 {
-    match opened {
-        None => play_nothing(out),
-        Some(program) => play_program(alloc, out, way, program),
+    let Opened { programs, detaches } = opened;
+    let Programs { modules, planned } = programs;
+    match stage_all(alloc, &modules, planned) {
+        Ok(staged) => tell(alloc, out, devices, staged, detaches),
+        Err(_) => out_of_memory(out),
     }
 }
 
-// Prints the last line of a script without programs.
-fn play_nothing<S: Sink>(out: &mut S) -> u8
-    ensures end { (way : WayValue) (files : Option Files) (name : List ℕ) (faults faults' : ℕ) → HasNoProgram files name
-        → HasEnd (call way name files faults faults' (S.faults out.old) (S.faults out.new) (S.taken out.old) (S.taken out.new)) result }
+// Prints what programs tell.
+fn tell<S: Sink>(
+    alloc: Global,
+    out: &mut S,
+    devices: &mut Devices<'_>,
+    staged: Vec<Staged<'_>>,
+    detaches: Vec<Detach>,
+) -> u8
+    requires lent { IsLent }
+    requires few { length staged.items ≤ 16 }
+    ensures end { (way : WayValue) (files : Option Files) (name : List ℕ) (fetched fetched' : ℕ) (play : Play way files name)
+        → AreStaged play.parts staged.entry.items → detaches_in play.whole ≡ detaches.items
+        → HasEnd (call way name files fetched fetched' (S.faults out.old) (S.faults out.new) (S.taken out.old) (S.taken out.new)
+        (counted seen (λ d. (⟦<dyn Device as Device>⟧ d.0).faults d.1) devices.old)
+        (counted seen (λ d. (⟦<dyn Device as Device>⟧ d.0).faults d.1) devices.new)) result }
+    ensures same_list { devices.new.list.ghost_name ≡ devices.old.list.ghost_name }
     ensures faults { S.faults out.old ≤ S.faults out.new }
 {
-    match put_whole(out, b"programs 0 events 0\n") {
+    match host_programs(alloc, out, staged, detaches, devices) {
         Ok(()) => 0,
         Err(PutFault::Fault) => SINK_FAULT,
         Err(PutFault::Memory) => out_of_memory(out),
     }
 }
 
-// Sets a program up and prints what it tells.
-fn play_program<S: Sink>(alloc: Global, out: &mut S, way: Way, program: Opened) -> u8
-    requires { CanHost program }
-    ensures end { (files : Option Files) (name : List ℕ) (faults faults' : ℕ) → OpensProgram way files name program
-        → HasEnd (call way name files faults faults' (S.faults out.old) (S.faults out.new) (S.taken out.old) (S.taken out.new)) result }
-    ensures faults { S.faults out.old ≤ S.faults out.new }
-{
-    let runs = way.asks_all();
-    let Opened {
-        valid,
-        listed,
-        text,
-    } = program;
-    match host_program(alloc, out, &valid, listed, text, runs) {
-        Ok(()) => 0,
-        Err(HostFault::Sink) => SINK_FAULT,
-        Err(HostFault::Memory) => out_of_memory(out),
-        Err(HostFault::Rule { line, rule }) => {
-            refuse(alloc, out, RefusalKind::Script { line, rule })
-        }
-    }
-}
-
 // Prints why a script isn't played.
 fn refuse_script<S: Sink>(alloc: Global, out: &mut S, fault: OpenFault) -> u8
     requires { IsToldFault fault }
-    ensures end { (way : WayValue) (files : Option Files) (name : List ℕ) (faults faults' : ℕ) → Blames way files faults faults' name fault
-        → HasEnd (call way name files faults faults' (S.faults out.old) (S.faults out.new) (S.taken out.old) (S.taken out.new)) result }
+    ensures end { (way : WayValue) (files : Option Files) (name : List ℕ) (fetched fetched' : ℕ) (ds : List Counted) → Blames way files fetched fetched' name fault
+        → HasEnd (call way name files fetched fetched' (S.faults out.old) (S.faults out.new) (S.taken out.old) (S.taken out.new) ds ds) result }
     ensures faults { S.faults out.old ≤ S.faults out.new }
 {
     match fault {
         OpenFault::Memory => out_of_memory(out),
         OpenFault::Read { name } => refuse(alloc, out, RefusalKind::ReadFault { name }),
         OpenFault::Script(kind) => refuse(alloc, out, kind),
-        OpenFault::Module(kind) => refuse_program(alloc, out, Some(0), kind),
+        OpenFault::Module { number, kind } => refuse_program(alloc, out, Some(number), kind),
+        OpenFault::Rule { line, rule } => refuse(alloc, out, RefusalKind::Script { line, rule }),
     }
 }

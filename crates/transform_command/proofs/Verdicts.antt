@@ -23,7 +23,7 @@ use Rattle.source_modules.specs.Sources.{IsFree, IsValidSource, rewritten_counts
 use Rattle.printing.specs.Refused.{status_of}
 
 -- how far bytes come
-abbrev Reached : Settings → List ℕ → ℕ → Type 0
+abbrev pub Reached : Settings → List ℕ → ℕ → Type 0
 Reached s bytes zero = Unit {0}
 Reached s bytes (suc zero) = length bytes ≤ 8388608
 Reached s bytes (suc (suc zero)) = (ss : List Section) × IsFile source_bounds bytes ss
@@ -46,19 +46,19 @@ down s bytes (suc (suc (suc (suc (suc (suc zero)))))) r = (r.0, r.2.accepted)
 down s bytes (suc (suc (suc (suc (suc (suc (suc zero))))))) r = (r.0, r.1, r.2.rewritable)
 down s bytes (suc (suc (suc (suc (suc (suc (suc (suc n)))))))) r = absurd r
 
-below : (s : Settings) (bytes : List ℕ) (n k : ℕ) → k ≤ n → Reached s bytes n → Reached s bytes k
+pub below : (s : Settings) (bytes : List ℕ) (n k : ℕ) → k ≤ n → Reached s bytes n → Reached s bytes k
 below s bytes zero k h r = let e : 0 ≡ k = omega (arith, h) in subst (Reached s bytes) e r
 below s bytes (suc n) k h r = elim (cases_lt n k) [
   | inl lt ↦ let e : suc n ≡ k = omega (arith, h, lt) in subst (Reached s bytes) e r
   | inr ge ↦ below s bytes n k ge (down s bytes n r)
 ]
 
-abbrev limit_stage : LimitKind → ℕ
+abbrev pub limit_stage : LimitKind → ℕ
 limit_stage File = 0
 limit_stage _ = 3
 
 -- where a cause stops
-abbrev stage : Cause → ℕ
+abbrev pub stage : Cause → ℕ
 stage (malformed at) = 1
 stage (float at) = 2
 stage (deep at) = 3
@@ -94,12 +94,12 @@ no_some o x e f = let bad = sym e ∙ f in cc
 same_sections : (bytes : List ℕ) (ss : List Section) (m : Module) (f : IsFile source_bounds bytes ss) → (a : IsAccepted source_bounds bytes m) → a.sections ≡ ss
 same_sections bytes ss m f a = one_file bytes a.sections ss a.within.before.before.before.before.before.file.spells f.spells
 
-same_module : (bytes : List ℕ) (m n : Module) → IsAccepted source_bounds bytes m → IsAccepted source_bounds bytes n → m ≡ n
+pub same_module : (bytes : List ℕ) (m n : Module) → IsAccepted source_bounds bytes m → IsAccepted source_bounds bytes n → m ≡ n
 same_module bytes m n a b =
     let e = same_sections bytes b.sections m b.within.before.before.before.before.before.file a in
     one_module b.sections m n (subst (λ (ss : List Section). IsModule ss m) e a.is_module) b.is_module
 
-stops : (s : Settings) (bytes : List ℕ) (c : Cause) → IsRefusedFor s bytes c → Reached s bytes (suc (stage c)) → ⊥
+pub stops : (s : Settings) (bytes : List ℕ) (c : Cause) → IsRefusedFor s bytes c → Reached s bytes (suc (stage c)) → ⊥
 stops s bytes (malformed at) h r = fault_spells_none bytes at r.0 h.1 r.1.spells
 stops s bytes (float at) h r =
     let e = one_file bytes r.0 h.0 r.1.file.spells h.1.spells in

@@ -11,7 +11,7 @@ use Rattle.command_words.specs.Words.{Reads, spelled_of}
 use Rattle.printing.proofs.Printed.{memory_alone}
 use Rattle.asyncify_app.proofs.OneEnd.{memory_ends, memory_unread_words, spelled_ends}
 use Rattle.asyncify_app.proofs.Statuses.{script_status}
-use Rattle.script_command.specs.declared.way.Way.TheVariants.{Host, Run}
+use Rattle.script_opening.specs.declared.way.Way.TheVariants.{Host, Run}
 use Rattle.transform_command.proofs.OneEnd.{transform_ends}
 use Rattle.asyncify_app.proofs.command.asyncify.Goals as goal
 
@@ -38,7 +38,7 @@ returns-in-Ok-Transform-clause-one_end g c =
     (record { statuses = e.status; done = e.done; read = e.read_fault; refused = e.refused; held = e.built; write = e.write_fault; sink = e.sink_fault }))
 
 pub returns-in-Ok-Host-clause-status : goal.returns-in-Ok-Host-clause-status
-returns-in-Ok-Host-clause-status g c = script_status Host c.play_script.result c.play_script.ensures.status
+returns-in-Ok-Host-clause-status g c = script_status Host c.play_with.result c.play_with.ensures.status
 
 pub returns-in-Ok-Run-clause-status : goal.returns-in-Ok-Run-clause-status
-returns-in-Ok-Run-clause-status g c = script_status Run c.play_script-in-Ok-Run.result c.play_script-in-Ok-Run.ensures.status
+returns-in-Ok-Run-clause-status g c = script_status Run c.play_with-in-Ok-Run.result c.play_with-in-Ok-Run.ensures.status

@@ -1,5 +1,7 @@
 -- The end of what was played or refused, and its status.
+use Rattle.std.proofs.Common.{[]}
 use Rattle.script_command.specs.Ends.{call}
+use Rattle.script_command.proofs.Answering.{one_end}
 use Rattle.script_command.proofs.Statuses.{end_status, told_fault}
 use Rattle.script_command.proofs.playing.play_script.Goals as goal
 
@@ -7,18 +9,18 @@ pub refuse_script-requires : goal.refuse_script-requires
 refuse_script-requires g c = told_fault c.args.way _ _ _ c.args.script.now c.in-Err.fault c.in-Err.ensures.refused
 
 pub returns-in-Ok-clause-one_end : goal.returns-in-Ok-clause-one_end
-returns-in-Ok-clause-one_end g c = c.play.ensures.end _ c.args.script.now _ _ c.in-Ok.ensures.opened
+returns-in-Ok-clause-one_end g c = one_end _ c.play.result (c.play.ensures.end c.args.way _ c.args.script.now _ _ c.in-Ok.ensures.opened)
 
 pub returns-in-Err-clause-one_end : goal.returns-in-Err-clause-one_end
-returns-in-Err-clause-one_end g c = c.refuse_script.ensures.end c.args.way _ c.args.script.now _ _ c.in-Err.ensures.refused
+returns-in-Err-clause-one_end g c = one_end _ c.refuse_script.result (c.refuse_script.ensures.end c.args.way _ c.args.script.now _ _ _ c.in-Err.ensures.refused)
 
 pub returns-in-Ok-clause-status : goal.returns-in-Ok-clause-status
 returns-in-Ok-clause-status g c =
-    end_status (call c.args.way c.args.script.now (g.V.Vault.files c.args.vault.now) (g.V.Vault.fetch_faults c.args.vault.now) (g.V.Vault.fetch_faults c.open_script.new.vault) _ _ _ _) c.play.result
-    (c.play.ensures.end _ c.args.script.now _ _ c.in-Ok.ensures.opened)
+    end_status (call c.args.way c.args.script.now (g.V.Vault.files c.args.vault.now) (g.V.Vault.fetch_faults c.args.vault.now) (g.V.Vault.fetch_faults c.open_script.new.vault) _ _ _ _ _ _) c.play.result
+    (c.play.ensures.end c.args.way _ c.args.script.now _ _ c.in-Ok.ensures.opened)
 
 pub returns-in-Err-clause-status : goal.returns-in-Err-clause-status
 returns-in-Err-clause-status g c =
-    end_status (call c.args.way c.args.script.now (g.V.Vault.files c.args.vault.now) (g.V.Vault.fetch_faults c.args.vault.now) (g.V.Vault.fetch_faults c.open_script.new.vault) _ _ _ _)
+    end_status (call c.args.way c.args.script.now (g.V.Vault.files c.args.vault.now) (g.V.Vault.fetch_faults c.args.vault.now) (g.V.Vault.fetch_faults c.open_script.new.vault) _ _ _ _ _ _)
     c.refuse_script.result
-    (c.refuse_script.ensures.end c.args.way _ c.args.script.now _ _ c.in-Err.ensures.refused)
+    (c.refuse_script.ensures.end c.args.way _ c.args.script.now _ _ [] c.in-Err.ensures.refused)

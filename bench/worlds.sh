@@ -1,0 +1,49 @@
+#!/usr/bin/env bash
+# Times `asyncify host` on sixteen programs that pause in turns, each for a quarter, half and the whole of 10,000 pauses of a small frame,
+# answered by the counter. User time, the least of RUNS runs (3). Fails where twice the pauses take more than 2.6 times the time, or
+# where sixteen programs take more than 1.1 times sixteen runs of one.
+. "$(dirname "$0")/common.sh"
+runs=${RUNS:-3}
+
+# A module whose function `run` calls an import so many times: ROUNDS PATH
+make_module() {
+    python3 - "$@" <<'PY'
+import sys
+from wasm_bytes import module, section, signed, sized
+
+rounds, path = int(sys.argv[1]), sys.argv[2]
+const = lambda n: b"\x41" + signed(n)
+turn = b"\x20\x00" + const(-1) + b"\x6a\x22\x00\x0d\x00"
+code = const(rounds) + b"\x21\x00\x03\x40\x10\x00\x1a" + turn + b"\x0b\x20\x00"
+open(path, "wb").write(module(
+    section(1, [b"\x60\x00\x01\x7f"]),
+    section(2, [sized(b"e") + sized(b"p") + b"\x00\x00"]),
+    section(3, [b"\x00"]),
+    section(7, [b"\x03run\x00\x01"]),
+    section(10, [sized(b"\x01\x01\x7f" + code + b"\x0b")])))
+PY
+}
+
+# Hosts so many programs over a written module, and finds the time: COUNT MODULE PAUSES
+hosted() {
+    for _ in $(seq "$1"); do
+        printf 'program %s\narea 0 64\ndevice e.p counter\nenter run\n' "$2"
+    done >"$temp/script"
+    read -r time _ < <(measure 0 "$runs" "$asyncify" host "$temp/script")
+    grep -q "programs $1 events $(($1 * ($3 + 1)))\$" "$temp/printed" || { echo "$1 programs: $(tail -1 "$temp/printed")"; failed=1; }
+}
+
+build_asyncify
+before=
+for pauses in 2500 5000 10000; do
+    make_module "$pauses" "$temp/in.wasm"
+    "$asyncify" transform "$temp/in.wasm" "$temp/out.wasm" >/dev/null
+    hosted 16 "$temp/out.wasm" "$pauses"
+    echo "16 programs, $pauses pauses each: $time s"
+    [ -z "$before" ] || bar "$time <= 2.6 * $before + 0.02" "twice the pauses take more than 2.6 times the time"
+    before=$time
+done
+hosted 1 "$temp/out.wasm" 10000
+echo "one program, 10000 pauses: $time s"
+bar "$before <= 1.1 * 16 * $time + 0.02" "sixteen programs take more than 1.1 times sixteen runs of one"
+exit $failed

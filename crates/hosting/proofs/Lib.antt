@@ -1,5 +1,0 @@
-pub mod Stories
-pub mod Printed
-pub mod Starts
-pub mod ScriptPlans
-pub mod ScriptPrograms

@@ -1,5 +1,0 @@
-use Rattle.hosting.proofs.ScriptPrograms.{scripts_fit_plans}
-use Rattle.hosting.proofs.laws.scripts_fit.Goals as goal
-
-pub returns : goal.returns
-returns c = scripts_fit_plans

@@ -1,5 +1,0 @@
-use Rattle.hosting.proofs.ScriptPrograms.{scripts_are_in_range}
-use Rattle.hosting.proofs.laws.scripts_in_range.Goals as goal
-
-pub returns : goal.returns
-returns c = scripts_are_in_range

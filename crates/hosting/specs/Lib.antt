@@ -1,3 +1,0 @@
-pub mod Hosted
-pub mod Laws
-pub mod Views

@@ -1,0 +1,6 @@
+use Rattle.script_command.proofs.StagedParts.{Staging}
+use Rattle.script_command.proofs.staging.stage_all.Given as goal
+
+-- those that are staged, and those to come
+abbrev pub invariant-loop-plan : goal.invariant-loop-plan
+invariant-loop-plan l = Staging l.modules l.fn.planned.items l.plan-iterator.rest.items l.staged.items

@@ -1,0 +1,16 @@
+-- What is printed of a script that is played.
+use Rattle.std.specs.Prelude.{◌⊎◌, ℕ, List, Option}
+use Rattle.vault_port.specs.Files.{Files}
+use Rattle.event_order.specs.Left.{Counted}
+use Rattle.script_opening.specs.declared.way.Way.{Way}
+use Rattle.script_opening.specs.Playing.{Play, detaches_in}
+use Rattle.world_hosting.specs.Worlds.{AreBegun, AreTold}
+
+-- The text is the transcript of what is played: a whole run of the protocol world of its programs, from these devices, with their counts
+-- of faults, to those.
+abbrev pub IsTranscript : {way : Way} {files : Option Files} {name : List ℕ} → Play way files name → (ds ds' : List Counted) → List ℕ → Type 0
+IsTranscript play ds ds' text = AreTold play.parts (detaches_in play.whole) ds ds' text
+
+-- .. or the first lines of one
+abbrev pub IsBeginning : {way : Way} {files : Option Files} {name : List ℕ} → Play way files name → List Counted → List ℕ → Type 0
+IsBeginning play ds text = AreBegun play.parts (detaches_in play.whole) ds text ⊎ ((ds' : List Counted) × IsTranscript play ds ds' text)

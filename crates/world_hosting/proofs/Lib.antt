@@ -1,0 +1,9 @@
+pub mod Begun
+pub mod Bound
+pub mod Printed
+pub mod ScriptPlans
+pub mod ScriptPrograms
+pub mod SetUp
+pub mod Starts
+pub mod Texts
+pub mod TurnCounts

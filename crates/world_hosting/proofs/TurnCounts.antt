@@ -1,0 +1,79 @@
+-- The lines that a host has told hold as many turns as have begun, once none is on its way.
+use Rattle.std.proofs.Common.{◌≡◌, ℕ, zero, suc, ◌+◌, List, [], ◌∷◌, ◌++◌, map, drop, Bool, true, false, if◌then◌else◌, MatchBool, refl, sym, ap, ◌∙◌, arith, add_assoc}
+use Rattle.std.proofs.lemmas.List.{map-append}
+use Rattle.wa_model.specs.declared.answers.Detach.{Detach}
+use Rattle.wa_model.specs.Outside.{Event, called, answered, paused, returned, ended, shown, Line}
+use Rattle.wa_model.specs.Blocking.{Note}
+use Rattle.wa_model.specs.Store.{Store}
+use Rattle.wa_model.specs.World.{Device, Look, Program, ends_turn, events_with_looks, line_at, look_events, looks_after}
+use Rattle.event_order.specs.Looks.{looks_of}
+use Rattle.told_worlds.specs.Turns.{EndsOnce, Teller, Tells}
+use Rattle.turn_taking.specs.declared.turns.Stage.{Stage}
+use Rattle.turn_taking.specs.declared.turns.Stage.TheVariants.{Between, Telling, Showing}
+use Rattle.turn_taking.specs.Standing.{Held, LooksOut, StandsAt, Standing, held_of, looks_at}
+use Rattle.many_host.specs.declared.hosted.Hosted.{Hosted}
+use Rattle.many_host.specs.declared.host.Host.{Host}
+use Rattle.many_host.specs.Hosts.{HostTold, memory_of}
+use Rattle.world_hosting.specs.Worlds.{turn_count, turns_at}
+
+pub turns_append : (front bs : List Line) → turn_count (front ++ bs) ≡ turn_count front + turn_count bs
+turns_append [] bs = let e : turn_count bs ≡ 0 + turn_count bs = omega arith in e
+turns_append (a ∷ front) bs = ap (λ (n : ℕ). turns_at a.event + n) (turns_append front bs) ∙ sym (add_assoc (turns_at a.event) (turn_count front) (turn_count bs))
+
+-- ---- one turn
+
+module _ (due i : ℕ) where
+  abbrev lines_of : List Event → List Line
+  lines_of es = map (line_at due i) es
+
+  memory_none : (memory : List ℕ) (looks : List Look) → turn_count (lines_of (looks_at memory looks)) ≡ 0
+  memory_none memory [] = refl
+  memory_none memory (k ∷ ks) = ap (λ (n : ℕ). 0 + n) (memory_none memory ks)
+
+  looks_none : (looks : List Look) (x : Note) (e : Event) → turn_count (lines_of (looks_after looks x e)) ≡ 0
+  looks_none looks x (called call) = refl
+  looks_none looks x (answered value) = refl
+  looks_none looks x (paused ticks used) = refl
+  looks_none looks x (returned entry value) = refl
+  looks_none looks x (ended how) = memory_none x.store.memory looks
+  looks_none looks x (shown at bytes) = refl
+
+  turn_once : (looks : List Look) (turn : List Note) → EndsOnce turn → turn_count (lines_of (events_with_looks looks turn)) ≡ 1
+  turn_once looks [] h = absurd h
+  turn_once looks (x ∷ xs) h =
+      let parts : turn_count (lines_of (events_with_looks looks (x ∷ xs))) ≡ turn_count (lines_of (x.event ∷ looks_after looks x x.event)) + turn_count (lines_of (events_with_looks looks xs)) =
+      ap turn_count (map-append (line_at due i) (x.event ∷ looks_after looks x x.event) (events_with_looks looks xs))
+      ∙ turns_append (lines_of (x.event ∷ looks_after looks x x.event)) (lines_of (events_with_looks looks xs)) in
+      let first : turn_count (lines_of (x.event ∷ looks_after looks x x.event)) ≡ turns_at x.event + 0 = ap (λ (n : ℕ). turns_at x.event + n) (looks_none looks x x.event) in
+      let one : turns_at x.event + turn_count (lines_of (events_with_looks looks xs)) ≡ 1 = by (ends_turn x.event) h (turn_once looks xs) in
+      omega (arith, parts, first, one)
+    where
+      by : (b : Bool) → MatchBool b (xs ≡ []) (EndsOnce xs) → (EndsOnce xs → turn_count (lines_of (events_with_looks looks xs)) ≡ 1)
+          → (if b then 1 else 0) + turn_count (lines_of (events_with_looks looks xs)) ≡ 1
+      by true e on = ap (λ (l : List Note). 1 + turn_count (lines_of (events_with_looks looks l))) e
+      by false m on = ap (λ (n : ℕ). 0 + n) (on m)
+
+-- ---- so many turns
+
+turns_told : (programs : List Program) (detaches : List Detach) (ds : List Device) (count : ℕ) (lines : List Line) (tellers : List Teller) (ds' : List Device) → Tells programs detaches ds count lines tellers ds'
+    → turn_count lines ≡ count
+turns_told programs detaches ds zero lines tellers ds' h = ap turn_count h.0
+turns_told programs detaches ds (suc count) lines tellers ds' h =
+    let before = turns_told programs detaches ds count h.0 h.2 h.3 h.4 in
+    let play = h.5 in
+    let one : turn_count h.1 ≡ 1 = ap turn_count play.made ∙ turn_once play.t.due play.i play.w.looks play.turn play.whole in
+    let all : turn_count lines ≡ turn_count h.0 + turn_count h.1 = ap turn_count h.6 ∙ turns_append h.0 h.1 in
+    omega (arith, before, one, all)
+
+pub turns_begun : (programs : List Program) (detaches : List Detach) (ds : List Device) (lines : List Line) (h : Host) (ds' : List Device) → HostTold programs detaches ds lines h ds'
+    → LooksOut h.turns.shows.items h.turns.stage → turn_count lines ≡ h.turns.begun
+turns_begun programs detaches ds lines h ds' told out = by h.turns.stage told.at out where
+  by : (stage : Stage) → StandsAt memory_of programs detaches ds lines told.tellers (held_of h.turns) ds' stage → LooksOut h.turns.shows.items stage → turn_count lines ≡ h.turns.begun
+  by Between at none = turns_told programs detaches ds h.turns.begun lines told.tellers ds' at
+  by (Telling turn) at none = absurd none
+  by (Showing turn from) at none =
+      let looks : List Look = looks_of turn.program (drop from h.turns.shows.items) in
+      let whole = turns_told programs detaches ds h.turns.begun (lines ++ map (line_at turn.due turn.program) (looks_at (memory_of at.0) looks)) told.tellers ds' at.2 in
+      let parts = turns_append lines (map (line_at turn.due turn.program) (looks_at (memory_of at.0) looks)) in
+      let shown_none = memory_none turn.due turn.program (memory_of at.0) looks in
+      omega (arith, whole, parts, shown_none)

@@ -1,0 +1,22 @@
+use Rattle.std.proofs.Common.{map, ap, ◌∙◌}
+use Rattle.turn_taking.specs.Calls.{devices_of}
+use Rattle.transcript.specs.Printing.{names_of}
+use Rattle.world_hosting.specs.Counts.{counted}
+use Rattle.world_hosting.specs.Worlds.{world_programs}
+use Rattle.world_hosting.proofs.Begun.{begins_nothing}
+use Rattle.world_hosting.proofs.Printed.{none_printed}
+use Rattle.world_hosting.proofs.telling.host_parted.Goals as goal
+
+pub returns-in_default-clause-part : goal.returns-in_default-clause-part
+returns-in_default-clause-part g c = λ parts h.
+    none_printed parts c.args.detaches.items _ _ (begins_nothing (world_programs parts) c.args.parted.shows.items c.args.parted.programs.items c.args.detaches.items _ h.programs) _
+
+pub returns-clause-told : goal.returns-clause-told
+returns-clause-told g c = λ parts h.
+    let ds = devices_of (counted (λ z. (goal.Device-dyn g z).seen z.1) (λ z. (goal.Device-dyn g z).faults z.1) c.args.devices.now) in
+    c.tell_lines-told.ensures.told parts c.args.detaches.items (c.in-Ok.ensures.told (world_programs parts) ds h.programs) c.in-Ok.ensures.begun (ap (map names_of) c.deref.ensures.value ∙ h.names)
+
+pub returns-clause-part : goal.returns-clause-part
+returns-clause-part g c = λ parts h.
+    let ds = devices_of (counted (λ z. (goal.Device-dyn g z).seen z.1) (λ z. (goal.Device-dyn g z).faults z.1) c.args.devices.now) in
+    c.tell_lines-told.ensures.part parts c.args.detaches.items (c.in-Ok.ensures.told (world_programs parts) ds h.programs) c.in-Ok.ensures.begun (ap (map names_of) c.deref.ensures.value ∙ h.names)

@@ -1,0 +1,82 @@
+-- The host goes on with its world while its lines are printed.
+use Rattle.std.proofs.Common.{arith, [], ℕ, List, length, map, refl, ◌∙◌, subst}
+use Rattle.std.specs.Prelude.{OnErr, OnOk}
+use Rattle.vault_port.specs.Taken.{Appends, AppendsLess}
+use Rattle.vault_port.specs.Told.{Becomes}
+use Rattle.wa_model.specs.Transcript.{last_line}
+use Rattle.wa_model.specs.View.{line_of}
+use Rattle.turn_taking.specs.Calls.{devices_of}
+use Rattle.transcript.specs.Printing.{names_of}
+use Rattle.world_hosting.specs.Counts.{counted}
+use Rattle.world_hosting.specs.Worlds.{world_programs}
+use Rattle.world_hosting.proofs.Printed.{host_counted, host_seen, if_err, line_takes, line_told, none_left, none_takes, none_told, on_ok, told_less, told_less_last, told_on, told_so_far, told_whole, world_counted}
+use Rattle.world_hosting.proofs.Texts.{nothing_yet}
+use Rattle.world_hosting.proofs.telling.tell_lines.Goals as goal
+
+pub telling-init : goal.telling-init
+telling-init g c = record {
+  told = λ parts detaches h none are. record { lines = []; host = h; took = (none, refl); printed = nothing_yet _ };
+  range = c.requires.range;
+  same_list = refl;
+  rising = omega arith;
+}
+
+pub telling-preserved : goal.telling-preserved
+telling-preserved g c = record {
+  told = λ parts detaches h none are.
+      let t = c.telling.invariant.told parts detaches h none are in
+      let ds = devices_of (counted (λ z. (goal.Device-dyn g z).seen z.1) (λ z. (goal.Device-dyn g z).faults z.1) c.args.devices.now) in
+      let told = host_seen (λ z. (goal.Device-dyn g z).seen z.1) (λ z. (goal.Device-dyn g z).faults z.1) (world_programs parts) detaches ds t.lines c.telling.devices c.telling.host t.host in
+      let next =
+      line_told parts detaches ds t.lines c.next.new.self _ c.in-Ok.next c.in-Some.line c.in-Some.is (c.in-Ok.ensures.told (world_programs parts) detaches ds t.lines told) in
+      let takes = line_takes (world_programs parts) c.in-Ok.next c.in-Some.line _ _ _ c.in-Some.is (c.in-Ok.ensures.calls (world_programs parts) detaches ds t.lines told) in
+      told_on parts detaches _ c.telling.host _ _ _ t c.next.new.self _ (map names_of c.args.names.now) are (line_of c.in-Some.line)
+      (host_counted (λ z. (goal.Device-dyn g z).seen z.1) (λ z. (goal.Device-dyn g z).faults z.1) (world_programs parts) detaches ds _ c.next.new.devices c.next.new.self next) _ takes c.in_default-put_line.ensures.printed;
+  range = c.in-Ok.ensures.range;
+  same_list = c.next.ensures.same_list ∙ c.telling.invariant.same_list;
+  rising = omega (arith, c.telling.invariant.rising, c.put_line.ensures.faults);
+}
+
+pub returns-in_default-clause-part : goal.returns-in_default-clause-part
+returns-in_default-clause-part g c = λ parts detaches h none are. told_so_far parts detaches _ c.telling.host _ _ _ (c.telling.invariant.told parts detaches h none are) _
+
+pub returns-clause-part : goal.returns-clause-part
+returns-clause-part g c = λ parts detaches h none are. told_so_far parts detaches _ c.telling.host _ _ _ (c.telling.invariant.told parts detaches h none are) _
+
+pub returns-in_default-next-clause-told : goal.returns-in_default-next-clause-told
+returns-in_default-next-clause-told g c = λ parts detaches h none are.
+    let t = c.telling.invariant.told parts detaches h none are in
+    let ds = devices_of (counted (λ z. (goal.Device-dyn g z).seen z.1) (λ z. (goal.Device-dyn g z).faults z.1) c.args.devices.now) in
+    let told = host_seen (λ z. (goal.Device-dyn g z).seen z.1) (λ z. (goal.Device-dyn g z).faults z.1) (world_programs parts) detaches ds t.lines c.telling.devices c.telling.host t.host in
+    let world = none_told parts detaches ds t.lines c.next.new.self _ c.in-Ok.next c.in_default-next.is (c.in-Ok.ensures.told (world_programs parts) detaches ds t.lines told) in
+    let kept = none_takes (world_programs parts) c.in-Ok.next _ _ _ c.in_default-next.is (c.in-Ok.ensures.calls (world_programs parts) detaches ds t.lines told) in
+    on_ok c.put_last.result
+    (told_whole parts detaches _ c.telling.host _ _ _ t _ c.args.names.now are
+    (world_counted (λ z. (goal.Device-dyn g z).seen z.1) (λ z. (goal.Device-dyn g z).faults z.1) (world_programs parts) detaches ds t.lines c.next.new.devices world) kept
+    (none_left _ _ c.in-Ok.next c.in_default-next.is c.in-Ok.ensures.none) _)
+    (subst (λ (s : List ℕ). OnOk c.put_last.result (Becomes (g.S.Sink.taken c.telling.out) (g.S.Sink.taken c.put_last.new.out) (Appends s)))
+    (λ k. last_line (length c.args.names.now) (c.events-events.ensures k)) c.put_last.ensures.printed)
+
+pub returns-in_default-next-clause-part : goal.returns-in_default-next-clause-part
+returns-in_default-next-clause-part g c = λ parts detaches h none are.
+    let t = c.telling.invariant.told parts detaches h none are in
+    let ds = devices_of (counted (λ z. (goal.Device-dyn g z).seen z.1) (λ z. (goal.Device-dyn g z).faults z.1) c.args.devices.now) in
+    let told = host_seen (λ z. (goal.Device-dyn g z).seen z.1) (λ z. (goal.Device-dyn g z).faults z.1) (world_programs parts) detaches ds t.lines c.telling.devices c.telling.host t.host in
+    let world = none_told parts detaches ds t.lines c.next.new.self _ c.in-Ok.next c.in_default-next.is (c.in-Ok.ensures.told (world_programs parts) detaches ds t.lines told) in
+    let kept = none_takes (world_programs parts) c.in-Ok.next _ _ _ c.in_default-next.is (c.in-Ok.ensures.calls (world_programs parts) detaches ds t.lines told) in
+    if_err _ c.put_last.result
+    (λ fault. told_less_last parts detaches _ c.telling.host _ _ _ t _ c.args.names.now are
+    (world_counted (λ z. (goal.Device-dyn g z).seen z.1) (λ z. (goal.Device-dyn g z).faults z.1) (world_programs parts) detaches ds t.lines c.next.new.devices world) kept
+    (none_left _ _ c.in-Ok.next c.in_default-next.is c.in-Ok.ensures.none) fault _)
+    (subst (λ (s : List ℕ). OnErr c.put_last.result (Becomes (g.S.Sink.taken c.telling.out) (g.S.Sink.taken c.put_last.new.out) (AppendsLess s)))
+    (λ k. last_line (length c.args.names.now) (c.events-events.ensures k)) c.put_last.ensures.less)
+
+pub returns-in-Err-clause-part : goal.returns-in-Err-clause-part
+returns-in-Err-clause-part g c = λ parts detaches h none are.
+    let t = c.telling.invariant.told parts detaches h none are in
+    let ds = devices_of (counted (λ z. (goal.Device-dyn g z).seen z.1) (λ z. (goal.Device-dyn g z).faults z.1) c.args.devices.now) in
+    let told = host_seen (λ z. (goal.Device-dyn g z).seen z.1) (λ z. (goal.Device-dyn g z).faults z.1) (world_programs parts) detaches ds t.lines c.telling.devices c.telling.host t.host in
+    let next = line_told parts detaches ds t.lines c.next.new.self _ c.in-Ok.next c.in-Some.line c.in-Some.is (c.in-Ok.ensures.told (world_programs parts) detaches ds t.lines told) in
+    told_less parts detaches _ c.telling.host _ _ _ t c.next.new.self _ (map names_of c.args.names.now) are (line_of c.in-Some.line)
+    (host_counted (λ z. (goal.Device-dyn g z).seen z.1) (λ z. (goal.Device-dyn g z).faults z.1) (world_programs parts) detaches ds _ c.next.new.devices c.next.new.self next) _ c.in-Err.fault _
+    c.in-Err.ensures.less

@@ -1,0 +1,7 @@
+pub mod Bindings
+pub mod Counts
+pub mod Laws
+pub mod Parted
+pub mod Places
+pub mod Views
+pub mod Worlds

@@ -1,0 +1,112 @@
+-- What is told of the programs of a script, which share a list of devices.
+use Rattle.std.specs.Prelude.{◌≡◌, ◌⊎◌, ◌≤◌, ◌<◌, ◌^◌, ◌+◌, ◌++◌, if◌then◌else◌, ℕ, List, [], ◌∷◌, length, map, take, Option, Some, Bool, All}
+use Rattle.wa_types.specs.Modules.{func_imports}
+use Rattle.wa_types.specs.Sizes.{value_fits}
+use Rattle.wa_types.specs.Syntax.{Module}
+use Rattle.wa_model.specs.declared.answers.Detach.{Detach}
+use Rattle.wa_model.specs.Outside.{AnswerLine, Event, Line}
+use Rattle.wa_model.specs.Plan.{AnswerFits}
+use Rattle.wa_model.specs.Script.{EntryText, GlobalText, ProgramText, ShowText}
+use Rattle.wa_model.specs.Transcript.{Names, Transcript, event_lines}
+use Rattle.wa_model.specs.World.{Device, Look, Program, ProtocolWorld, ends_turn}
+use Rattle.event_order.specs.Left.{Counted}
+use Rattle.host_stages.specs.Moves.{HasShortPokes}
+use Rattle.pause_host.specs.Settings.{calls_of}
+use Rattle.script_setup.specs.SetUpRules.{SetUp, named_entry, program_names}
+use Rattle.turn_taking.specs.Calls.{devices_of}
+use Rattle.vault_port.specs.declared.whole.PutFault.{PutFault}
+use Rattle.vault_port.specs.declared.whole.PutFault.TheVariants.{Fault, Memory}
+use Rattle.vault_port.specs.Taken.{Appends, AppendsLess}
+use Rattle.world_hosting.specs.Bindings.{bindings}
+use Rattle.world_hosting.specs.Counts.{Took}
+
+-- ---- what is asked of a program
+
+-- There is a step, and no more than 1,000,000,000; entries are numbered in 32 bits; pokes are short.
+pub record FitsPlan (t : ProgramText) : Type 0 where
+  pub some_steps : 1 ≤ t.steps
+  pub few_steps : t.steps ≤ 1000000000
+  pub entries : length t.entries < 2 ^ 32
+  pub pokes : All HasShortPokes t.answers
+
+-- Values, and the numbers of answers, lie in the ranges of their types.
+pub record HasRanges (t : ProgramText) : Type 0 where
+  pub globals : All (λ (g : GlobalText). value_fits g.value) t.globals
+  pub entries : All (λ (e : EntryText). All value_fits e.args) t.entries
+  pub answers : All (λ (l : AnswerLine). AnswerFits l.answer) t.answers
+
+-- Where it is told which function imports are listed, it is told of each.
+abbrev pub IsListing : Module → Option (List Bool) → Type 0
+IsListing p listed = (l : List Bool) → listed ≡ Some l → length l ≡ func_imports p
+
+-- ---- the programs of a world
+
+-- A program of a script: its module, which function imports are listed where that is told, its text, and what it is given by the
+-- set-up rules.
+pub record Part : Type 0 where
+  pub source : Module
+  pub listed : Option (List Bool)
+  pub text : ProgramText
+  pub given : SetUp
+
+abbrev pub part : Module → Option (List Bool) → ProgramText → SetUp → Part
+part p listed t s = record { source = p; listed = listed; text = t; given = s }
+
+-- the memory that a line of a script shows
+abbrev pub look_at : ShowText → Look
+look_at s = record { at = s.at; len = s.len }
+
+-- the program of a world that it is, and the names of its lines
+abbrev pub world_program : Part → Program
+world_program x = record {
+  source = x.source;
+  plan = record { globals = x.given.globals; entries = calls_of (map named_entry x.text.entries) x.given.funcs; area = x.text.area; listed = x.listed };
+  steps = x.text.steps;
+  answers = x.text.answers;
+  binds = bindings x.source x.text.binds;
+  looks = map look_at x.text.shows;
+}
+
+abbrev pub part_names : Part → Names
+part_names x = program_names x.source x.text
+
+abbrev pub world_programs : List Part → List Program
+world_programs parts = map world_program parts
+
+-- ---- what is printed
+
+-- each turn of a program ends with one line, of a pause or of an end
+abbrev pub turns_at : Event → ℕ
+turns_at e = if ends_turn e then 1 else 0
+
+abbrev pub turn_count : List Line → ℕ
+turn_count [] = 0
+turn_count (l ∷ ls) = turns_at l.event + turn_count ls
+
+-- The text tells a whole run of the protocol world, from these devices to those: its lines, and the last line.
+pub record AreTold (parts : List Part) (detaches : List Detach) (old new : List Counted) (text : List ℕ) : Type 0 where
+  pub lines : List Line
+  pub world : ProtocolWorld (world_programs parts) detaches (devices_of old) lines (devices_of new)
+  pub took : Took (world_programs parts) detaches 0 lines old (turn_count lines) new
+  pub text_is : text ≡ Transcript (map part_names parts) (length parts) (turn_count lines) lines
+
+-- It tells the first lines of one.
+pub record AreBegun (parts : List Part) (detaches : List Detach) (old : List Counted) (text : List ℕ) : Type 0 where
+  pub lines : List Line
+  pub more : List Line
+  pub last : List Device
+  pub world : ProtocolWorld (world_programs parts) detaches (devices_of old) (lines ++ more) last
+  pub text_is : text ≡ event_lines (map part_names parts) lines
+
+-- A whole such text came behind what was printed,
+abbrev pub Tells : List Part → List Detach → (cs cs' : List Counted) → (old new : List ℕ) → Type 0
+Tells parts detaches cs cs' old new = (text : List ℕ) × AreTold parts detaches cs cs' text × Appends text old new
+
+-- or some first bytes of one, and not all of them where the sink failed.
+abbrev pub PrintsPart : PutFault → (text old new : List ℕ) → Type 0
+PrintsPart Fault text old new = AppendsLess text old new
+PrintsPart Memory text old new = (n : ℕ) × (new ≡ old ++ take n text)
+
+abbrev pub TellsPart : PutFault → List Part → List Detach → (cs cs' : List Counted) → (old new : List ℕ) → Type 0
+TellsPart fault parts detaches cs cs' old new =
+    (text : List ℕ) × (AreBegun parts detaches cs text ⊎ AreTold parts detaches cs cs' text) × PrintsPart fault text old new

@@ -1,0 +1,66 @@
+// A program of a script, made over its module.
+ghost use Rattle.std.specs.Prelude.{IfOk};
+ghost use Rattle.wa_types.specs.View.{module_of};
+ghost use Rattle.script_reader.specs.Views.{program_of};
+ghost use Rattle.script_setup.specs.Views.{set_up_of};
+ghost use Rattle.world_hosting.specs.Worlds.{FitsPlan, IsListing, part};
+ghost use Rattle.world_hosting.specs.Views.{IsStaged, Suits, listing};
+
+use crate::binding::bindings;
+use pause_host::{Plan, Program};
+use script_reader::{ProgramText, ShowText};
+use script_setup::{SetUp, program_names};
+use std::alloc::{AllocError, Global};
+use transcript::Names;
+use wasm_validate::Valid;
+
+/// A program that has told nothing yet, the names of its lines, and what is shown of its memory behind its end.
+#[derive(Drop)]
+pub struct Staged<'m> {
+    pub(crate) program: Program<'m>,
+    pub(crate) names: Names,
+    pub(crate) shows: Vec<ShowText>,
+}
+
+/// A script's program over its prepared module, with what it is given by the set-up rules (`set_up_program`), which it keeps. `listed`
+/// tells which function imports are listed, where the module was rewritten to be run.
+pub fn stage_program<'m>(
+    alloc: Global,
+    valid: &'m Valid,
+    listed: Option<Vec<bool>>,
+    text: ProgramText,
+    given: SetUp,
+) -> Result<Staged<'m>, AllocError>
+    requires listed { IsListing (module_of valid.now) (listing listed) }
+    requires fits { FitsPlan (program_of text) }
+    requires suits { Suits (module_of valid.now) (program_of text) given }
+    ensures { IfOk result (IsStaged (part (module_of valid.now) (listing listed) (program_of text) (set_up_of given))) }
+{
+    let names = program_names(alloc, valid.module(), &text)?;
+    let binds = bindings(alloc, valid.module(), &text.binds)?;
+    let SetUp {
+        entries,
+        funcs: _,
+        globals,
+    } = given;
+    let plan = Plan {
+        module: valid,
+        listed,
+        binds,
+        area: text.area,
+        steps: text.steps,
+        globals,
+        entries,
+        answers: text.answers,
+    };
+    let shows = text.shows;
+    match Program::new(alloc, plan) {
+        Ok(program) => Ok(Staged {
+            program,
+            names,
+            shows,
+        }),
+        // The plan has no fault: the rules asked for what `Program::new` asks.
+        Err(_) => Err(AllocError),
+    }
+}
