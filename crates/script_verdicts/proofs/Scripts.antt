@@ -31,7 +31,7 @@ module _ (files : Files) (name : List ℕ) where
       cc
 
   script_passes : (whole : Script) (r : Refusal) → IsScript here whole → IsNoScript here r → ⊥
-  script_passes whole r is no = elim no [
+  script_passes whole r is bad = elim bad [
     | inl long ↦ let few = is.few in absurd (omega (arith, long.0, few))
     | inr f ↦ let both : ◌≡◌ {A = Result Script ScriptFault} (Ok whole) (Err f.0) = sym is.text ∙ f.1.text in absurd cc
   ]
