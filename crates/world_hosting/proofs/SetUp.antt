@@ -1,6 +1,6 @@
 -- Programs that are set up can be hosted.
 use Rattle.std.proofs.Common.{◌≡◌, ℕ, zero, suc, ◌+◌, ◌<◌, List, [], ◌∷◌, ◌++◌, length, map, Option, Some, None, Bool, true, false, if◌then◌else◌, nat_eq, slice_get, get_or, take, append_assoc, refl, sym, ap, ◌∙◌, subst, arith}
-use Rattle.std.specs.List.{AllZip, cons_option}
+use Rattle.std.specs.List.{cons_option}
 use Rattle.std.proofs.lemmas.Bool.Decides.{nat_tests}
 use Rattle.std.proofs.lemmas.List.{append-nil, length-map, map_more}
 use Rattle.std.proofs.lemmas.List.Elements.{filter_map-append}
@@ -14,7 +14,6 @@ use Rattle.pause_host.specs.Programs.{Follows, lines_left}
 use Rattle.many_host.specs.Hosts.{AreSetUp}
 use Rattle.script_reader.specs.declared.script.ShowText.{ShowText}
 use Rattle.script_reader.specs.Views.{show_of}
-use Rattle.transcript.specs.declared.events.Names.{Names}
 use Rattle.transcript.specs.Printing.{names_of}
 use Rattle.wa_model.specs.Transcript as T
 use Rattle.world_hosting.specs.declared.parting.Parted.{Parted}

@@ -4,14 +4,12 @@ use Rattle.std.proofs.lemmas.List.{map-append}
 use Rattle.wa_model.specs.declared.answers.Detach.{Detach}
 use Rattle.wa_model.specs.Outside.{Event, called, answered, paused, returned, ended, shown, Line}
 use Rattle.wa_model.specs.Blocking.{Note}
-use Rattle.wa_model.specs.Store.{Store}
-use Rattle.wa_model.specs.World.{Device, Look, Program, ends_turn, events_with_looks, line_at, look_events, looks_after}
+use Rattle.wa_model.specs.World.{Device, Look, Program, ends_turn, events_with_looks, line_at, looks_after}
 use Rattle.event_order.specs.Looks.{looks_of}
 use Rattle.told_worlds.specs.Turns.{EndsOnce, Teller, Tells}
 use Rattle.turn_taking.specs.declared.turns.Stage.{Stage}
 use Rattle.turn_taking.specs.declared.turns.Stage.TheVariants.{Between, Telling, Showing}
-use Rattle.turn_taking.specs.Standing.{Held, LooksOut, StandsAt, Standing, held_of, looks_at}
-use Rattle.many_host.specs.declared.hosted.Hosted.{Hosted}
+use Rattle.turn_taking.specs.Standing.{LooksOut, StandsAt, held_of, looks_at}
 use Rattle.many_host.specs.declared.host.Host.{Host}
 use Rattle.many_host.specs.Hosts.{HostTold, memory_of}
 use Rattle.world_hosting.specs.Worlds.{turn_count, turns_at}
