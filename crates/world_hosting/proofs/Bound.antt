@@ -61,7 +61,8 @@ module _ (xs : List BindValue) where
   there i x lt at = ap (option_map (λ (b : BindText). b.device)) (slice_get-map bind_of xs i ∙ ap (option_map bind_of) (slice_get_read xs (length xs) i x refl lt at))
 
   -- one more line
-  pub next_places : (old new : List ℕ → Option ℕ) (i : ℕ) (x : BindValue) → i < length xs → x ≡ get_or xs i x → ((name : List ℕ) → device_at all (old name) ≡ last_device name (map bind_of (take i xs)))
+  pub next_places : (old new : List ℕ → Option ℕ) (i : ℕ) (x : BindValue) → i < length xs → x ≡ get_or xs i x
+      → ((name : List ℕ) → device_at all (old name) ≡ last_device name (map bind_of (take i xs)))
       → ((name : List ℕ) → new name ≡ (if bytes_eq x.import name then Some i else old name)) → (name : List ℕ) → device_at all (new name) ≡ last_device name (map bind_of (take (i + 1) xs))
   next_places old new i x lt at before now name =
       ap (device_at all) (now name) ∙ by (bytes_eq x.import name)

@@ -53,8 +53,8 @@ module _ (due i : ℕ) where
 
 -- ---- so many turns
 
-turns_told : (programs : List Program) (detaches : List Detach) (ds : List Device) (count : ℕ) (lines : List Line) (tellers : List Teller) (ds' : List Device) → Tells programs detaches ds count lines tellers ds'
-    → turn_count lines ≡ count
+turns_told : (programs : List Program) (detaches : List Detach) (ds : List Device) (count : ℕ) (lines : List Line) (tellers : List Teller) (ds' : List Device)
+    → Tells programs detaches ds count lines tellers ds' → turn_count lines ≡ count
 turns_told programs detaches ds zero lines tellers ds' h = ap turn_count h.0
 turns_told programs detaches ds (suc count) lines tellers ds' h =
     let before = turns_told programs detaches ds count h.0 h.2 h.3 h.4 in
