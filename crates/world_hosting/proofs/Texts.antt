@@ -19,7 +19,8 @@ use Rattle.wa_model.specs.Transcript.{Names, event_lines, event_line, event_text
 lines_append : (names : List Names) (front bs : List Line) → event_lines names (front ++ bs) ≡ event_lines names front ++ event_lines names bs
 lines_append names [] bs = refl
 lines_append names (a ∷ front) bs =
-    ap (λ t. event_line (names_at names a.program) a ++ t) (lines_append names front bs) ∙ sym (append_assoc (event_line (names_at names a.program) a) (event_lines names front) (event_lines names bs))
+    ap (λ t. event_line (names_at names a.program) a ++ t) (lines_append names front bs)
+    ∙ sym (append_assoc (event_line (names_at names a.program) a) (event_lines names front) (event_lines names bs))
 
 -- one line more
 pub line_more : (names : List Names) (lines : List Line) (l : Line) → event_lines names lines ++ event_line (names_at names l.program) l ≡ event_lines names (lines ++ l ∷ [])

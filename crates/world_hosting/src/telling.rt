@@ -103,13 +103,15 @@ fn tell_lines<S: Sink>(
     requires lent { IsLent }
     requires range { InRange host.old.turns }
     ensures same_list { devices.new.list.ghost_name ≡ devices.old.list.ghost_name }
-    ensures told { (parts : List Part) (detaches : List DetachValue) → HostTold (world_programs parts) detaches (devices_of (counted seen (λ d. (⟦<dyn Device as Device>⟧ d.0).faults d.1) devices.old)) []
+    ensures told { (parts : List Part) (detaches : List DetachValue)
+        → HostTold (world_programs parts) detaches (devices_of (counted seen (λ d. (⟦<dyn Device as Device>⟧ d.0).faults d.1) devices.old)) []
         host.old (devices_of (counted seen (λ d. (⟦<dyn Device as Device>⟧ d.0).faults d.1) devices.old))
         → host.old.turns.begun ≡ 0 → map names_of names.now ≡ map part_names parts
         → OnOk result (Becomes (S.taken out.old) (S.taken out.new) (Tells parts detaches
         (counted seen (λ d. (⟦<dyn Device as Device>⟧ d.0).faults d.1) devices.old)
         (counted seen (λ d. (⟦<dyn Device as Device>⟧ d.0).faults d.1) devices.new))) }
-    ensures part { (parts : List Part) (detaches : List DetachValue) → HostTold (world_programs parts) detaches (devices_of (counted seen (λ d. (⟦<dyn Device as Device>⟧ d.0).faults d.1) devices.old)) []
+    ensures part { (parts : List Part) (detaches : List DetachValue)
+        → HostTold (world_programs parts) detaches (devices_of (counted seen (λ d. (⟦<dyn Device as Device>⟧ d.0).faults d.1) devices.old)) []
         host.old (devices_of (counted seen (λ d. (⟦<dyn Device as Device>⟧ d.0).faults d.1) devices.old))
         → host.old.turns.begun ≡ 0 → map names_of names.now ≡ map part_names parts
         → IfErr result (λ fault. Becomes (S.taken out.old) (S.taken out.new) (TellsPart fault parts detaches
