@@ -58,8 +58,8 @@ pub fn asyncify<V: Vault, S: Sink>(
       sink_faults' = S.faults out.new;
       taken = S.taken out.old;
       taken' = S.taken out.new;
-      devices = counted_boxes seen faults devices.old.items;
-      devices' = counted_boxes seen faults devices.new.items;
+      devices = counted_boxes seen (λ b. (⟦<dyn Device as Device>⟧ b.vtable).faults b.value) devices.old.items;
+      devices' = counted_boxes seen (λ b. (⟦<dyn Device as Device>⟧ b.vtable).faults b.value) devices.new.items;
     }) result }
 
     // The causes.
@@ -98,8 +98,12 @@ pub fn asyncify<V: Vault, S: Sink>(
         IsRefusal result → Becomes (S.taken out.old) (S.taken out.new) (PrintsRefusal settings (V.files vault.old) input result (S.faults out.old) (S.faults out.new))) }
 
     // The devices.
-    ensures devices_off_scripts { OffScript (spelled (map string_bytes words.now)) (counted_boxes seen faults devices.new.items ≡ counted_boxes seen faults devices.old.items) }
-    ensures devices_refused { result ≢ 0 → result ≢ 9 → result ≢ 12 → counted_boxes seen faults devices.new.items ≡ counted_boxes seen faults devices.old.items }
+    ensures devices_off_scripts { OffScript (spelled (map string_bytes words.now))
+        (counted_boxes seen (λ b. (⟦<dyn Device as Device>⟧ b.vtable).faults b.value) devices.new.items
+        ≡ counted_boxes seen (λ b. (⟦<dyn Device as Device>⟧ b.vtable).faults b.value) devices.old.items) }
+    ensures devices_refused { result ≢ 0 → result ≢ 9 → result ≢ 12
+        → counted_boxes seen (λ b. (⟦<dyn Device as Device>⟧ b.vtable).faults b.value) devices.new.items
+        ≡ counted_boxes seen (λ b. (⟦<dyn Device as Device>⟧ b.vtable).faults b.value) devices.old.items }
 
     // No count falls.
     ensures fetch_faults { V.fetch_faults vault.old ≤ V.fetch_faults vault.new }

@@ -23,9 +23,12 @@ pub(crate) fn play_with<V: Vault, S: Sink>(
     requires lent { IsLent }
     ensures one_end { HasOneEnd (call way script.now (V.files vault.old) (V.fetch_faults vault.old) (V.fetch_faults vault.new)
         (S.faults out.old) (S.faults out.new) (S.taken out.old) (S.taken out.new)
-        (counted_boxes seen faults devices.old.items) (counted_boxes seen faults devices.new.items)) result }
+        (counted_boxes seen (λ b. (⟦<dyn Device as Device>⟧ b.vtable).faults b.value) devices.old.items)
+        (counted_boxes seen (λ b. (⟦<dyn Device as Device>⟧ b.vtable).faults b.value) devices.new.items)) result }
     ensures status { IsStatus way result }
-    ensures devices { result ≢ 0 → result ≢ 9 → result ≢ 12 → counted_boxes seen faults devices.new.items ≡ counted_boxes seen faults devices.old.items }
+    ensures devices { result ≢ 0 → result ≢ 9 → result ≢ 12
+        → counted_boxes seen (λ b. (⟦<dyn Device as Device>⟧ b.vtable).faults b.value) devices.new.items
+        ≡ counted_boxes seen (λ b. (⟦<dyn Device as Device>⟧ b.vtable).faults b.value) devices.old.items }
     ensures kept { V.files vault.new ≡ V.files vault.old }
     ensures fetch_faults { V.fetch_faults vault.old ≤ V.fetch_faults vault.new }
     ensures save_faults { V.save_faults vault.new ≡ V.save_faults vault.old }

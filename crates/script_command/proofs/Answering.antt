@@ -8,7 +8,7 @@ use Rattle.printing.specs.Refused.{status_of}
 use Rattle.script_opening.specs.Playing.{Cause, IsRead, IsRefused, Play, refusal_of_cause}
 use Rattle.script_verdicts.proofs.Scripts.{one_script, one_status_of_causes, played_not_refused}
 use Rattle.script_command.specs.Ends.{Call, End, done, memory, sink_fault, refused, read_fault_of, HasEnd, IsWhy, status_of_end}
-use Rattle.script_command.specs.Answers.{HasAnswer, HasOneEnd, IsPlayable, NothingFails}
+use Rattle.script_command.specs.Answers.{HasOneEnd, IsPlayable, NothingFails}
 
 one_among : (P : ProgramText → Type 0) (b d : List ProgramText) (t : ProgramText) → All P (b ++ t ∷ d) → P t
 one_among P [] d t h = All-head P t d h

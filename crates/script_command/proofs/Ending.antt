@@ -4,6 +4,7 @@ use Rattle.vault_port.specs.Counts.{HasRisen}
 use Rattle.vault_port.specs.Files.{Files, IsMissing}
 use Rattle.vault_port.specs.Taken.{Appends, AppendsLess}
 use Rattle.vault_port.specs.Told.{Becomes}
+use Rattle.vault_port.specs.declared.whole.PutFault.{PutFault}
 use Rattle.vault_port.specs.declared.whole.PutFault.TheVariants.{Fault, Memory}
 use Rattle.wa_model.specs.declared.answers.Detach.{Detach}
 use Rattle.wa_model.specs.Transcript.{refusal_line, read_fault}
@@ -61,6 +62,11 @@ unread c status name same is why by printed wanting = elim by [
 
 -- ---- what programs tell
 
+-- the part that is told, by the fault
+pub part_of_fault : (parts : List Part) (detaches : List Detach) (ds ds' : List Counted) (old new : Option (List ℕ)) (x y : PutFault) → x ≡ y → Becomes old new (TellsPart x parts detaches ds ds')
+    → Becomes old new (TellsPart y parts detaches ds ds')
+part_of_fault parts detaches ds ds' old new x y e h = subst (λ (z : PutFault). Becomes old new (TellsPart z parts detaches ds ds')) e h
+
 front_then : (line : List ℕ) (x y z : List ℕ) → (n : ℕ) → y ≡ x ++ take n line → EndsInMemory y z → PrintsMemory line x z
 front_then line x y z n e h = (n, h.0, h.1 ∙ ap (λ s. s ++ take h.0 memory_line) e)
 
@@ -92,7 +98,7 @@ module _ (way : Way) (name : List ℕ) (files : Option Files) (fetched fetched' 
       → HasEnd (call way name files fetched fetched' put put' old new ds ds') status
   programs_wanting None None None status nine part h = out_of_memory_alone (call way name files fetched fetched' put put' None None ds ds') status nine h
   programs_wanting (Some x) (Some y) (Some z) status nine part h =
-      out_of_memory_behind (call way name files fetched fetched' put put' (Some x) (Some z) ds ds') status nine part.0 (inl (play, begun_so part.0 part.1)) (front_then part.0 x y z part.2 part.3 h)
+      out_of_memory_behind (call way name files fetched fetched' put put' (Some x) (Some z) ds ds') status nine part.0 (inl (play, begun_so part.0 part.1)) (front_then part.0 x y z part.2.0 part.2.1 h)
   programs_wanting None None (Some z) status nine part h = absurd h
   programs_wanting (Some x) (Some y) None status nine part h = absurd h
   programs_wanting None (Some y) new status nine part h = absurd part

@@ -1,4 +1,4 @@
 pub mod Answering
 pub mod Ending
-pub mod Staging
+pub mod StagedParts
 pub mod Statuses

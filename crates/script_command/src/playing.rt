@@ -13,7 +13,7 @@ ghost use Rattle.script_command.specs.Ends.{HasEnd, IsStatus, call};
 ghost use Rattle.script_command.specs.Faults.{IsToldFault};
 
 use crate::staging::stage_all;
-use device_port::Devices;
+use device_port::{Device, Devices};
 use printing::{out_of_memory, refuse, refuse_program};
 use script_opening::{OpenFault, Opened, Programs, Way, open_script};
 use std::alloc::Global;
@@ -39,7 +39,9 @@ pub fn play_script<V: Vault, S: Sink>(
 ) -> u8
     requires lent { IsLent }
     ensures one_end { HasOneEnd (call way script.now (V.files vault.old) (V.fetch_faults vault.old) (V.fetch_faults vault.new)
-        (S.faults out.old) (S.faults out.new) (S.taken out.old) (S.taken out.new) (counted seen faults devices.old) (counted seen faults devices.new)) result }
+        (S.faults out.old) (S.faults out.new) (S.taken out.old) (S.taken out.new)
+        (counted seen (λ d. (⟦<dyn Device as Device>⟧ d.0).faults d.1) devices.old)
+        (counted seen (λ d. (⟦<dyn Device as Device>⟧ d.0).faults d.1) devices.new)) result }
     ensures status { IsStatus way result }
     ensures same_list { devices.new.list.ghost_name ≡ devices.old.list.ghost_name }
     ensures kept { V.files vault.new ≡ V.files vault.old }
@@ -57,9 +59,10 @@ pub fn play_script<V: Vault, S: Sink>(
 fn play<S: Sink>(alloc: Global, out: &mut S, devices: &mut Devices<'_>, opened: Opened) -> u8
     requires lent { IsLent }
     requires plays { CanPlay opened }
-    ensures end { (way : WayValue) (files : Option Files) (name : List ℕ) (faults faults' : ℕ) → Opens way files name opened
-        → HasEnd (call way name files faults faults' (S.faults out.old) (S.faults out.new) (S.taken out.old) (S.taken out.new)
-        (counted seen faults devices.old) (counted seen faults devices.new)) result }
+    ensures end { (way : WayValue) (files : Option Files) (name : List ℕ) (fetched fetched' : ℕ) → Opens way files name opened
+        → HasEnd (call way name files fetched fetched' (S.faults out.old) (S.faults out.new) (S.taken out.old) (S.taken out.new)
+        (counted seen (λ d. (⟦<dyn Device as Device>⟧ d.0).faults d.1) devices.old)
+        (counted seen (λ d. (⟦<dyn Device as Device>⟧ d.0).faults d.1) devices.new)) result }
     ensures same_list { devices.new.list.ghost_name ≡ devices.old.list.ghost_name }
     ensures faults { S.faults out.old ≤ S.faults out.new }
 {
@@ -81,10 +84,11 @@ fn tell<S: Sink>(
 ) -> u8
     requires lent { IsLent }
     requires few { length staged.items ≤ 16 }
-    ensures end { (way : WayValue) (files : Option Files) (name : List ℕ) (faults faults' : ℕ) (play : Play way files name)
+    ensures end { (way : WayValue) (files : Option Files) (name : List ℕ) (fetched fetched' : ℕ) (play : Play way files name)
         → AreStaged play.parts staged.entry.items → detaches_in play.whole ≡ detaches.items
-        → HasEnd (call way name files faults faults' (S.faults out.old) (S.faults out.new) (S.taken out.old) (S.taken out.new)
-        (counted seen faults devices.old) (counted seen faults devices.new)) result }
+        → HasEnd (call way name files fetched fetched' (S.faults out.old) (S.faults out.new) (S.taken out.old) (S.taken out.new)
+        (counted seen (λ d. (⟦<dyn Device as Device>⟧ d.0).faults d.1) devices.old)
+        (counted seen (λ d. (⟦<dyn Device as Device>⟧ d.0).faults d.1) devices.new)) result }
     ensures same_list { devices.new.list.ghost_name ≡ devices.old.list.ghost_name }
     ensures faults { S.faults out.old ≤ S.faults out.new }
 {
@@ -98,8 +102,8 @@ fn tell<S: Sink>(
 // Prints why a script isn't played.
 fn refuse_script<S: Sink>(alloc: Global, out: &mut S, fault: OpenFault) -> u8
     requires { IsToldFault fault }
-    ensures end { (way : WayValue) (files : Option Files) (name : List ℕ) (faults faults' : ℕ) (ds : List Counted) → Blames way files faults faults' name fault
-        → HasEnd (call way name files faults faults' (S.faults out.old) (S.faults out.new) (S.taken out.old) (S.taken out.new) ds ds) result }
+    ensures end { (way : WayValue) (files : Option Files) (name : List ℕ) (fetched fetched' : ℕ) (ds : List Counted) → Blames way files fetched fetched' name fault
+        → HasEnd (call way name files fetched fetched' (S.faults out.old) (S.faults out.new) (S.taken out.old) (S.taken out.new) ds ds) result }
     ensures faults { S.faults out.old ≤ S.faults out.new }
 {
     match fault {

@@ -25,7 +25,7 @@ module _ (files : Files) (name : List ℕ) where
   is_here : (whole : Script) → HasScript (Some files) name whole → IsScript here whole
   is_here whole h = subst (λ (bs : List ℕ). IsScript bs whole) h.holds h.script
 
-  one_script : (a b : Script) → HasScript (Some files) name a → HasScript (Some files) name b → a ≡ b
+  pub one_script : (a b : Script) → HasScript (Some files) name a → HasScript (Some files) name b → a ≡ b
   one_script a b h k =
       let both : ◌≡◌ {A = Result Script ScriptFault} (Ok a) (Ok b) = sym (is_here a h).text ∙ (is_here b k).text in
       cc

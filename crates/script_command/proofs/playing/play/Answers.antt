@@ -1,13 +1,11 @@
 -- What is opened is staged, and told.
-use Rattle.std.proofs.Common.{◌≡◌, List, sym, subst}
+use Rattle.std.proofs.Common.{List, sym, subst}
 use Rattle.std.specs.List.{AllZip}
 use Rattle.wa_types.specs.declared.syntax.Module.{Module}
-use Rattle.script_opening.specs.Views.{CanStage, parts_of}
-use Rattle.world_hosting.specs.Worlds.{Part}
-use Rattle.world_hosting.specs.Views.{AreStaged}
+use Rattle.script_opening.specs.Views.{CanStage}
 use Rattle.script_command.specs.Ends.{call}
 use Rattle.script_command.proofs.Ending.{out_of_memory_alone}
-use Rattle.script_command.proofs.Staging.{few_staged}
+use Rattle.script_command.proofs.StagedParts.{few_staged, staged_parts}
 use Rattle.script_command.proofs.playing.play.Goals as goal
 
 pub stage_all-requires : goal.stage_all-requires
@@ -19,8 +17,8 @@ tell-requires-clause-few g c = few_staged c.args.opened _ _ c.requires.plays c.i
 pub returns-in-Ok-clause-end : goal.returns-in-Ok-clause-end
 returns-in-Ok-clause-end g c = λ way files name f f' opens.
     c.tell.ensures.end way files name f f' opens.play
-    (subst (λ (ps : List Part). AreStaged ps _) (sym opens.parts_are)
-    (subst (λ (ms : List Module). AreStaged (parts_of ms c.args.opened.programs.planned.items) _) c.deref.ensures.value c.in-Ok.ensures)) opens.detaches_are
+    (staged_parts c.args.opened.programs.planned.items c.deref.result.now c.args.opened.programs.modules.items opens.play.parts _ opens.parts_are c.deref.ensures.value c.in-Ok.ensures)
+    opens.detaches_are
 
 pub returns-in-Err-clause-end : goal.returns-in-Err-clause-end
 returns-in-Err-clause-end g c = λ way files name f f' opens.

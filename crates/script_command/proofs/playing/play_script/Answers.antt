@@ -9,10 +9,10 @@ pub refuse_script-requires : goal.refuse_script-requires
 refuse_script-requires g c = told_fault c.args.way _ _ _ c.args.script.now c.in-Err.fault c.in-Err.ensures.refused
 
 pub returns-in-Ok-clause-one_end : goal.returns-in-Ok-clause-one_end
-returns-in-Ok-clause-one_end g c = one_end _ c.play.result $ c.play.ensures.end c.args.way _ c.args.script.now _ _ c.in-Ok.ensures.opened
+returns-in-Ok-clause-one_end g c = one_end _ c.play.result (c.play.ensures.end c.args.way _ c.args.script.now _ _ c.in-Ok.ensures.opened)
 
 pub returns-in-Err-clause-one_end : goal.returns-in-Err-clause-one_end
-returns-in-Err-clause-one_end g c = one_end _ c.refuse_script.result $ c.refuse_script.ensures.end c.args.way _ c.args.script.now _ _ _ c.in-Err.ensures.refused
+returns-in-Err-clause-one_end g c = one_end _ c.refuse_script.result (c.refuse_script.ensures.end c.args.way _ c.args.script.now _ _ _ c.in-Err.ensures.refused)
 
 pub returns-in-Ok-clause-status : goal.returns-in-Ok-clause-status
 returns-in-Ok-clause-status g c =

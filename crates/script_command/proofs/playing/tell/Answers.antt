@@ -1,9 +1,7 @@
 -- The end of what programs tell.
-use Rattle.std.proofs.Common.{Err, ap, subst}
-use Rattle.vault_port.specs.Told.{Becomes}
+use Rattle.std.proofs.Common.{Err, ap}
 use Rattle.vault_port.specs.declared.whole.PutFault.{PutFault}
-use Rattle.world_hosting.specs.Worlds.{TellsPart}
-use Rattle.script_command.proofs.Ending.{programs_cut, programs_told, programs_wanting}
+use Rattle.script_command.proofs.Ending.{part_of_fault, programs_cut, programs_told, programs_wanting}
 use Rattle.script_command.proofs.playing.tell.Goals as goal
 
 pub returns-in-Ok-clause-end : goal.returns-in-Ok-clause-end
@@ -13,11 +11,9 @@ returns-in-Ok-clause-end g c = λ way files name f f' play staged same.
 pub returns-in-Err-Fault-clause-end : goal.returns-in-Err-Fault-clause-end
 returns-in-Err-Fault-clause-end g c = λ way files name f f' play staged same.
     programs_cut way name files f f' _ _ _ _ play c.args.detaches.items same _ _ (c.in-Err-Fault.ensures.fault (ap (λ (x : PutFault). Err x) c.in-Err-Fault.field-0-is))
-    (subst (λ (x : PutFault). Becomes (g.S.Sink.taken c.args.out.now) (g.S.Sink.taken c.host_programs.new.out) (TellsPart x play.parts c.args.detaches.items _ _)) c.in-Err-Fault.field-0-is
-    (c.in-Err-Fault.ensures.part play.parts staged))
+    (part_of_fault play.parts _ _ _ _ _ _ _ c.in-Err-Fault.field-0-is (c.in-Err-Fault.ensures.part play.parts staged))
 
 pub returns-in-Err-Memory-clause-end : goal.returns-in-Err-Memory-clause-end
 returns-in-Err-Memory-clause-end g c = λ way files name f f' play staged same.
     programs_wanting way name files f f' _ _ _ _ play c.args.detaches.items same _ (g.S.Sink.taken c.host_programs.new.out) _ c.out_of_memory.result c.out_of_memory.ensures.status
-    (subst (λ (x : PutFault). Becomes (g.S.Sink.taken c.args.out.now) (g.S.Sink.taken c.host_programs.new.out) (TellsPart x play.parts c.args.detaches.items _ _)) c.in-Err-Memory.field-0-is
-    (c.in-Err-Memory.ensures.part play.parts staged)) c.out_of_memory.ensures.printed
+    (part_of_fault play.parts _ _ _ _ _ _ _ c.in-Err-Memory.field-0-is (c.in-Err-Memory.ensures.part play.parts staged)) c.out_of_memory.ensures.printed

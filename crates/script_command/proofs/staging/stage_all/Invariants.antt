@@ -1,4 +1,4 @@
-use Rattle.script_command.proofs.Staging.{Staging}
+use Rattle.script_command.proofs.StagedParts.{Staging}
 use Rattle.script_command.proofs.staging.stage_all.Given as goal
 
 -- those that are staged, and those to come

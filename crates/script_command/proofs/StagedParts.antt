@@ -64,6 +64,9 @@ pub record Next (modules : List Module) (n : ℕ) (p : Planned) : Type 0 where
   pub within : n < length modules
   pub can : (v : Module) → v ≡ get_or modules n v → CanStage v p
 
+pub item_at : (modules : List Module) (v : Module) (k n l : ℕ) → v ≡ get_or modules k v → k ≡ n → n ≡ l → v ≡ get_or modules l v
+item_at modules v k n l e a b = e ∙ ap (λ (i : ℕ). get_or modules i v) (a ∙ b)
+
 module _ (modules : List Module) (planned : List Planned) (p : Planned) (rest : List Planned) (staged : List Staged) where
   pub next : Staging modules planned (p ∷ rest) staged → Next modules (length staged) p
   next s = by s.left s.left_is s.each where
@@ -90,11 +93,27 @@ module _ (modules : List Module) (planned : List Planned) (p : Planned) (rest : 
           each = each.1;
         }
 
+-- those to come, as they are held
+pub turned : (modules : List Module) (planned rest behind : List Planned) (p : Planned) (staged : List Staged) → rest ≡ p ∷ behind → Staging modules planned rest staged → Staging modules planned (p ∷ behind) staged
+turned modules planned rest behind p staged e s = subst (λ (ps : List Planned). Staging modules planned ps staged) e s
+
+pub none_left : {A : Type 0} (xs : List A) → length xs ≡ 0 → xs ≡ []
+none_left [] e = refl
+none_left (x ∷ xs) e = absurd (omega (arith, e))
+
+pub ended : (modules : List Module) (planned rest : List Planned) (staged : List Staged) → rest ≡ [] → Staging modules planned rest staged → Staging modules planned [] staged
+ended modules planned rest staged e s = subst (λ (ps : List Planned). Staging modules planned ps staged) e s
+
 pub all_staged : (modules : List Module) (planned : List Planned) (staged : List Staged) → Staging modules planned [] staged → AreStaged (parts_of modules planned) staged
 all_staged modules planned staged s = by s.left s.each s.whole where
   by : (left : List Module) → AllZip CanStage left [] → parts_of modules planned ≡ s.parts ++ parts_of left [] → AreStaged (parts_of modules planned) staged
   by [] each whole = subst (λ (ps : List Part). AreStaged ps staged) (sym (whole ∙ none_behind s.parts)) s.are
   by (w ∷ ms) each whole = absurd each
+
+pub staged_parts : (planned : List Planned) (lent modules : List Module) (parts : List Part) (staged : List Staged) → parts ≡ parts_of modules planned → lent ≡ modules
+    → AreStaged (parts_of lent planned) staged → AreStaged parts staged
+staged_parts planned lent modules parts staged e same h =
+    subst (λ (ps : List Part). AreStaged ps staged) (sym e) (subst (λ (ms : List Module). AreStaged (parts_of ms planned) staged) same h)
 
 -- they are few
 parts_few : (vs : List Module) (ps : List Planned) → length (parts_of vs ps) ≤ length ps
