@@ -83,7 +83,13 @@ module _ (x : Source) (y : Part) (is : IsRewritten x y) where
       }
 
   may_run : MayRun o
-  may_run = record { well_formed = is.well_formed; fits = fits; listed = refl; answers = is.ranges.answers; looks = shows_off y.text.area y.text.shows (kept_by_rules y.source y.text y.given is.set_up).shows }
+  may_run = record {
+    well_formed = is.well_formed;
+    fits = fits;
+    listed = refl;
+    answers = is.ranges.answers;
+    looks = shows_off y.text.area y.text.shows (kept_by_rules y.source y.text y.given is.set_up).shows;
+  }
 
   abbrev planned : Option (List Bool) → Plan
   planned listed = record { globals = y.given.globals; entries = calls_of es y.given.funcs; area = y.text.area; listed = listed }

@@ -1,5 +1,5 @@
 -- Devices by the names of imports: tables of places, one more line behind those before it.
-use Rattle.std.proofs.Common.{◌≡◌, ℕ, suc, ◌+◌, ◌<◌, ◌≤◌, List, [], ◌∷◌, ◌++◌, length, map, get_or, take, Option, Some, None, Bool, true, false, cond, ap, sym, ◌∙◌, refl, if◌then◌else◌, slice_get}
+use Rattle.std.proofs.Common.{◌≡◌, ℕ, suc, ◌+◌, ◌<◌, ◌≤◌, List, [], ◌∷◌, ◌++◌, length, map, get_or, take, Option, Some, None, Bool, true, false, ap, sym, ◌∙◌, refl, if◌then◌else◌}
 use Rattle.std.specs.List.{cons_option, filter_map}
 use Rattle.std.specs.Str.{bytes_eq}
 use Rattle.std.specs.Borrow.{Bor}
@@ -61,7 +61,8 @@ module _ (xs : List BindValue) where
   there i x lt at = ap (option_map (λ (b : BindText). b.device)) (slice_get-map bind_of xs i ∙ ap (option_map bind_of) (slice_get_read xs (length xs) i x refl lt at))
 
   -- one more line
-  pub next_places : (old new : List ℕ → Option ℕ) (i : ℕ) (x : BindValue) → i < length xs → x ≡ get_or xs i x → ((name : List ℕ) → device_at all (old name) ≡ last_device name (map bind_of (take i xs)))
+  pub next_places : (old new : List ℕ → Option ℕ) (i : ℕ) (x : BindValue) → i < length xs → x ≡ get_or xs i x
+      → ((name : List ℕ) → device_at all (old name) ≡ last_device name (map bind_of (take i xs)))
       → ((name : List ℕ) → new name ≡ (if bytes_eq x.import name then Some i else old name)) → (name : List ℕ) → device_at all (new name) ≡ last_device name (map bind_of (take (i + 1) xs))
   next_places old new i x lt at before now name =
       ap (device_at all) (now name) ∙ by (bytes_eq x.import name)

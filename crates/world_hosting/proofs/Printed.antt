@@ -1,6 +1,6 @@
 -- The lines of several programs, as they are being told and printed.
-use Rattle.std.proofs.Common.{◌≡◌, ◌⊎◌, inl, inr, ℕ, ◌+◌, List, [], ◌∷◌, ◌++◌, length, map, take, Option, Some, None, Result, Ok, Err, refl, sym, ap, ◌∙◌, subst, arith, append-nil}
-use Rattle.std.specs.Prelude.{IfOk, MatchOption, OnErr, OnOk}
+use Rattle.std.proofs.Common.{◌≡◌, inl, inr, ℕ, List, [], ◌∷◌, ◌++◌, length, map, Option, Some, None, Result, Ok, Err, refl, sym, ap, ◌∙◌, subst, arith, append-nil}
+use Rattle.std.specs.Prelude.{MatchOption, OnErr, OnOk}
 use Rattle.std.specs.Result.{IfErr}
 use Rattle.std.proofs.lemmas.List.{length-map, take_all}
 use Rattle.vault_port.specs.declared.whole.PutFault.{PutFault}
@@ -107,10 +107,12 @@ module _ (parts : List Part) (detaches : List Detach) (cs : List Counted) where
         printed = subst (λ (s : List ℕ). Becomes old new (Appends s)) same_text (then_printed (begun t.lines) (event_line (names_at own l.program) l) old mid new t.printed p);
       }
 
-      pub told_less : (last : List Counted) (fault : PutFault) (new : Option (List ℕ)) → Becomes mid new (AppendsLess (event_line (names_at own l.program) l)) → Becomes old new (TellsPart fault parts detaches cs last)
+      pub told_less : (last : List Counted) (fault : PutFault) (new : Option (List ℕ)) → Becomes mid new (AppendsLess (event_line (names_at own l.program) l))
+          → Becomes old new (TellsPart fault parts detaches cs last)
       told_less last fault new p =
+          let begins = told_begins_world programs detaches ds (devices_of es) (t.lines ++ l ∷ []) next told in
           becomes_by (AppendsLess (begun (t.lines ++ l ∷ []))) (TellsPart fault parts detaches cs last)
-          (λ x y q. (begun (t.lines ++ l ∷ []), inl (are_begun (t.lines ++ l ∷ []) (told_begins_world programs detaches ds (devices_of es) (t.lines ++ l ∷ []) next told)), part_of fault _ x y q)) old new
+          (λ x y q. (begun (t.lines ++ l ∷ []), inl (are_begun (t.lines ++ l ∷ []) begins), part_of fault _ x y q)) old new
           (subst (λ (s : List ℕ). Becomes old new (AppendsLess s)) same_text (then_less (begun t.lines) (event_line (names_at own l.program) l) old mid new t.printed p))
 
     -- the last line, or less of it
@@ -153,7 +155,8 @@ module _ (parts : List Part) (detaches : List Detach) (ds : List Device) (lines 
   pub none_told : r ≡ None → HostNext (world_programs parts) detaches ds lines h es r → ProtocolWorld (world_programs parts) detaches ds lines es
   none_told is told = subst (λ (o : Option LineValue). HostNext (world_programs parts) detaches ds lines h es o) is told
 
-pub line_takes : (programs : List Program) (r : Option LineValue) (l : LineValue) (old left new : List Counted) → r ≡ Some l → TakesNext programs r old left new → TakesCall programs (line_of l) left new
+pub line_takes : (programs : List Program) (r : Option LineValue) (l : LineValue) (old left new : List Counted) → r ≡ Some l → TakesNext programs r old left new
+    → TakesCall programs (line_of l) left new
 line_takes programs r l old left new is t = subst (λ (o : Option LineValue). TakesNext programs o old left new) is t
 
 pub none_takes : (programs : List Program) (r : Option LineValue) (old left new : List Counted) → r ≡ None → TakesNext programs r old left new → new ≡ old
@@ -168,7 +171,8 @@ none_is (Some x) h = absurd (h x refl)
 
 -- ---- devices, seen and counted
 
-module _ {X : Type 0} {F : X → Type 0} (f : (x : X) × F x → Device) (g : (x : X) × F x → ℕ) (programs : List Program) (detaches : List Detach) (ds : List Device) (lines : List Line) (d : Devices X F) where
+module _ {X : Type 0} {F : X → Type 0} (f : (x : X) × F x → Device) (g : (x : X) × F x → ℕ)
+    (programs : List Program) (detaches : List Detach) (ds : List Device) (lines : List Line) (d : Devices X F) where
   pub host_seen : (h : Host) → HostTold programs detaches ds lines h (devices_of (counted f g d)) → HostTold programs detaches ds lines h (of_all f d)
   host_seen h told = subst (λ (es : List Device). HostTold programs detaches ds lines h es) (counted_devices f g d) told
 

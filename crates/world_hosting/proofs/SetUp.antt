@@ -1,8 +1,9 @@
 -- Programs that are set up can be hosted.
-use Rattle.std.proofs.Common.{◌≡◌, ℕ, zero, suc, ◌+◌, ◌<◌, List, [], ◌∷◌, ◌++◌, length, map, Option, Some, None, Bool, true, false, if◌then◌else◌, nat_eq, slice_get, refl, sym, ap, ◌∙◌, subst, arith}
-use Rattle.std.specs.List.{AllZip, cons_option}
+use Rattle.std.proofs.Common.{◌≡◌, ℕ, zero, suc, ◌+◌, ◌<◌, List, [], ◌∷◌, ◌++◌, length, map}
+use Rattle.std.proofs.Common.{Option, Some, None, Bool, true, false, if◌then◌else◌, nat_eq, slice_get, get_or, take, append_assoc, refl, sym, ap, ◌∙◌, subst, arith}
+use Rattle.std.specs.List.{cons_option}
 use Rattle.std.proofs.lemmas.Bool.Decides.{nat_tests}
-use Rattle.std.proofs.lemmas.List.{append-nil, length-map}
+use Rattle.std.proofs.lemmas.List.{append-nil, length-map, map_more}
 use Rattle.std.proofs.lemmas.List.Elements.{filter_map-append}
 use Rattle.wa_model.specs.World as W
 use Rattle.wa_model.specs.World.{Look}
@@ -14,7 +15,6 @@ use Rattle.pause_host.specs.Programs.{Follows, lines_left}
 use Rattle.many_host.specs.Hosts.{AreSetUp}
 use Rattle.script_reader.specs.declared.script.ShowText.{ShowText}
 use Rattle.script_reader.specs.Views.{show_of}
-use Rattle.transcript.specs.declared.events.Names.{Names}
 use Rattle.transcript.specs.Printing.{names_of}
 use Rattle.wa_model.specs.Transcript as T
 use Rattle.world_hosting.specs.declared.parting.Parted.{Parted}
@@ -118,3 +118,11 @@ can_host ps ss x h parted = record {
       (subst (λ (l : List Show). AreSetUp (world_programs ps) l (programs_of ss)) (sym parted.shows) (are_set_up ps ss h));
   names = ap (map names_of) parted.names ∙ same_names ps ss h;
 }
+
+-- ---- what is shown, one place after another
+
+pub shown_more : (f : ShowText → Show) (old now new : List Show) (xs : List ShowText) (i : ℕ) (d : ShowText) → new ≡ now ++ f (get_or xs i d) ∷ [] → i < length xs → now ≡ old ++ map f (take i xs)
+    → new ≡ old ++ map f (take (i + 1) xs)
+shown_more f old now new xs i d is lt before =
+    is ∙ ap (λ (l : List Show). l ++ f (get_or xs i d) ∷ []) before ∙ append_assoc old (map f (take i xs)) (f (get_or xs i d) ∷ [])
+    ∙ ap (λ (l : List Show). old ++ l) (sym (map_more f xs i d lt))

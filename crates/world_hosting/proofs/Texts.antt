@@ -1,5 +1,6 @@
 -- Texts of lines, one behind others, and what of them was printed.
-use Rattle.std.proofs.Common.{◌≡◌, inl, inr, ℕ, suc, ◌+◌, ◌<◌, ◌≤◌, List, [], ◌∷◌, ◌++◌, length, map, get_or, nat_lt, take, true, Option, Some, None, refl, sym, ap, ◌∙◌, append_assoc, append-nil, arith, subst}
+use Rattle.std.proofs.Common.{◌≡◌, inl, inr, ℕ, suc, ◌+◌, ◌<◌, ◌≤◌, List, [], ◌∷◌, ◌++◌, length, map}
+use Rattle.std.proofs.Common.{get_or, nat_lt, take, true, Option, Some, None, refl, sym, ap, ◌∙◌, append_assoc, append-nil, arith}
 use Rattle.std.specs.Prelude.{codes}
 use Rattle.std.specs.Fmt.{decimal}
 use Rattle.std.specs.Option.{option_map, unwrap_or}
@@ -18,7 +19,8 @@ use Rattle.wa_model.specs.Transcript.{Names, event_lines, event_line, event_text
 lines_append : (names : List Names) (front bs : List Line) → event_lines names (front ++ bs) ≡ event_lines names front ++ event_lines names bs
 lines_append names [] bs = refl
 lines_append names (a ∷ front) bs =
-    ap (λ t. event_line (names_at names a.program) a ++ t) (lines_append names front bs) ∙ sym (append_assoc (event_line (names_at names a.program) a) (event_lines names front) (event_lines names bs))
+    ap (λ t. event_line (names_at names a.program) a ++ t) (lines_append names front bs)
+    ∙ sym (append_assoc (event_line (names_at names a.program) a) (event_lines names front) (event_lines names bs))
 
 -- one line more
 pub line_more : (names : List Names) (lines : List Line) (l : Line) → event_lines names lines ++ event_line (names_at names l.program) l ≡ event_lines names (lines ++ l ∷ [])
@@ -83,4 +85,5 @@ nothing_printed text o h = becomes_same (AppendsLess text) (λ x. (0, h, sym (ap
 -- the names that stand at a program's number
 pub own_names : (names : List NamesValue) (i : ℕ) (own : NamesValue) → true ≡ nat_lt i (length names) → own ≡ get_or names i own → names_of own ≡ names_at (map names_of names) i
 own_names names i own within is =
-    sym (ap (λ (o : Option Names). unwrap_or o no_names) (slice_get-map names_of names i ∙ ap (option_map names_of) (slice_get_read names (length names) i own refl (ltb-true i (length names) (sym within)) is)))
+    let there = slice_get_read names (length names) i own refl (ltb-true i (length names) (sym within)) is in
+    sym (ap (λ (o : Option Names). unwrap_or o no_names) (slice_get-map names_of names i ∙ ap (option_map names_of) there))

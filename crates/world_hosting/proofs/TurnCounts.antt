@@ -4,14 +4,12 @@ use Rattle.std.proofs.lemmas.List.{map-append}
 use Rattle.wa_model.specs.declared.answers.Detach.{Detach}
 use Rattle.wa_model.specs.Outside.{Event, called, answered, paused, returned, ended, shown, Line}
 use Rattle.wa_model.specs.Blocking.{Note}
-use Rattle.wa_model.specs.Store.{Store}
-use Rattle.wa_model.specs.World.{Device, Look, Program, ends_turn, events_with_looks, line_at, look_events, looks_after}
+use Rattle.wa_model.specs.World.{Device, Look, Program, ends_turn, events_with_looks, line_at, looks_after}
 use Rattle.event_order.specs.Looks.{looks_of}
 use Rattle.told_worlds.specs.Turns.{EndsOnce, Teller, Tells}
 use Rattle.turn_taking.specs.declared.turns.Stage.{Stage}
 use Rattle.turn_taking.specs.declared.turns.Stage.TheVariants.{Between, Telling, Showing}
-use Rattle.turn_taking.specs.Standing.{Held, LooksOut, StandsAt, Standing, held_of, looks_at}
-use Rattle.many_host.specs.declared.hosted.Hosted.{Hosted}
+use Rattle.turn_taking.specs.Standing.{LooksOut, StandsAt, held_of, looks_at}
 use Rattle.many_host.specs.declared.host.Host.{Host}
 use Rattle.many_host.specs.Hosts.{HostTold, memory_of}
 use Rattle.world_hosting.specs.Worlds.{turn_count, turns_at}
@@ -55,8 +53,8 @@ module _ (due i : ℕ) where
 
 -- ---- so many turns
 
-turns_told : (programs : List Program) (detaches : List Detach) (ds : List Device) (count : ℕ) (lines : List Line) (tellers : List Teller) (ds' : List Device) → Tells programs detaches ds count lines tellers ds'
-    → turn_count lines ≡ count
+turns_told : (programs : List Program) (detaches : List Detach) (ds : List Device) (count : ℕ) (lines : List Line) (tellers : List Teller) (ds' : List Device)
+    → Tells programs detaches ds count lines tellers ds' → turn_count lines ≡ count
 turns_told programs detaches ds zero lines tellers ds' h = ap turn_count h.0
 turns_told programs detaches ds (suc count) lines tellers ds' h =
     let before = turns_told programs detaches ds count h.0 h.2 h.3 h.4 in

@@ -41,9 +41,13 @@ pub fn host_programs<S: Sink>(
     requires few { length staged.items ≤ 16 }
     ensures same_list { devices.new.list.ghost_name ≡ devices.old.list.ghost_name }
     ensures told { (parts : List Part) → AreStaged parts staged.entry.items
-        → OnOk result (Becomes (S.taken out.old) (S.taken out.new) (Tells parts detaches.items (counted seen (λ d. (⟦<dyn Device as Device>⟧ d.0).faults d.1) devices.old) (counted seen (λ d. (⟦<dyn Device as Device>⟧ d.0).faults d.1) devices.new))) }
+        → OnOk result (Becomes (S.taken out.old) (S.taken out.new) (Tells parts detaches.items
+        (counted seen (λ d. (⟦<dyn Device as Device>⟧ d.0).faults d.1) devices.old)
+        (counted seen (λ d. (⟦<dyn Device as Device>⟧ d.0).faults d.1) devices.new))) }
     ensures part { (parts : List Part) → AreStaged parts staged.entry.items
-        → IfErr result (λ fault. Becomes (S.taken out.old) (S.taken out.new) (TellsPart fault parts detaches.items (counted seen (λ d. (⟦<dyn Device as Device>⟧ d.0).faults d.1) devices.old) (counted seen (λ d. (⟦<dyn Device as Device>⟧ d.0).faults d.1) devices.new))) }
+        → IfErr result (λ fault. Becomes (S.taken out.old) (S.taken out.new) (TellsPart fault parts detaches.items
+        (counted seen (λ d. (⟦<dyn Device as Device>⟧ d.0).faults d.1) devices.old)
+        (counted seen (λ d. (⟦<dyn Device as Device>⟧ d.0).faults d.1) devices.new))) }
     ensures fault { IsErrOf result PutFault.Fault → HasRisen (S.faults out.old) (S.faults out.new) }
     ensures faults { S.faults out.old ≤ S.faults out.new }
 {
@@ -65,9 +69,13 @@ fn host_parted<S: Sink>(
     requires few { length parted.programs.items ≤ 16 }
     ensures same_list { devices.new.list.ghost_name ≡ devices.old.list.ghost_name }
     ensures told { (parts : List Part) → CanHost parts parted.entry
-        → OnOk result (Becomes (S.taken out.old) (S.taken out.new) (Tells parts detaches.items (counted seen (λ d. (⟦<dyn Device as Device>⟧ d.0).faults d.1) devices.old) (counted seen (λ d. (⟦<dyn Device as Device>⟧ d.0).faults d.1) devices.new))) }
+        → OnOk result (Becomes (S.taken out.old) (S.taken out.new) (Tells parts detaches.items
+        (counted seen (λ d. (⟦<dyn Device as Device>⟧ d.0).faults d.1) devices.old)
+        (counted seen (λ d. (⟦<dyn Device as Device>⟧ d.0).faults d.1) devices.new))) }
     ensures part { (parts : List Part) → CanHost parts parted.entry
-        → IfErr result (λ fault. Becomes (S.taken out.old) (S.taken out.new) (TellsPart fault parts detaches.items (counted seen (λ d. (⟦<dyn Device as Device>⟧ d.0).faults d.1) devices.old) (counted seen (λ d. (⟦<dyn Device as Device>⟧ d.0).faults d.1) devices.new))) }
+        → IfErr result (λ fault. Becomes (S.taken out.old) (S.taken out.new) (TellsPart fault parts detaches.items
+        (counted seen (λ d. (⟦<dyn Device as Device>⟧ d.0).faults d.1) devices.old)
+        (counted seen (λ d. (⟦<dyn Device as Device>⟧ d.0).faults d.1) devices.new))) }
     ensures fault { IsErrOf result PutFault.Fault → HasRisen (S.faults out.old) (S.faults out.new) }
     ensures faults { S.faults out.old ≤ S.faults out.new }
 {
@@ -95,12 +103,20 @@ fn tell_lines<S: Sink>(
     requires lent { IsLent }
     requires range { InRange host.old.turns }
     ensures same_list { devices.new.list.ghost_name ≡ devices.old.list.ghost_name }
-    ensures told { (parts : List Part) (detaches : List DetachValue) → HostTold (world_programs parts) detaches (devices_of (counted seen (λ d. (⟦<dyn Device as Device>⟧ d.0).faults d.1) devices.old)) [] host.old (devices_of (counted seen (λ d. (⟦<dyn Device as Device>⟧ d.0).faults d.1) devices.old))
+    ensures told { (parts : List Part) (detaches : List DetachValue)
+        → HostTold (world_programs parts) detaches (devices_of (counted seen (λ d. (⟦<dyn Device as Device>⟧ d.0).faults d.1) devices.old)) []
+        host.old (devices_of (counted seen (λ d. (⟦<dyn Device as Device>⟧ d.0).faults d.1) devices.old))
         → host.old.turns.begun ≡ 0 → map names_of names.now ≡ map part_names parts
-        → OnOk result (Becomes (S.taken out.old) (S.taken out.new) (Tells parts detaches (counted seen (λ d. (⟦<dyn Device as Device>⟧ d.0).faults d.1) devices.old) (counted seen (λ d. (⟦<dyn Device as Device>⟧ d.0).faults d.1) devices.new))) }
-    ensures part { (parts : List Part) (detaches : List DetachValue) → HostTold (world_programs parts) detaches (devices_of (counted seen (λ d. (⟦<dyn Device as Device>⟧ d.0).faults d.1) devices.old)) [] host.old (devices_of (counted seen (λ d. (⟦<dyn Device as Device>⟧ d.0).faults d.1) devices.old))
+        → OnOk result (Becomes (S.taken out.old) (S.taken out.new) (Tells parts detaches
+        (counted seen (λ d. (⟦<dyn Device as Device>⟧ d.0).faults d.1) devices.old)
+        (counted seen (λ d. (⟦<dyn Device as Device>⟧ d.0).faults d.1) devices.new))) }
+    ensures part { (parts : List Part) (detaches : List DetachValue)
+        → HostTold (world_programs parts) detaches (devices_of (counted seen (λ d. (⟦<dyn Device as Device>⟧ d.0).faults d.1) devices.old)) []
+        host.old (devices_of (counted seen (λ d. (⟦<dyn Device as Device>⟧ d.0).faults d.1) devices.old))
         → host.old.turns.begun ≡ 0 → map names_of names.now ≡ map part_names parts
-        → IfErr result (λ fault. Becomes (S.taken out.old) (S.taken out.new) (TellsPart fault parts detaches (counted seen (λ d. (⟦<dyn Device as Device>⟧ d.0).faults d.1) devices.old) (counted seen (λ d. (⟦<dyn Device as Device>⟧ d.0).faults d.1) devices.new))) }
+        → IfErr result (λ fault. Becomes (S.taken out.old) (S.taken out.new) (TellsPart fault parts detaches
+        (counted seen (λ d. (⟦<dyn Device as Device>⟧ d.0).faults d.1) devices.old)
+        (counted seen (λ d. (⟦<dyn Device as Device>⟧ d.0).faults d.1) devices.new))) }
     ensures fault { IsErrOf result PutFault.Fault → HasRisen (S.faults out.old) (S.faults out.new) }
     ensures faults { S.faults out.old ≤ S.faults out.new }
 {

@@ -18,4 +18,5 @@ pub returns : goal.returns
 returns c = λ tells.
     filter_all (λ (i : Import). where_func (imported_func i.kind) (device_at (map bind_of c.args.binds.now) (place_in c.args.places.now (joined_name i)))) c.loop-import.list.items
     c.args.imports.now c.loop-import.import-index c.loop-import-test.false c.loop-import.invariant
-    ∙ same_devices (λ (name : List ℕ). device_at (map bind_of c.args.binds.now) (place_in c.args.places.now name)) (λ (name : List ℕ). last_device name (map bind_of c.args.binds.now)) c.args.imports.now tells
+    ∙ same_devices (λ (name : List ℕ). device_at (map bind_of c.args.binds.now) (place_in c.args.places.now name))
+    (λ (name : List ℕ). last_device name (map bind_of c.args.binds.now)) c.args.imports.now tells

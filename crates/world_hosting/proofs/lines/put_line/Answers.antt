@@ -1,8 +1,7 @@
-use Rattle.std.proofs.Common.{map, sym, subst}
+use Rattle.std.proofs.Common.{subst}
 use Rattle.std.specs.Prelude.{OnErr, OnOk}
 use Rattle.vault_port.specs.Taken.{Appends, AppendsLess}
 use Rattle.vault_port.specs.Told.{Becomes}
-use Rattle.transcript.specs.Printing.{names_of}
 use Rattle.wa_model.specs.Transcript.{Names, event_line}
 use Rattle.wa_model.specs.View.{line_of}
 use Rattle.world_hosting.proofs.Texts.{line_some, nothing_printed, own_names}

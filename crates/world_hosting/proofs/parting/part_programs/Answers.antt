@@ -1,4 +1,4 @@
-use Rattle.std.proofs.Common.{arith, ap, length, List, ◌++◌, map, ◌≡◌, ◌∙◌}
+use Rattle.std.proofs.Common.{arith, ap, length, List, ◌++◌, map, ◌≡◌}
 use Rattle.std.proofs.lemmas.List.{length-append, length-map}
 use Rattle.transcript.specs.declared.events.Names.{Names}
 use Rattle.world_hosting.specs.declared.staging.Staged.{Staged}

@@ -1,4 +1,4 @@
-use Rattle.std.proofs.Common.{◌≡◌, ◌≤◌, ◌++◌, length, map}
+use Rattle.std.proofs.Common.{◌≡◌, ◌++◌, length, map}
 use Rattle.world_hosting.specs.Parted.{shows_from}
 use Rattle.world_hosting.proofs.parting.part_programs.Given as goal
 

@@ -1,17 +1,37 @@
-use Rattle.std.proofs.Common.{refl, ap, map, ◌∙◌}
+use Rattle.std.proofs.Common.{refl, ap, map, ◌∙◌, ℕ, List, Option, Bool}
+use Rattle.std.specs.Borrow.{Bor}
+use Rattle.std.specs.Global.{Vec}
+use Rattle.wa_types.specs.declared.syntax.Module.{Module as ModuleValue}
 use Rattle.wa_types.specs.View.{module_of}
 use Rattle.pause_host.specs.declared.plan.Plan.{Plan}
+use Rattle.script_reader.specs.declared.script.ProgramText.{ProgramText}
 use Rattle.script_reader.specs.Views.{bind_of, program_of}
+use Rattle.script_setup.specs.declared.setting.SetUp.{SetUp}
 use Rattle.script_setup.specs.SetUpRules.{program_names}
 use Rattle.world_hosting.specs.Bindings.{bindings}
 use Rattle.world_hosting.proofs.Starts.{begins, is_plan}
 use Rattle.world_hosting.proofs.staging.stage_program.Goals as goal
 
+-- the plan that is made
+abbrev plan_of : Bor ModuleValue → Option (Vec Bool) → ProgramText → SetUp → Vec (Option (List ℕ)) → Plan
+plan_of valid listed t given binds = record {
+  «module» = valid;
+  listed = listed;
+  binds = binds;
+  area = t.area;
+  steps = t.steps;
+  globals = given.globals;
+  entries = given.entries;
+  answers = t.answers;
+}
+
 pub new-requires : goal.new-requires
 new-requires c =
     let t = c.args.text in
-    let x : Plan = record { «module» = c.args.valid; listed = c.args.listed; binds = c.in_ok-binds.binds; area = t.area; steps = t.steps; globals = c.args.given.globals; entries = c.args.given.entries; answers = t.answers } in
-    let bound = c.in_ok-binds.ensures ∙ ap (λ m. bindings (module_of m) (map bind_of c.deref.result.now)) c.module-2.ensures.same ∙ ap (λ bs. bindings (module_of c.args.valid.now) (map bind_of bs)) c.deref.ensures.value in
+    let x : Plan = plan_of c.args.valid c.args.listed c.args.text c.args.given c.in_ok-binds.binds in
+    let bound =
+    c.in_ok-binds.ensures ∙ ap (λ m. bindings (module_of m) (map bind_of c.deref.result.now)) c.module-2.ensures.same
+    ∙ ap (λ bs. bindings (module_of c.args.valid.now) (map bind_of bs)) c.deref.ensures.value in
     is_plan (program_of t) c.args.given x
     (record { entries = refl; globals = refl; area = refl; steps = refl; answers = refl; binds = bound })
     c.requires.suits c.requires.listed c.requires.fits
@@ -19,8 +39,10 @@ new-requires c =
 pub returns-in-Ok : goal.returns-in-Ok
 returns-in-Ok c =
     let t = c.args.text in
-    let x : Plan = record { «module» = c.args.valid; listed = c.args.listed; binds = c.in_ok-binds.binds; area = t.area; steps = t.steps; globals = c.args.given.globals; entries = c.args.given.entries; answers = t.answers } in
-    let bound = c.in_ok-binds.ensures ∙ ap (λ m. bindings (module_of m) (map bind_of c.deref.result.now)) c.module-2.ensures.same ∙ ap (λ bs. bindings (module_of c.args.valid.now) (map bind_of bs)) c.deref.ensures.value in
+    let x : Plan = plan_of c.args.valid c.args.listed c.args.text c.args.given c.in_ok-binds.binds in
+    let bound =
+    c.in_ok-binds.ensures ∙ ap (λ m. bindings (module_of m) (map bind_of c.deref.result.now)) c.module-2.ensures.same
+    ∙ ap (λ bs. bindings (module_of c.args.valid.now) (map bind_of bs)) c.deref.ensures.value in
     let told =
     begins (program_of t) c.args.given x
     (record { entries = refl; globals = refl; area = refl; steps = refl; answers = refl; binds = bound })

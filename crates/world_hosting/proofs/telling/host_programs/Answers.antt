@@ -1,5 +1,3 @@
-use Rattle.std.proofs.Common.{arith, ap, length, sym, ◌∙◌}
-use Rattle.std.proofs.lemmas.List.{length-map}
 use Rattle.world_hosting.specs.Parted.{shows_from}
 use Rattle.world_hosting.specs.Worlds.{world_programs}
 use Rattle.world_hosting.proofs.Begun.{begins_nothing}
