@@ -4,11 +4,11 @@ use Rattle.std.specs.Option.{option_map}
 use denote.Ref.{Bor}
 use Rattle.call_graph.specs.Settings.{settings_of}
 use Rattle.call_graph.specs.declared.settings.Policy.TheVariants.{All}
-use Rattle.clap.specs.Simple.{Shape, new_shape, subcommand_rows_of}
+use Rattle.clap.specs.Simple.{App, Shape, new_shape, subcommand_rows_of}
 use Rattle.clap.specs.declared.parser.matches.ArgMatches.{ArgMatches}
 use Rattle.wa_model.specs.Command.{transform}
 use Rattle.wa_model.specs.Spelled.{Spelled, rewrites, hosts, runs, generates}
-use Rattle.word_grammar.specs.Grammar.{MatchesSpell, placed_rule}
+use Rattle.word_grammar.specs.Grammar.{MatchesSpell, line_shape, placed_rule}
 use Rattle.command_words.specs.declared.words.Command.{Command as CommandValue}
 use Rattle.command_words.specs.declared.words.Command.TheVariants.{Transform, Host, Run, Gen}
 use Rattle.command_words.specs.declared.words.WordsFault.{WordsFault}
@@ -48,3 +48,7 @@ text_of text = option_map (λ (t : Bor (List ℕ)). t.now) text
 -- the command of this name with a script
 abbrev pub script_shape : List ℕ → Shape
 script_shape name = record (new_shape name) { rules = placed_rule (codes "script") ∷ [] }
+
+-- the line without its commands
+abbrev pub bare_line : App
+bare_line = record { top = line_shape; subs = [] }

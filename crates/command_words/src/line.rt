@@ -1,12 +1,12 @@
 // The command line as one command of `clap` with one level of subcommands.
-ghost use Rattle.std.specs.Prelude.{◌≡◌, IfOk, false, map, codes};
+ghost use Rattle.std.specs.Prelude.{◌≡◌, ◌||◌, IfOk, false, map, codes};
 ghost use Rattle.std.specs.String.{string_bytes};
-ghost use Rattle.clap.specs.Words.{app_of, first_of, found_of, kind_of, rows_of, rule_of, shape_of};
+ghost use Rattle.clap.specs.Words.{app_of, first_of, found_of, kind_of, rows_of, rule_of, shape_of, with_rule, with_subcommand};
 ghost use Rattle.clap.specs.declared.builder.command.Command.TheViews.{out-Command};
 ghost use Rattle.clap.specs.declared.error.kind.ErrorKind.TheVariants.{OutOfMemory};
 ghost use Rattle.wa_model.specs.Spelled.{spelled};
 ghost use Rattle.word_grammar.specs.Grammar.{TellsFlag, command_shape, flag_of, flag_rule, gen_words, line, name_of, option_rule, placed_rule, transform_words};
-ghost use Rattle.command_words.specs.Words.{Parses, script_shape, text_of};
+ghost use Rattle.command_words.specs.Words.{Parses, bare_line, script_shape, text_of};
 ghost use Rattle.command_words.specs.declared.words.WordsFault.TheVariants.{Usage};
 
 use crate::words::WordsFault;
@@ -38,23 +38,47 @@ fn parse_fault(error: &Error) -> WordsFault
     }
 }
 
-/// All words are arguments. No word asks for help, and one of the four commands comes.
+/// The line with its four commands.
 fn command_line<'w>(alloc: Global) -> Result<Command<'w>, AllocError>
     ensures { IfOk result (λ c. app_of c ≡ line) }
 {
-    let transform = transform_line(alloc)?;
-    let host = script_line(alloc, "host")?;
-    let run = script_line(alloc, "run")?;
-    let generate = gen_line(alloc)?;
+    let line = with_transform(alloc, bare_line(alloc))?;
+    let line = with_script(alloc, line, "host")?;
+    let line = with_script(alloc, line, "run")?;
+    with_gen(alloc, line)
+}
+
+/// All words are arguments. No word asks for help, and a command has to come.
+fn bare_line<'w>(alloc: Global) -> Command<'w>
+    ensures { app_of result ≡ bare_line }
+{
     Command::new(alloc, "asyncify")
         .no_binary_name(true)
         .disable_help_flag(true)
         .disable_help_subcommand(true)
         .subcommand_required(true)
-        .subcommand(transform)?
-        .subcommand(host)?
-        .subcommand(run)?
-        .subcommand(generate)
+}
+
+fn with_transform<'w>(alloc: Global, line: Command<'w>) -> Result<Command<'w>, AllocError>
+    ensures { IfOk result (λ c. app_of c ≡ with_subcommand (app_of line.entry) (command_shape transform_words)) }
+{
+    line.subcommand(transform_line(alloc)?)
+}
+
+fn with_script<'w>(
+    alloc: Global,
+    line: Command<'w>,
+    name: &'w str,
+) -> Result<Command<'w>, AllocError>
+    ensures { IfOk result (λ c. app_of c ≡ with_subcommand (app_of line.entry) (script_shape name.now)) }
+{
+    line.subcommand(script_line(alloc, name)?)
+}
+
+fn with_gen<'w>(alloc: Global, line: Command<'w>) -> Result<Command<'w>, AllocError>
+    ensures { IfOk result (λ c. app_of c ≡ with_subcommand (app_of line.entry) (command_shape gen_words)) }
+{
+    line.subcommand(gen_line(alloc)?)
 }
 
 /// `transform [--imports LIST] [--ignore-imports] [--ignore-indirect] IN OUT`
@@ -62,12 +86,10 @@ fn transform_line<'w>(alloc: Global) -> Result<Command<'w>, AllocError>
     ensures shape { IfOk result (λ c. shape_of c ≡ command_shape transform_words) }
     ensures local { IfOk result (λ c. (out-Command c).has_globals ≡ false) }
 {
-    Command::new(alloc, "transform")
-        .arg(option_arg(alloc, "imports"))?
-        .arg(flag_arg(alloc, "ignore-imports"))?
-        .arg(flag_arg(alloc, "ignore-indirect"))?
-        .arg(placed_arg(alloc, "input"))?
-        .arg(placed_arg(alloc, "output"))
+    let line = Command::new(alloc, "transform").arg(option_arg(alloc, "imports"))?;
+    let line = with_flag(alloc, line, "ignore-imports")?;
+    let line = with_flag(alloc, line, "ignore-indirect")?;
+    with_places(alloc, line, "input", "output")
 }
 
 /// `host SCRIPT` and `run SCRIPT`
@@ -83,9 +105,28 @@ fn gen_line<'w>(alloc: Global) -> Result<Command<'w>, AllocError>
     ensures shape { IfOk result (λ c. shape_of c ≡ command_shape gen_words) }
     ensures local { IfOk result (λ c. (out-Command c).has_globals ≡ false) }
 {
-    Command::new(alloc, "gen")
-        .arg(placed_arg(alloc, "number"))?
-        .arg(placed_arg(alloc, "output"))
+    with_places(alloc, Command::new(alloc, "gen"), "number", "output")
+}
+
+fn with_flag<'w>(alloc: Global, line: Command<'w>, name: &'w str) -> Result<Command<'w>, AllocError>
+    ensures shape { IfOk result (λ c. app_of c ≡ with_rule (app_of line.entry) (flag_rule name.now)) }
+    ensures local { IfOk result (λ c. (out-Command c).has_globals ≡ ((out-Command line.entry).has_globals || false)) }
+{
+    line.arg(flag_arg(alloc, name))
+}
+
+/// A command with two places.
+fn with_places<'w>(
+    alloc: Global,
+    line: Command<'w>,
+    first: &'w str,
+    second: &'w str,
+) -> Result<Command<'w>, AllocError>
+    ensures shape { IfOk result (λ c. app_of c ≡ with_rule (with_rule (app_of line.entry) (placed_rule first.now)) (placed_rule second.now)) }
+    ensures local { IfOk result (λ c. (out-Command c).has_globals ≡ (((out-Command line.entry).has_globals || false) || false)) }
+{
+    line.arg(placed_arg(alloc, first))?
+        .arg(placed_arg(alloc, second))
 }
 
 /// An option with a value.

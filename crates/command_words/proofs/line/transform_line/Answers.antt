@@ -1,22 +1,21 @@
 -- A `transform` has an option, two flags and two files.
-use Rattle.std.proofs.Common.{◌∙◌, ◌||◌, Bool, ap, ap₂}
+use Rattle.std.proofs.Common.{◌∙◌, ◌||◌, Bool, false, ap, ap₂, codes}
 use Rattle.std.proofs.lemmas.Result.{IfOk-weaker}
 use Rattle.clap.specs.Simple.{App, with_rule}
+use Rattle.word_grammar.specs.Grammar.{flag_rule, placed_rule}
 use Rattle.command_words.proofs.line.transform_line.Goals as goal
 
 pub returns-clause-shape : goal.returns-clause-shape
 returns-clause-shape c =
-    let first = c.in_ok-arg.ensures.shape c.option_arg.ensures.local ∙ ap₂ with_rule c.new.ensures.app c.option_arg.ensures.rule in
-    let second = c.in_ok-arg-2.ensures.shape c.flag_arg.ensures.local ∙ ap₂ with_rule first c.flag_arg.ensures.rule in
-    let third = c.in_ok-arg-3.ensures.shape c.flag_arg-2.ensures.local ∙ ap₂ with_rule second c.flag_arg-2.ensures.rule in
-    let fourth = c.in_ok-arg-4.ensures.shape c.placed_arg.ensures.local ∙ ap₂ with_rule third c.placed_arg.ensures.rule in
-    IfOk-weaker c.arg-5.result _ _ (λ r h. ap (λ (a : App). a.top) (h.shape c.placed_arg-2.ensures.local ∙ ap₂ with_rule fourth c.placed_arg-2.ensures.rule)) c.arg-5.ensures
+    let first = c.in_ok-line.ensures.shape c.option_arg.ensures.local ∙ ap₂ with_rule c.new.ensures.app c.option_arg.ensures.rule in
+    let second = c.in_ok-line-2.ensures.shape ∙ ap (λ (a : App). with_rule a (flag_rule (codes "ignore-imports"))) first in
+    let third = c.in_ok-line-3.ensures.shape ∙ ap (λ (a : App). with_rule a (flag_rule (codes "ignore-indirect"))) second in
+    IfOk-weaker c.with_places.result _ _ (λ r h. ap (λ (a : App). a.top) (h ∙ ap (λ (a : App). with_rule (with_rule a (placed_rule (codes "input"))) (placed_rule (codes "output"))) third))
+    c.with_places.ensures.shape
 
 pub returns-clause-local : goal.returns-clause-local
 returns-clause-local c =
-    let or : Bool → Bool → Bool = λ x y. x || y in
-    let first = c.in_ok-arg.ensures.globals ∙ ap₂ or c.new.ensures.local c.option_arg.ensures.local in
-    let second = c.in_ok-arg-2.ensures.globals ∙ ap₂ or first c.flag_arg.ensures.local in
-    let third = c.in_ok-arg-3.ensures.globals ∙ ap₂ or second c.flag_arg-2.ensures.local in
-    let fourth = c.in_ok-arg-4.ensures.globals ∙ ap₂ or third c.placed_arg.ensures.local in
-    IfOk-weaker c.arg-5.result _ _ (λ r h. h.globals ∙ ap₂ or fourth c.placed_arg-2.ensures.local) c.arg-5.ensures
+    let or_not = λ (x : Bool). x || false in
+    let first = c.in_ok-line.ensures.globals ∙ ap₂ (λ (x y : Bool). x || y) c.new.ensures.local c.option_arg.ensures.local in
+    let third = c.in_ok-line-3.ensures.local ∙ ap or_not (c.in_ok-line-2.ensures.local ∙ ap or_not first) in
+    IfOk-weaker c.with_places.result _ _ (λ r h. h ∙ ap (λ (x : Bool). (x || false) || false) third) c.with_places.ensures.local
