@@ -1,6 +1,5 @@
 -- What was parsed says what the words spell.
 use Rattle.std.proofs.Common.{map, string_bytes}
-use Rattle.std.proofs.lemmas.Result.{IfErr-weaker, IfOk-weaker}
 use Rattle.clap.specs.Words.{app_of}
 use Rattle.word_grammar.proofs.Exact.{all_text}
 use Rattle.word_grammar.proofs.Meanings.{both_ways}
