@@ -1,2 +1,2 @@
-mod Parsing
+mod Failing
 mod WordCases

@@ -1,14 +1,11 @@
 -- The words of a command, of the program's values.
-use Rattle.std.specs.Prelude.{◌≡◌, ◌≤◌, List, [], ◌∷◌, ℕ, Option, Some, None, Result, Ok, Err, codes}
+use Rattle.std.specs.Prelude.{◌≡◌, ◌≤◌, List, ℕ, Option, Some, None, Result, Ok, Err}
 use Rattle.std.specs.Option.{option_map}
 use denote.Ref.{Bor}
 use Rattle.call_graph.specs.Settings.{settings_of}
 use Rattle.call_graph.specs.declared.settings.Policy.TheVariants.{All}
-use Rattle.clap.specs.Simple.{Shape, new_shape, subcommand_rows_of}
-use Rattle.clap.specs.declared.parser.matches.ArgMatches.{ArgMatches}
 use Rattle.wa_model.specs.Command.{transform}
 use Rattle.wa_model.specs.Spelled.{Spelled, rewrites, hosts, runs, generates}
-use Rattle.word_grammar.specs.Grammar.{MatchesSpell, placed_rule}
 use Rattle.command_words.specs.declared.words.Command.{Command as CommandValue}
 use Rattle.command_words.specs.declared.words.Command.TheVariants.{Transform, Host, Run, Gen}
 use Rattle.command_words.specs.declared.words.WordsFault.{WordsFault}
@@ -36,15 +33,5 @@ Reads view (Ok x) spelled = spelled ≡ Some (view x)
 Reads view (Err Memory) spelled = Unit {0}
 Reads view (Err Usage) spelled = spelled ≡ None
 
--- What was parsed says what the words spell; `Usage` says that they spell nothing.
-abbrev pub Parses : Result ArgMatches WordsFault → Option Spelled → Type 0
-Parses (Ok matches) spelled = MatchesSpell (subcommand_rows_of matches) spelled
-Parses (Err Memory) spelled = Unit {0}
-Parses (Err Usage) spelled = spelled ≡ None
-
 abbrev pub text_of : Option (Bor (List ℕ)) → Option (List ℕ)
 text_of text = option_map (λ (t : Bor (List ℕ)). t.now) text
-
--- the command of this name with a script
-abbrev pub script_shape : List ℕ → Shape
-script_shape name = record (new_shape name) { rules = placed_rule (codes "script") ∷ [] }

@@ -5,7 +5,7 @@ ghost use Rattle.wa_model.specs.Spelled.{hosts, number_and_file, runs};
 ghost use Rattle.word_grammar.specs.Grammar.{gen_words, host_words, read_of, run_words};
 ghost use Rattle.command_words.specs.Words.{HasFewFunctions, Reads, SavesAll, spelled_of, text_of};
 
-use crate::line::text_at;
+use crate::matches::text_at;
 use crate::words::{Command, WordsFault};
 use clap::ArgMatches;
 use line_words::number_within;

@@ -6,7 +6,7 @@
 #![tactic(auto)]
 
 mod files;
-mod line;
+mod matches;
 mod transforms;
 mod words;
 

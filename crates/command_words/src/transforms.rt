@@ -8,7 +8,7 @@ ghost use Rattle.wa_model.specs.Spelled.{rewrites};
 ghost use Rattle.word_grammar.specs.Grammar.{TellsFlags, read_of, transform_words};
 ghost use Rattle.command_words.specs.Words.{HasFewFunctions, Reads, SavesAll, spelled_of, text_of};
 
-use crate::line::{flag_at, text_at};
+use crate::matches::{flag_at, text_at};
 use crate::words::{Command, WordsFault};
 use call_graph::{Choice, ImportList, ListFault, Policy, Settings};
 use clap::ArgMatches;

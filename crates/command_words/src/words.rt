@@ -7,11 +7,12 @@ ghost use Rattle.word_grammar.specs.Grammar.{MatchesSpell};
 ghost use Rattle.command_words.specs.Words.{HasFewFunctions, Reads, SavesAll, spelled_of};
 
 use crate::files::{generate_from, script_from};
-use crate::line::parse_words;
+use crate::matches::parse_fault;
 use crate::transforms::transform_from;
 use call_graph::Settings;
 use clap::ArgMatches;
-use std::alloc::{AllocError, Global};
+use command_line::parse_line;
+use std::alloc::Global;
 use thiserror::Error;
 
 /// A command, with its settings and the names of its files.
@@ -47,26 +48,15 @@ pub enum WordsFault {
     Usage,
 }
 
-impl From<AllocError> for WordsFault {
-    ghost use Rattle.std.specs.Prelude.{◌≡◌};
-    ghost use Rattle.command_words.specs.declared.words.WordsFault.TheVariants.{Memory};
-
-    ghost from_gives = { λ _ fault. fault ≡ Memory };
-
-    fn from(_error: AllocError) -> WordsFault {
-        WordsFault::Memory
-    }
-}
-
 /// The command that the words spell, if they spell one.
 pub fn read_words<'w>(alloc: Global, words: &'w [String]) -> Result<Command<'w>, WordsFault>
     ensures command { Reads spelled_of result (spelled (map string_bytes words.now)) }
     ensures policy { IfOk result SavesAll }
     ensures number { IfOk result HasFewFunctions }
 {
-    match parse_words(alloc, words) {
+    match parse_line(alloc, words) {
         Ok(matches) => command_from(alloc, &matches),
-        Err(fault) => Err(fault),
+        Err(error) => Err(parse_fault(&error)),
     }
 }
 

@@ -1,8 +1,8 @@
 -- What a caller takes from matches that spell something.
-use Rattle.std.proofs.Common.{◌≡◌, ◌∙◌, List, [], Option, Some, None, option_map, true, refl, sym, ap, subst, unwrap_or, ⊎_elim}
+use Rattle.std.proofs.Common.{Result, Ok, Err, IfOk, IfErr, ◌≡◌, ◌∙◌, List, [], Option, Some, None, option_map, true, refl, sym, ap, subst, unwrap_or, ⊎_elim}
 use Rattle.clap.specs.Walk.{Row, Text}
 use Rattle.clap.specs.Simple.{App, HasMatchesOf, is_simple, subcommand_of, subcommand_rows_of}
-use Rattle.clap.specs.Kinds.{HasKind, Kinds}
+use Rattle.clap.specs.Kinds.{FailsBy, HasKind, Kinds}
 use Rattle.clap.specs.Faults.{fault_of, is_simple_and_free}
 use Rattle.clap.specs.Values.{kind_of}
 use Rattle.clap.specs.declared.error.Error.{Error}
@@ -66,3 +66,10 @@ module _ (a : App) (words : List Text) (text : AllText words) (is : a ≡ line) 
   failure_spells e fails no_want =
       let kinds = subst (λ (x : App). HasKind (fault_of x words) e) is (fails (ap is_simple_and_free is ∙ line_is_free)) in
       (exact words text).1 (λ none. ⊎_elim no_want (λ h. h) (subst (λ (k : Kinds). HasKind k e) none kinds))
+
+-- both, of what a parse answers
+pub both_ways : (a : App) (words : List Text) → AllText words → a ≡ line → (r : Result ArgMatches Error) → IfOk r (HasMatchesOf a words)
+    → (is_simple_and_free a ≡ true → FailsBy (fault_of a words) r)
+    → IfOk r (λ m. MatchesSpell (subcommand_rows_of m) (spelled words)) × IfErr r (λ e. (kind_of e ≡ OutOfMemory → ⊥) → spelled words ≡ None)
+both_ways a words text is (Ok m) matches kinds = (parse_spells a words text is m matches kinds, tt)
+both_ways a words text is (Err e) matches kinds = (tt, failure_spells a words text is e kinds)
