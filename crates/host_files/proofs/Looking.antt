@@ -22,6 +22,7 @@ module _ (line line' : ℕ) (room : ℕ) (text : List ℕ) (rest behind : List (
   looked_out found sees = sym (sees (λ (n : ℕ). first_live (suc line') n behind)) ∙ same
 
 -- the script that is served
-pub served_as : (bytes : List ℕ) (found : Option ℕ) (told : Result Script ScriptFault) → found ≡ first_live 1 most_programs (lines bytes) → script_text bytes ≡ told → in_front_of found told ≡ served_script bytes
+pub served_as : (bytes : List ℕ) (found : Option ℕ) (told : Result Script ScriptFault) → found ≡ first_live 1 most_programs (lines bytes) → script_text bytes ≡ told
+    → in_front_of found told ≡ served_script bytes
 unfolding served_script
 served_as bytes found told f t = ap (λ (o : Option ℕ). in_front_of o told) f ∙ ap (in_front_of (first_live 1 most_programs (lines bytes))) (sym t)

@@ -98,7 +98,8 @@ module _ (way : Way) (name : List ℕ) (files : Option Files) (fetched fetched' 
       → HasEnd (call way name files fetched fetched' put put' old new ds ds') status
   programs_wanting None None None status nine part h = out_of_memory_alone (call way name files fetched fetched' put put' None None ds ds') status nine h
   programs_wanting (Some x) (Some y) (Some z) status nine part h =
-      out_of_memory_behind (call way name files fetched fetched' put put' (Some x) (Some z) ds ds') status nine part.0 (inl (play, begun_so part.0 part.1)) (front_then part.0 x y z part.2.0 part.2.1 h)
+      out_of_memory_behind (call way name files fetched fetched' put put' (Some x) (Some z) ds ds') status nine part.0
+      (inl (play, begun_so part.0 part.1)) (front_then part.0 x y z part.2.0 part.2.1 h)
   programs_wanting None None (Some z) status nine part h = absurd h
   programs_wanting (Some x) (Some y) None status nine part h = absurd h
   programs_wanting None (Some y) new status nine part h = absurd part

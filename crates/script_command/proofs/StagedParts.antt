@@ -76,9 +76,11 @@ module _ (modules : List Module) (planned : List Planned) (p : Planned) (rest : 
         let g = goes_on (length staged) modules w ms is in
         record { within = g.within; can = λ v e. subst (λ (x : Module). CanStage x p) (sym (e ∙ g.item v)) each.0 }
 
-  pub one_more : Staging modules planned (p ∷ rest) staged → (v : Module) → v ≡ get_or modules (length staged) v → (x : Staged) → IsStaged (part_of v p) x → Staging modules planned rest (staged ++ x ∷ [])
+  pub one_more : Staging modules planned (p ∷ rest) staged → (v : Module) → v ≡ get_or modules (length staged) v → (x : Staged) → IsStaged (part_of v p) x
+      → Staging modules planned rest (staged ++ x ∷ [])
   one_more s v e x is = by s.left s.left_is s.each s.whole where
-    by : (left : List Module) → left ≡ drop (length staged) modules → AllZip CanStage left (p ∷ rest) → parts_of modules planned ≡ s.parts ++ parts_of left (p ∷ rest) → Staging modules planned rest (staged ++ x ∷ [])
+    by : (left : List Module) → left ≡ drop (length staged) modules → AllZip CanStage left (p ∷ rest) → parts_of modules planned ≡ s.parts ++ parts_of left (p ∷ rest)
+        → Staging modules planned rest (staged ++ x ∷ [])
     by [] l each whole = absurd each
     by (w ∷ ms) l each whole =
         let g = goes_on (length staged) modules w ms l in
@@ -94,7 +96,8 @@ module _ (modules : List Module) (planned : List Planned) (p : Planned) (rest : 
         }
 
 -- those to come, as they are held
-pub turned : (modules : List Module) (planned rest behind : List Planned) (p : Planned) (staged : List Staged) → rest ≡ p ∷ behind → Staging modules planned rest staged → Staging modules planned (p ∷ behind) staged
+pub turned : (modules : List Module) (planned rest behind : List Planned) (p : Planned) (staged : List Staged) → rest ≡ p ∷ behind → Staging modules planned rest staged
+    → Staging modules planned (p ∷ behind) staged
 turned modules planned rest behind p staged e s = subst (λ (ps : List Planned). Staging modules planned ps staged) e s
 
 pub none_left : {A : Type 0} (xs : List A) → length xs ≡ 0 → xs ≡ []

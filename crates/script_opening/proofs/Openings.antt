@@ -155,7 +155,8 @@ line_blamed way files f f' number t told (a_script kind) b why = absurd b
 line_blamed way files f f' number t told (a_module n kind) b why = absurd b
 
 -- what is blamed of the next program is, over the files and the counts at first
-pub next_blamed : (way : Way) (files mid : Option Files) (f g h number : ℕ) (t : ProgramText) (fault : OpenFault) → mid ≡ files → f ≤ g → BlamesNext way mid g h number t fault → BlamesNext way files f h number t fault
+pub next_blamed : (way : Way) (files mid : Option Files) (f g h number : ℕ) (t : ProgramText) (fault : OpenFault) → mid ≡ files → f ≤ g
+    → BlamesNext way mid g h number t fault → BlamesNext way files f h number t fault
 next_blamed way files mid f g h number t Memory same le b = tt
 next_blamed way files mid f g h number t (Read read) same le b =
     (b.0, elim b.1 [ inl risen ↦ inl (risen_since f g h le risen) | inr missing ↦ inr (subst (λ (all : Option Files). IsMissing all read) same missing) ])

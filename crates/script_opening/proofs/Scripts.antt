@@ -40,7 +40,8 @@ module _ (files : Option Files) (name : List ℕ) (whole : ScriptValue) (read : 
   pub texts_fit : ScriptsFit → All FitsPlan (map program_of whole.programs.items)
   texts_fit law = law read.0 (script_of whole) read.2.few (served_text read.0 (script_of whole) read.2.text)
 
-  pub opens : (way : Way) (mid : Option Files) (o : Opened) → mid ≡ files → o.detaches.items ≡ whole.detaches.items → AreOpened way mid (map program_of whole.programs.items) o.programs → Opens way files name o
+  pub opens : (way : Way) (mid : Option Files) (o : Opened) → mid ≡ files → o.detaches.items ≡ whole.detaches.items
+      → AreOpened way mid (map program_of whole.programs.items) o.programs → Opens way files name o
   opens way mid o same taken are =
       let here : AreOpened way files (map program_of whole.programs.items) o.programs = subst (λ (all : Option Files). AreOpened way all (map program_of whole.programs.items) o.programs) same are in
       record {

@@ -21,7 +21,8 @@ use Rattle.script_opening.specs.declared.programs.Programs.{Programs}
 use Rattle.script_opening.specs.declared.opening.Opened.{Opened}
 use Rattle.script_opening.specs.declared.opening.OpenFault.{OpenFault}
 use Rattle.script_opening.specs.declared.opening.OpenFault.TheVariants.{Memory, Read, Script, Module, Rule}
-use Rattle.script_opening.specs.Playing.{AreStages, BreaksRule, IsBadModule, IsBadOriginal, IsModule, IsReached, IsRead, IsRefused, IsStage, Play, RunsFor, bad_line, bad_module, bad_script, detaches_in}
+use Rattle.script_opening.specs.Playing.{AreStages, BreaksRule, IsBadModule, IsBadOriginal, IsModule, IsReached, IsRead}
+use Rattle.script_opening.specs.Playing.{IsRefused, IsStage, Play, RunsFor, bad_line, bad_module, bad_script, detaches_in}
 
 -- a module of a program of this text, which is told of each function import whether it is listed where it is told at all
 pub record Loads (way : Way) (files : Option Files) (t : ProgramText) (l : Loaded) : Type 0 where

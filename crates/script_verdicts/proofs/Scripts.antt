@@ -12,7 +12,8 @@ use Rattle.printing.specs.Refused.{status_of}
 use Rattle.script_setup.specs.SetUpRules.{SetUp, set_up_rules}
 use Rattle.world_hosting.specs.Worlds.{Part}
 use Rattle.script_opening.specs.declared.way.Way.{Way}
-use Rattle.script_opening.specs.Playing.{AreStages, BreaksRule, Cause, HasScript, IsBadModule, IsModule, IsReached, IsRefused, IsStage, Play, asks_all, bad_line, bad_module, bad_script, refusal_of_cause}
+use Rattle.script_opening.specs.Playing.{AreStages, BreaksRule, Cause, HasScript, IsBadModule, IsModule, IsReached}
+use Rattle.script_opening.specs.Playing.{IsRefused, IsStage, Play, asks_all, bad_line, bad_module, bad_script, refusal_of_cause}
 use Rattle.script_verdicts.specs.Laws.{CausesHaveOneStatus, PlayedIsNotRefused}
 use Rattle.script_verdicts.proofs.Modules.{not_bad, one_module, one_refused}
 

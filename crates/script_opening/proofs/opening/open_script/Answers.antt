@@ -11,7 +11,9 @@ pub open_programs-requires-clause-fits : goal.open_programs-requires-clause-fits
 open_programs-requires-clause-fits g c = texts_fit (g.V.Vault.files c.args.vault.now) c.args.script.now c.in-Ok.whole c.in-Ok.ensures.script c.scripts_fit.ensures
 
 pub returns-in-Ok-open_programs-clause-opened : goal.returns-in-Ok-open_programs-clause-opened
-returns-in-Ok-open_programs-clause-opened g c = opens _ _ c.in-Ok.whole c.in-Ok.ensures.script c.args.way _ (record { programs = c.in-Ok-open_programs.programs; detaches = c.in-Ok.whole.detaches }) c.fetch_script.ensures.kept refl c.in-Ok-open_programs.ensures.opened
+returns-in-Ok-open_programs-clause-opened g c =
+    opens _ _ c.in-Ok.whole c.in-Ok.ensures.script c.args.way _
+    (record { programs = c.in-Ok-open_programs.programs; detaches = c.in-Ok.whole.detaches }) c.fetch_script.ensures.kept refl c.in-Ok-open_programs.ensures.opened
 
 pub returns-in-Ok-open_programs-clause-plays : goal.returns-in-Ok-open_programs-clause-plays
 returns-in-Ok-open_programs-clause-plays g c = plays _ _ c.in-Ok.whole c.in-Ok.ensures.script c.args.way _ _ c.in-Ok-open_programs.ensures.opened
