@@ -14,9 +14,9 @@ use Rattle.frame_laws.specs.Layout.{FrameField, kept, kept_count}
 use Rattle.call_frames.specs.PlainFrames.{SavedPart, at_every, at_these, call_fields}
 use Rattle.live_passes.specs.Sets.{has}
 use Rattle.live_locals.specs.LiveAt.{LiveAtCalls}
-use Rattle.live_frames.specs.Classes.{KeepSets}
-use Rattle.live_frames.specs.Classes as Made
-use Rattle.live_frames.specs.Views.{fields_in, kept_total, kept_where}
+use Rattle.call_classes.specs.Classes.{KeepSets}
+use Rattle.call_classes.specs.Classes as Made
+use Rattle.call_classes.specs.Views.{fields_in, kept_total, kept_where}
 use Rattle.live_stacks.specs.LiveFrames.{fields_at}
 use Rattle.save_laws.proofs.SavedLive.{live_is_saved}
 use Rattle.live_form.specs.LiveParts.{AllBelow, LiveParts, NumbersBelow, saved_total}

@@ -8,7 +8,7 @@ use Rattle.wa_types.specs.Validity.{Valid}
 use Rattle.flat_laws.specs.Flatten.{flattened}
 use Rattle.call_frames.specs.PlainFrames.{SavedPart, SavedParts}
 use Rattle.live_locals.specs.LiveAt.{LiveAtCalls}
-use Rattle.live_frames.specs.Classes.{KeepSets}
+use Rattle.call_classes.specs.Classes.{KeepSets}
 use Rattle.live_form.specs.LiveParts.{LiveParts}
 
 -- the frames of so many calls of a function with these parts
