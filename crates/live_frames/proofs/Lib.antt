@@ -1,0 +1,7 @@
+pub mod ClassLemmas
+pub mod FoundClasses
+pub mod FramedSets
+pub mod IndexLemmas
+pub mod PieceLemmas
+pub mod PutSteps
+pub mod WholeCodes

@@ -1,0 +1,101 @@
+-- What is put behind a list of instructions, loop by loop.
+use Rattle.std.proofs.Common.{◌≡◌, ℕ, ◌+◌, ◌-◌, ◌<◌, ◌≤◌, List, [], ◌∷◌, length, take, drop, get_or, None, refl, sym, ap, ◌∙◌, arith}
+use Rattle.std.proofs.lemmas.List.{take_all, drop_all}
+use Rattle.wa_types.specs.declared.instrs.Instr.{Instr}
+use Rattle.wa_types.specs.declared.operators.NumOp.TheVariants.{I32Or}
+use Rattle.wa_types.specs.Syntax.{num, basic, local_get, local_set, Code, done, plain, branch}
+use Rattle.wa_types.specs.View.{onto}
+use Rattle.local_spill.specs.Putting.{Puts}
+use Rattle.local_spill.specs.Spilling.{stored_value, loaded_value}
+use Rattle.frame_laws.specs.Layout.{fields_size, stores, loads}
+use Rattle.call_frames.specs.CallTests.{at_call}
+use Rattle.call_frames.specs.FrameParts.{parts_stored, parts_loaded}
+use Rattle.call_frames.specs.PlainFrames.{at_calls, parts_of, sizes_added}
+use Rattle.live_frames.specs.declared.frames.CallClass.{CallClass}
+use Rattle.live_frames.specs.declared.frames.KeptLocal.{KeptLocal}
+use Rattle.live_frames.specs.Putting.{calls_joined}
+use Rattle.live_frames.specs.Views.{fields_of, class_parts}
+use Rattle.live_frames.proofs.PieceLemmas.{stored_more, loaded_more, joined_more, joined_is, class_code, raised_arm, stored_arm, loaded_arm, class_added, class_stored, class_loaded}
+
+-- what is put, told otherwise
+pub put_same : {X : Type 0} (old new : List Instr) (f : X → Code → Code) (x y : X) → x ≡ y → Puts old new (f x) → Puts old new (f y)
+put_same old new f x y e h rest = h rest ∙ ap (λ z. onto old (f z rest)) e
+
+pub no_items : (xs : List ℕ) → length xs < 1 → [] ≡ xs
+no_items [] h = refl
+no_items (x ∷ xs) h = absurd (omega (arith, h))
+
+pub items_are : (xs : List ℕ) → 1 ≤ length xs → xs ≡ get_or xs 0 0 ∷ take (length xs - 1) (drop 1 xs)
+items_are [] h = absurd (omega (arith, h))
+items_are (x ∷ xs) h = ap (λ ys. x ∷ ys) (sym (take_all (length (x ∷ xs) - 1) xs (omega arith)))
+
+-- ---- fields
+
+pub stored_step : (old mid new : List Instr) (sp off o : ℕ) (xs : List KeptLocal) (i : ℕ) (d : KeptLocal) → i < length xs → o ≡ off + fields_size (fields_of (take i xs))
+    → Puts old mid (stores sp off (fields_of (take i xs))) → Puts mid new (λ c. plain (local_get sp) (plain (local_get (get_or xs i d).local) (stored_value (get_or xs i d).ty o c)))
+    → Puts old new (stores sp off (fields_of (take (i + 1) xs)))
+stored_step old mid new sp off o xs i d lt e h k rest =
+    k rest ∙ h (plain (local_get sp) (plain (local_get (get_or xs i d).local) (stored_value (get_or xs i d).ty o rest))) ∙ ap (onto old) (stored_more sp off o xs i d rest lt e)
+
+pub stored_end : (old new : List Instr) (sp off : ℕ) (xs : List KeptLocal) (i : ℕ) → length xs ≤ i → Puts old new (stores sp off (fields_of (take i xs))) → Puts old new (stores sp off (fields_of xs))
+stored_end old new sp off xs i le h rest = h rest ∙ ap (λ ys. onto old (stores sp off (fields_of ys) rest)) (take_all i xs le)
+
+pub loaded_step : (old mid new : List Instr) (sp off o : ℕ) (xs : List KeptLocal) (i : ℕ) (d : KeptLocal) → i < length xs → o ≡ off + fields_size (fields_of (take i xs))
+    → Puts old mid (loads sp off (fields_of (take i xs))) → Puts mid new (λ c. plain (local_get sp) (loaded_value (get_or xs i d).ty o (plain (local_set (get_or xs i d).local) c)))
+    → Puts old new (loads sp off (fields_of (take (i + 1) xs)))
+loaded_step old mid new sp off o xs i d lt e h k rest =
+    k rest ∙ h (plain (local_get sp) (loaded_value (get_or xs i d).ty o (plain (local_set (get_or xs i d).local) rest))) ∙ ap (onto old) (loaded_more sp off o xs i d rest lt e)
+
+pub loaded_end : (old new : List Instr) (sp off : ℕ) (xs : List KeptLocal) (i : ℕ) → length xs ≤ i → Puts old new (loads sp off (fields_of (take i xs))) → Puts old new (loads sp off (fields_of xs))
+loaded_end old new sp off xs i le h rest = h rest ∙ ap (λ ys. onto old (loads sp off (fields_of ys) rest)) (take_all i xs le)
+
+-- ---- tests
+
+pub joined_step : (old mid mid2 new : List Instr) (index : ℕ) (ks : List ℕ) (i d : ℕ) → i < length ks → Puts old mid (calls_joined index (take i ks))
+    → Puts mid mid2 (at_call index (get_or ks i d)) → Puts mid2 new (λ c. plain (basic (num I32Or)) c) → Puts old new (calls_joined index (take (i + 1) ks))
+joined_step old mid mid2 new index ks i d lt h k o rest =
+    let joined : Code = plain (basic (num I32Or)) rest in
+    o rest ∙ k joined ∙ h (at_call index (get_or ks i d) joined) ∙ ap (onto old) (joined_more index ks i d rest lt)
+
+pub joined_end : (old new : List Instr) (index : ℕ) (ks : List ℕ) (i : ℕ) → length ks ≤ i → Puts old new (calls_joined index (take i ks)) → Puts old new (calls_joined index ks)
+joined_end old new index ks i le h rest = h rest ∙ ap (λ js. onto old (calls_joined index js rest)) (take_all i ks le)
+
+pub test_put : (old mid new : List Instr) (index first : ℕ) (ks calls : List ℕ) → calls ≡ first ∷ ks → Puts old mid (at_call index first) → Puts mid new (calls_joined index ks)
+    → Puts old new (at_calls index calls)
+test_put old mid new index first ks calls e h k rest =
+    k rest ∙ h (calls_joined index ks rest) ∙ ap (onto old) (sym (joined_is index ks (at_call index first) rest)) ∙ ap (λ js. onto old (at_calls index js rest)) (sym e)
+
+-- ---- classes
+
+-- under the test of a class, told otherwise
+pub under_class : (old new : List Instr) (index : ℕ) (x : CallClass) (calls : List ℕ) (arm code : Code) → calls ≡ x.calls.items → arm ≡ code
+    → Puts old new (λ c. at_calls index calls (branch None arm done c)) → Puts old new (λ c. class_code index x code c)
+under_class old new index x calls arm code e a h rest =
+    h rest ∙ ap (λ ks. onto old (at_calls index ks (branch None arm done rest))) e ∙ ap (λ z. onto old (at_calls index x.calls.items (branch None z done rest))) a
+
+module _ (old mid new : List Instr) (index sp : ℕ) (xs : List CallClass) (i : ℕ) (d : CallClass) (lt : i < length xs) where
+  pub added_step : Puts old mid (sizes_added index sp (class_parts (take i xs))) → Puts mid new (λ c. class_code index (get_or xs i d) (raised_arm sp (get_or xs i d)) c)
+      → Puts old new (sizes_added index sp (class_parts (take (i + 1) xs)))
+  added_step h k rest = k rest ∙ h (class_code index (get_or xs i d) (raised_arm sp (get_or xs i d)) rest) ∙ ap (onto old) (class_added index sp xs i d lt rest)
+
+  pub class_stored_step : (off : ℕ) → Puts old mid (parts_stored sp off (parts_of index (class_parts (take i xs))))
+      → Puts mid new (λ c. class_code index (get_or xs i d) (stored_arm sp off (get_or xs i d)) c) → Puts old new (parts_stored sp off (parts_of index (class_parts (take (i + 1) xs))))
+  class_stored_step off h k rest = k rest ∙ h (class_code index (get_or xs i d) (stored_arm sp off (get_or xs i d)) rest) ∙ ap (onto old) (class_stored index sp xs i d lt off rest)
+
+  pub class_loaded_step : (off : ℕ) → Puts old mid (parts_loaded sp off (parts_of index (class_parts (drop (i + 1) xs))))
+      → Puts mid new (λ c. class_code index (get_or xs i d) (loaded_arm sp off (get_or xs i d)) c) → Puts old new (parts_loaded sp off (parts_of index (class_parts (drop i xs))))
+  class_loaded_step off h k rest = k rest ∙ h (class_code index (get_or xs i d) (loaded_arm sp off (get_or xs i d)) rest) ∙ ap (onto old) (class_loaded index sp xs i d lt off rest)
+
+pub added_end : (old new : List Instr) (index sp : ℕ) (xs : List CallClass) (i : ℕ) → length xs ≤ i → Puts old new (sizes_added index sp (class_parts (take i xs))) → Puts old new (sizes_added index sp (class_parts xs))
+added_end old new index sp xs i le h rest = h rest ∙ ap (λ ys. onto old (sizes_added index sp (class_parts ys) rest)) (take_all i xs le)
+
+pub class_stored_end : (old new : List Instr) (index sp off : ℕ) (xs : List CallClass) (i : ℕ) → length xs ≤ i → Puts old new (parts_stored sp off (parts_of index (class_parts (take i xs))))
+    → Puts old new (parts_stored sp off (parts_of index (class_parts xs)))
+class_stored_end old new index sp off xs i le h rest = h rest ∙ ap (λ ys. onto old (parts_stored sp off (parts_of index (class_parts ys)) rest)) (take_all i xs le)
+
+pub class_loaded_first : (old : List Instr) (index sp off : ℕ) (xs : List CallClass) (n : ℕ) → n ≡ length xs → Puts old old (parts_loaded sp off (parts_of index (class_parts (drop n xs))))
+class_loaded_first old index sp off xs n e rest = ap (λ ys. onto old (parts_loaded sp off (parts_of index (class_parts ys)) rest)) (sym (drop_all n xs (omega (arith, e))))
+
+pub class_loaded_end : (old new : List Instr) (index sp off : ℕ) (xs : List CallClass) (n : ℕ) → n ≡ 0 → Puts old new (parts_loaded sp off (parts_of index (class_parts (drop n xs))))
+    → Puts old new (parts_loaded sp off (parts_of index (class_parts xs)))
+class_loaded_end old new index sp off xs n e h rest = h rest ∙ ap (λ k. onto old (parts_loaded sp off (parts_of index (class_parts (drop k xs))) rest)) e

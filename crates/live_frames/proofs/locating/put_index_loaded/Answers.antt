@@ -1,0 +1,5 @@
+use Rattle.local_spill.proofs.PutLemmas.{put_one, put_on, set_is}
+use Rattle.live_frames.proofs.locating.put_index_loaded.Goals as goal
+
+pub returns : goal.returns
+returns c = put_on _ _ _ _ _ (put_one _ _ _ _ c.in_ok-push.ensures.items c.load_of.ensures) (put_one _ _ _ _ c.in_ok-push-2.ensures.items (set_is _))

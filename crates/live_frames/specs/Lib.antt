@@ -1,0 +1,4 @@
+pub mod Classes
+pub mod Framed
+pub mod Putting
+pub mod Views

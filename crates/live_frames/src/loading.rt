@@ -1,0 +1,92 @@
+//! Code that loads what frames keep.
+
+ghost use Rattle.std.specs.Prelude.{◌≡◌, ◌≤◌, length, OnOk, IfOk};
+ghost use Rattle.wa_types.specs.Syntax.{local_get, local_set, plain, done};
+ghost use Rattle.wa_types.specs.View.{code};
+ghost use Rattle.frame_laws.specs.Layout.{fields_size, loads};
+ghost use Rattle.call_frames.specs.FrameParts.{parts_loaded, scratch_lowered};
+ghost use Rattle.call_frames.specs.PlainFrames.{parts_of};
+ghost use Rattle.local_spill.specs.Putting.{Puts};
+ghost use Rattle.local_spill.specs.Spilling.{loaded_value};
+ghost use Rattle.live_frames.specs.Putting.{FewFields};
+ghost use Rattle.live_frames.specs.Views.{class_parts, fields_of};
+
+use crate::frames::{CallClass, KeptLocal};
+use crate::putting::{load_of, put_scratch_moved, size_of, width};
+use crate::testing::put_under_test;
+use std::alloc::{AllocError, Global};
+use wa_types::{Instr, NumOp};
+
+/// Puts what loads a local from its offset.
+fn put_loaded(
+    out: &mut Vec<Instr>,
+    scratch: u32,
+    offset: u32,
+    field: KeptLocal,
+) -> Result<(), AllocError>
+    ensures { OnOk result (Puts out.old.items out.new.items (λ c. plain (local_get scratch) (loaded_value field.ty offset (plain (local_set field.local) c)))) }
+{
+    out.push(Instr::LocalGet(scratch))?;
+    out.push(load_of(field.ty, offset))?;
+    out.push(Instr::LocalSet(field.local))?;
+    Ok(())
+}
+
+/// Puts what loads these locals in a row, from an offset on.
+pub(crate) fn put_fields_loaded(
+    out: &mut Vec<Instr>,
+    scratch: u32,
+    offset: u32,
+    fields: &[KeptLocal],
+) -> Result<(), AllocError>
+    requires few { length fields.now ≤ 50000 }
+    requires offset { offset ≤ 400000 }
+    ensures { OnOk result (Puts out.old.items out.new.items (loads scratch offset (fields_of fields.now))) }
+{
+    let mut place = offset;
+    for field in fields {
+        put_loaded(out, scratch, place, *field)?;
+        place += width(field.ty);
+    }
+    Ok(())
+}
+
+/// What lowers the scratch local by the size of a class, and loads its fields.
+fn class_loaded(
+    alloc: Global,
+    scratch: u32,
+    offset: u32,
+    fields: &[KeptLocal],
+) -> Result<Vec<Instr>, AllocError>
+    requires few { length fields.now ≤ 50000 }
+    requires offset { offset ≤ 400000 }
+    ensures { IfOk result (λ v. code v.items ≡ scratch_lowered scratch (fields_size (fields_of fields.now)) (loads scratch offset (fields_of fields.now) done)) }
+{
+    let mut out = Vec::new(alloc);
+    put_scratch_moved(&mut out, scratch, size_of(fields), NumOp::I32Sub)?;
+    put_fields_loaded(&mut out, scratch, offset, fields)?;
+    Ok(out)
+}
+
+/// Puts what loads the fields of the call's class. The last class comes first.
+pub(crate) fn put_classes_loaded(
+    alloc: Global,
+    out: &mut Vec<Instr>,
+    index: u32,
+    scratch: u32,
+    offset: u32,
+    classes: &[CallClass],
+) -> Result<(), AllocError>
+    requires few { FewFields classes.now }
+    requires offset { offset ≤ 400000 }
+    ensures { OnOk result (Puts out.old.items out.new.items (parts_loaded scratch offset (parts_of index (class_parts classes.now)))) }
+{
+    let mut left = classes.len();
+    while left > 0 {
+        left -= 1;
+        let class = &classes[left];
+        let arm = class_loaded(alloc, scratch, offset, &class.fields)?;
+        put_under_test(alloc, out, index, &class.calls, arm)?;
+    }
+    Ok(())
+}

@@ -1,0 +1,124 @@
+//! Code that reads and moves the location, where the next frame goes, and the index.
+
+ghost use Rattle.std.specs.Prelude.{OnOk};
+ghost use Rattle.wa_types.specs.Syntax.{local_set, plain};
+ghost use Rattle.wa_types.specs.declared.values.ValType.TheVariants.{I32};
+ghost use Rattle.call_frames.specs.FrameParts.{location_lowered};
+ghost use Rattle.local_spill.specs.Putting.{Puts};
+ghost use Rattle.local_spill.specs.Spilling.{index_saved, loaded_value, location_of, location_raised};
+ghost use Rattle.live_frames.specs.Putting.{location_noted, room_tested};
+
+use crate::putting::{load_of, store_of};
+use std::alloc::{AllocError, Global};
+use wa_types::{Instr, NumOp, ValType, Value};
+
+/// Puts what gets the location.
+fn put_location(out: &mut Vec<Instr>, address: u32) -> Result<(), AllocError>
+    ensures { OnOk result (Puts out.old.items out.new.items (location_of address)) }
+{
+    out.push(Instr::GlobalGet(address))?;
+    out.push(load_of(ValType::I32, 0))?;
+    Ok(())
+}
+
+/// Puts what traps where a frame of the size that the scratch local tells doesn't fit; else that local becomes the location.
+pub(crate) fn put_room_test(
+    alloc: Global,
+    out: &mut Vec<Instr>,
+    address: u32,
+    scratch: u32,
+) -> Result<(), AllocError>
+    ensures { OnOk result (Puts out.old.items out.new.items (room_tested address scratch)) }
+{
+    let mut trap = Vec::new(alloc);
+    trap.push(Instr::Unreachable)?;
+    out.push(Instr::GlobalGet(address))?;
+    out.push(load_of(ValType::I32, 4))?;
+    put_location(out, address)?;
+    out.push(Instr::Num(NumOp::I32Sub))?;
+    out.push(Instr::LocalGet(scratch))?;
+    out.push(Instr::Num(NumOp::I32LtU))?;
+    out.push(Instr::If {
+        result: None,
+        then_arm: trap,
+        else_arm: Vec::new(alloc),
+    })?;
+    put_location(out, address)?;
+    out.push(Instr::LocalSet(scratch))?;
+    Ok(())
+}
+
+/// Puts what stores the call index.
+pub(crate) fn put_index_saved(
+    out: &mut Vec<Instr>,
+    index: u32,
+    scratch: u32,
+    offset: u32,
+) -> Result<(), AllocError>
+    ensures { OnOk result (Puts out.old.items out.new.items (index_saved index scratch offset)) }
+{
+    out.push(Instr::LocalGet(scratch))?;
+    out.push(Instr::LocalGet(index))?;
+    out.push(store_of(ValType::I32, offset))?;
+    Ok(())
+}
+
+/// Puts what raises the location to the frame's end.
+pub(crate) fn put_location_raised(
+    out: &mut Vec<Instr>,
+    address: u32,
+    scratch: u32,
+    size: u32,
+) -> Result<(), AllocError>
+    ensures { OnOk result (Puts out.old.items out.new.items (location_raised address scratch size)) }
+{
+    out.push(Instr::GlobalGet(address))?;
+    out.push(Instr::LocalGet(scratch))?;
+    out.push(Instr::Const(Value::I32(size)))?;
+    out.push(Instr::Num(NumOp::I32Add))?;
+    out.push(store_of(ValType::I32, 0))?;
+    Ok(())
+}
+
+/// Puts what sets the scratch local to the location, lowered by so many bytes.
+pub(crate) fn put_location_noted(
+    out: &mut Vec<Instr>,
+    address: u32,
+    scratch: u32,
+    size: u32,
+) -> Result<(), AllocError>
+    ensures { OnOk result (Puts out.old.items out.new.items (location_noted address scratch size)) }
+{
+    put_location(out, address)?;
+    out.push(Instr::Const(Value::I32(size)))?;
+    out.push(Instr::Num(NumOp::I32Sub))?;
+    out.push(Instr::LocalTee(scratch))?;
+    Ok(())
+}
+
+/// Puts what loads the call index from an offset behind the address on the stack.
+pub(crate) fn put_index_loaded(
+    out: &mut Vec<Instr>,
+    index: u32,
+    offset: u32,
+) -> Result<(), AllocError>
+    ensures { OnOk result (Puts out.old.items out.new.items (λ c. loaded_value I32 offset (plain (local_set index) c))) }
+{
+    out.push(load_of(ValType::I32, offset))?;
+    out.push(Instr::LocalSet(index))?;
+    Ok(())
+}
+
+/// Puts what lowers the location to the scratch local.
+pub(crate) fn put_location_lowered(
+    out: &mut Vec<Instr>,
+    address: u32,
+    scratch: u32,
+) -> Result<(), AllocError>
+    ensures { OnOk result (Puts out.old.items out.new.items (location_lowered address scratch)) }
+{
+    out.push(Instr::GlobalGet(address))?;
+    out.push(Instr::LocalGet(scratch))?;
+    out.push(store_of(ValType::I32, 0))?;
+    Ok(())
+}

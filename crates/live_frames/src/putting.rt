@@ -1,0 +1,90 @@
+//! Single instructions, and pieces that move the scratch local.
+
+ghost use Rattle.std.specs.Prelude.{◌≡◌, ◌≤◌, length, OnOk};
+ghost use Rattle.wa_types.specs.Syntax.{Code};
+ghost use Rattle.wa_types.specs.Frames.{width};
+ghost use Rattle.wa_types.specs.View.{in_front};
+ghost use Rattle.frame_laws.specs.Layout.{fields_size};
+ghost use Rattle.local_spill.specs.Putting.{Puts};
+ghost use Rattle.local_spill.specs.Spilling.{loaded_value, stored_value};
+ghost use Rattle.live_frames.specs.Putting.{scratch_moved};
+ghost use Rattle.live_frames.specs.Views.{fields_of};
+
+use crate::frames::KeptLocal;
+use std::alloc::AllocError;
+use wa_types::{Instr, NumOp, ValType, Value};
+
+/// The store of a value of this type.
+pub(crate) fn store_of(ty: ValType, offset: u32) -> Instr
+    ensures { (rest : Code) → in_front result rest ≡ stored_value ty offset rest }
+{
+    match ty {
+        ValType::I32 => Instr::Store {
+            op: 0x36,
+            align: 2,
+            offset,
+        },
+        ValType::I64 => Instr::Store {
+            op: 0x37,
+            align: 3,
+            offset,
+        },
+    }
+}
+
+/// The load of a value of this type.
+pub(crate) fn load_of(ty: ValType, offset: u32) -> Instr
+    ensures { (rest : Code) → in_front result rest ≡ loaded_value ty offset rest }
+{
+    match ty {
+        ValType::I32 => Instr::Load {
+            op: 0x28,
+            align: 2,
+            offset,
+        },
+        ValType::I64 => Instr::Load {
+            op: 0x29,
+            align: 3,
+            offset,
+        },
+    }
+}
+
+/// The bytes that a value takes.
+pub(crate) fn width(ty: ValType) -> u32
+    ensures { result ≡ width ty }
+{
+    match ty {
+        ValType::I32 => 4,
+        ValType::I64 => 8,
+    }
+}
+
+/// The bytes that fields take.
+pub(crate) fn size_of(fields: &[KeptLocal]) -> u32
+    requires { length fields.now ≤ 50000 }
+    ensures size { result ≡ fields_size (fields_of fields.now) }
+    ensures small { result ≤ 400000 }
+{
+    let mut size = 0;
+    for field in fields {
+        size += width(field.ty);
+    }
+    size
+}
+
+/// Puts what moves the scratch local by so many bytes.
+pub(crate) fn put_scratch_moved(
+    out: &mut Vec<Instr>,
+    scratch: u32,
+    size: u32,
+    op: NumOp,
+) -> Result<(), AllocError>
+    ensures { OnOk result (Puts out.old.items out.new.items (scratch_moved scratch size op)) }
+{
+    out.push(Instr::LocalGet(scratch))?;
+    out.push(Instr::Const(Value::I32(size)))?;
+    out.push(Instr::Num(op))?;
+    out.push(Instr::LocalSet(scratch))?;
+    Ok(())
+}

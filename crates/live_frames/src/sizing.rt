@@ -1,0 +1,43 @@
+//! Code that tells the size of the call's frame.
+
+ghost use Rattle.std.specs.Prelude.{◌≡◌, OnOk, IfOk};
+ghost use Rattle.wa_types.specs.Syntax.{done};
+ghost use Rattle.wa_types.specs.View.{code};
+ghost use Rattle.call_frames.specs.FrameParts.{scratch_raised};
+ghost use Rattle.call_frames.specs.PlainFrames.{sizes_added};
+ghost use Rattle.local_spill.specs.Putting.{Puts};
+ghost use Rattle.live_frames.specs.Putting.{FewFields};
+ghost use Rattle.live_frames.specs.Views.{class_parts};
+
+use crate::frames::CallClass;
+use crate::putting::{put_scratch_moved, size_of};
+use crate::testing::put_under_test;
+use std::alloc::{AllocError, Global};
+use wa_types::{Instr, NumOp};
+
+/// What raises the scratch local.
+fn raised(alloc: Global, scratch: u32, size: u32) -> Result<Vec<Instr>, AllocError>
+    ensures { IfOk result (λ v. code v.items ≡ scratch_raised scratch size done) }
+{
+    let mut out = Vec::new(alloc);
+    put_scratch_moved(&mut out, scratch, size, NumOp::I32Add)?;
+    Ok(out)
+}
+
+/// Puts what adds the size of the call's class to the scratch local.
+pub(crate) fn put_sizes_added(
+    alloc: Global,
+    out: &mut Vec<Instr>,
+    index: u32,
+    scratch: u32,
+    classes: &[CallClass],
+) -> Result<(), AllocError>
+    requires { FewFields classes.now }
+    ensures { OnOk result (Puts out.old.items out.new.items (sizes_added index scratch (class_parts classes.now))) }
+{
+    for class in classes {
+        let arm = raised(alloc, scratch, size_of(&class.fields))?;
+        put_under_test(alloc, out, index, &class.calls, arm)?;
+    }
+    Ok(())
+}

@@ -1,0 +1,82 @@
+//! The codes that save and that restore the frames of a function.
+
+ghost use Rattle.std.specs.Prelude.{◌≡◌, ◌≤◌, ◌+◌, ℕ, length, IfOk, OnOk};
+ghost use Rattle.wa_types.specs.Syntax.{Code, basic, const, local_set, plain};
+ghost use Rattle.wa_types.specs.View.{onto};
+ghost use Rattle.wa_types.specs.declared.values.Value.TheVariants.{I32 as value_32};
+ghost use Rattle.call_frames.specs.FrameParts.{restoring_by_call, saving_by_call};
+ghost use Rattle.call_frames.specs.PlainFrames.{frames_of};
+ghost use Rattle.local_spill.specs.Putting.{Puts};
+ghost use Rattle.live_frames.specs.Putting.{FewFields};
+ghost use Rattle.live_frames.specs.Views.{told_frames};
+
+use crate::frames::FrameParts;
+use crate::loading::{put_classes_loaded, put_fields_loaded};
+use crate::locating::{
+    put_index_loaded, put_index_saved, put_location_lowered, put_location_noted,
+    put_location_raised, put_room_test,
+};
+use crate::putting::size_of;
+use crate::sizing::put_sizes_added;
+use crate::storing::{put_classes_stored, put_fields_stored};
+use std::alloc::{AllocError, Global};
+use wa_types::{Instr, Value};
+
+/// Puts what sets a local to a number.
+fn put_number_set(out: &mut Vec<Instr>, local: u32, number: u32) -> Result<(), AllocError>
+    ensures { OnOk result (Puts out.old.items out.new.items (λ c. plain (basic (const (value_32 number))) (plain (local_set local) c))) }
+{
+    out.push(Instr::Const(Value::I32(number)))?;
+    out.push(Instr::LocalSet(local))?;
+    Ok(())
+}
+
+/// The code that saves the frame of the call that the index tells, at the location, which is raised to the frame's end. A frame that
+/// doesn't fit traps before anything is written. The call index is local `base`, and the scratch local stands behind it.
+pub fn saving(
+    alloc: Global,
+    parts: &FrameParts,
+    base: u32,
+    address: u32,
+) -> Result<Vec<Instr>, AllocError>
+    requires shared { length parts.now.shared.items ≤ 50000 }
+    requires classes { FewFields parts.now.classes.items }
+    requires base { base ≤ 50000 }
+    ensures { IfOk result (λ v. (count : ℕ) (rest : Code) → onto v.items rest ≡ saving_by_call (frames_of (told_frames count base address parts.now)) rest) }
+{
+    let mut out = Vec::new(alloc);
+    let scratch = base + 1;
+    let shared = size_of(&parts.shared);
+    put_number_set(&mut out, scratch, shared + 4)?;
+    put_sizes_added(alloc, &mut out, base, scratch, &parts.classes)?;
+    put_room_test(alloc, &mut out, address, scratch)?;
+    put_fields_stored(&mut out, scratch, 0, &parts.shared)?;
+    put_classes_stored(alloc, &mut out, base, scratch, shared, &parts.classes)?;
+    put_index_saved(&mut out, base, scratch, shared)?;
+    put_location_raised(&mut out, address, scratch, shared + 4)?;
+    Ok(out)
+}
+
+/// The code that restores the frame below the location, which is lowered to where the frame begins: first the call index, and by it
+/// the locals that its call keeps.
+pub fn restoring(
+    alloc: Global,
+    parts: &FrameParts,
+    base: u32,
+    address: u32,
+) -> Result<Vec<Instr>, AllocError>
+    requires shared { length parts.now.shared.items ≤ 50000 }
+    requires classes { FewFields parts.now.classes.items }
+    requires base { base ≤ 50000 }
+    ensures { IfOk result (λ v. (count : ℕ) (rest : Code) → onto v.items rest ≡ restoring_by_call (frames_of (told_frames count base address parts.now)) rest) }
+{
+    let mut out = Vec::new(alloc);
+    let scratch = base + 1;
+    let shared = size_of(&parts.shared);
+    put_location_noted(&mut out, address, scratch, shared + 4)?;
+    put_index_loaded(&mut out, base, shared)?;
+    put_classes_loaded(alloc, &mut out, base, scratch, shared, &parts.classes)?;
+    put_fields_loaded(&mut out, scratch, 0, &parts.shared)?;
+    put_location_lowered(&mut out, address, scratch)?;
+    Ok(out)
+}

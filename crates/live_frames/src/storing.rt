@@ -1,0 +1,89 @@
+//! Code that stores what frames keep.
+
+ghost use Rattle.std.specs.Prelude.{◌≡◌, ◌≤◌, length, OnOk, IfOk};
+ghost use Rattle.wa_types.specs.Syntax.{local_get, plain, done};
+ghost use Rattle.wa_types.specs.View.{code};
+ghost use Rattle.frame_laws.specs.Layout.{fields_size, stores};
+ghost use Rattle.call_frames.specs.FrameParts.{parts_stored, scratch_raised};
+ghost use Rattle.call_frames.specs.PlainFrames.{parts_of};
+ghost use Rattle.local_spill.specs.Putting.{Puts};
+ghost use Rattle.local_spill.specs.Spilling.{stored_value};
+ghost use Rattle.live_frames.specs.Putting.{FewFields};
+ghost use Rattle.live_frames.specs.Views.{class_parts, fields_of};
+
+use crate::frames::{CallClass, KeptLocal};
+use crate::putting::{put_scratch_moved, size_of, store_of, width};
+use crate::testing::put_under_test;
+use std::alloc::{AllocError, Global};
+use wa_types::{Instr, NumOp};
+
+/// Puts what stores a local at its offset.
+fn put_stored(
+    out: &mut Vec<Instr>,
+    scratch: u32,
+    offset: u32,
+    field: KeptLocal,
+) -> Result<(), AllocError>
+    ensures { OnOk result (Puts out.old.items out.new.items (λ c. plain (local_get scratch) (plain (local_get field.local) (stored_value field.ty offset c)))) }
+{
+    out.push(Instr::LocalGet(scratch))?;
+    out.push(Instr::LocalGet(field.local))?;
+    out.push(store_of(field.ty, offset))?;
+    Ok(())
+}
+
+/// Puts what stores these locals in a row, from an offset on.
+pub(crate) fn put_fields_stored(
+    out: &mut Vec<Instr>,
+    scratch: u32,
+    offset: u32,
+    fields: &[KeptLocal],
+) -> Result<(), AllocError>
+    requires few { length fields.now ≤ 50000 }
+    requires offset { offset ≤ 400000 }
+    ensures { OnOk result (Puts out.old.items out.new.items (stores scratch offset (fields_of fields.now))) }
+{
+    let mut place = offset;
+    for field in fields {
+        put_stored(out, scratch, place, *field)?;
+        place += width(field.ty);
+    }
+    Ok(())
+}
+
+/// What stores the fields of a class, and raises the scratch local by their size.
+fn class_stored(
+    alloc: Global,
+    scratch: u32,
+    offset: u32,
+    fields: &[KeptLocal],
+) -> Result<Vec<Instr>, AllocError>
+    requires few { length fields.now ≤ 50000 }
+    requires offset { offset ≤ 400000 }
+    ensures { IfOk result (λ v. code v.items ≡ stores scratch offset (fields_of fields.now) (scratch_raised scratch (fields_size (fields_of fields.now)) done)) }
+{
+    let mut out = Vec::new(alloc);
+    put_fields_stored(&mut out, scratch, offset, fields)?;
+    put_scratch_moved(&mut out, scratch, size_of(fields), NumOp::I32Add)?;
+    Ok(out)
+}
+
+/// Puts what stores the fields of the call's class.
+pub(crate) fn put_classes_stored(
+    alloc: Global,
+    out: &mut Vec<Instr>,
+    index: u32,
+    scratch: u32,
+    offset: u32,
+    classes: &[CallClass],
+) -> Result<(), AllocError>
+    requires few { FewFields classes.now }
+    requires offset { offset ≤ 400000 }
+    ensures { OnOk result (Puts out.old.items out.new.items (parts_stored scratch offset (parts_of index (class_parts classes.now)))) }
+{
+    for class in classes {
+        let arm = class_stored(alloc, scratch, offset, &class.fields)?;
+        put_under_test(alloc, out, index, &class.calls, arm)?;
+    }
+    Ok(())
+}
