@@ -5,4 +5,6 @@ mod body;
 mod function;
 mod locals;
 
+pub use body::{body_around, unless_normal};
 pub use function::{Written, emit_func, write_func};
+pub use locals::written_locals;

@@ -5,7 +5,6 @@ ghost use Rattle.wa_types.specs.Validity.{Valid as IsValid};
 ghost use Rattle.wa_types.specs.View.{module_of};
 ghost use Rattle.asyncify_runtime.specs.Reserved.{reserved_at};
 ghost use Rattle.call_graph.specs.Settings.{settings_of};
-ghost use Rattle.call_graph.specs.declared.settings.Policy.TheVariants.{All};
 ghost use Rattle.module_rewrite.specs.declared.fault.RewriteFault.TheVariants.{Memory};
 ghost use Rattle.module_rewrite.specs.Whole.{Asyncifies};
 
@@ -61,7 +60,6 @@ pub fn asyncify_module(
     settings: &Settings,
 ) -> Result<Rewritten, RewriteFault>
     requires sizes { StrictSizeRule (module_of valid.now) }
-    requires policy { settings.now.policy ≡ All }
     ensures { Asyncifies (module_of valid.now) (settings_of settings.now) result }
 {
     let module = valid.module();
