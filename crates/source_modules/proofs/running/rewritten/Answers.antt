@@ -10,8 +10,8 @@ use Rattle.source_modules.proofs.Accepted.{strict, few_written, none_passes, non
 use Rattle.source_modules.proofs.FreeNames.{runs_rewritten}
 use Rattle.source_modules.proofs.running.rewritten.Goals as goal
 
-pub asyncify_module-requires-clause-sizes : goal.asyncify_module-requires-clause-sizes
-asyncify_module-requires-clause-sizes c = strict c.args.bytes.now (module_of c.in_ok-valid.valid) c.in_ok-valid.ensures.source
+pub asyncify_module-requires : goal.asyncify_module-requires
+asyncify_module-requires c = record { sizes = strict c.args.bytes.now (module_of c.in_ok-valid.valid) c.in_ok-valid.ensures.source }
 
 pub rewrite_fault-requires : goal.rewrite_fault-requires
 rewrite_fault-requires c =
