@@ -1,7 +1,3 @@
-pub mod ClassLemmas
-pub mod FoundClasses
-pub mod FramedSets
-pub mod IndexLemmas
 pub mod PieceLemmas
 pub mod PutSteps
 pub mod WholeCodes

@@ -12,10 +12,10 @@ use Rattle.call_frames.specs.CallTests.{at_call, at_either}
 use Rattle.call_frames.specs.FrameParts.{parts_stored, parts_loaded, scratch_raised, scratch_lowered}
 use Rattle.call_frames.specs.PlainFrames.{or_calls, at_calls, parts_of, sizes_added}
 use Rattle.call_frames.proofs.FieldRows.{join_size}
-use Rattle.live_frames.specs.declared.frames.CallClass.{CallClass}
-use Rattle.live_frames.specs.declared.frames.KeptLocal.{KeptLocal}
+use Rattle.call_classes.specs.declared.frames.CallClass.{CallClass}
+use Rattle.call_classes.specs.declared.frames.KeptLocal.{KeptLocal}
 use Rattle.live_frames.specs.Putting.{calls_joined}
-use Rattle.live_frames.specs.Views.{kept_field, fields_of, class_part, class_parts}
+use Rattle.call_classes.specs.Views.{kept_field, fields_of, class_part, class_parts}
 
 -- ---- sizes
 

@@ -11,10 +11,10 @@ use Rattle.frame_laws.specs.Layout.{fields_size, stores, loads}
 use Rattle.call_frames.specs.CallTests.{at_call}
 use Rattle.call_frames.specs.FrameParts.{parts_stored, parts_loaded}
 use Rattle.call_frames.specs.PlainFrames.{at_calls, parts_of, sizes_added}
-use Rattle.live_frames.specs.declared.frames.CallClass.{CallClass}
-use Rattle.live_frames.specs.declared.frames.KeptLocal.{KeptLocal}
+use Rattle.call_classes.specs.declared.frames.CallClass.{CallClass}
+use Rattle.call_classes.specs.declared.frames.KeptLocal.{KeptLocal}
 use Rattle.live_frames.specs.Putting.{calls_joined}
-use Rattle.live_frames.specs.Views.{fields_of, class_parts}
+use Rattle.call_classes.specs.Views.{fields_of, class_parts}
 use Rattle.live_frames.proofs.PieceLemmas.{stored_more, loaded_more, joined_more, joined_is, class_code, raised_arm, stored_arm, loaded_arm, class_added, class_stored, class_loaded}
 
 -- what is put, told otherwise

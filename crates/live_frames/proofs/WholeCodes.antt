@@ -7,10 +7,10 @@ use Rattle.local_spill.specs.Spilling.{loaded_value, index_saved, location_raise
 use Rattle.frame_laws.specs.Layout.{FrameField, fields_size, stores, loads}
 use Rattle.call_frames.specs.FrameParts.{parts_stored, parts_loaded, shared_size, location_lowered, saving_by_call, restoring_by_call}
 use Rattle.call_frames.specs.PlainFrames.{SavedPart, parts_of, sizes_added, frames_of}
-use Rattle.live_frames.specs.declared.frames.CallClass.{CallClass}
-use Rattle.live_frames.specs.declared.frames.FrameParts.{FrameParts}
+use Rattle.call_classes.specs.declared.frames.CallClass.{CallClass}
+use Rattle.call_classes.specs.declared.frames.FrameParts.{FrameParts}
 use Rattle.live_frames.specs.Putting.{location_noted, room_tested}
-use Rattle.live_frames.specs.Views.{fields_of, class_parts, told_frames}
+use Rattle.call_classes.specs.Views.{fields_of, class_parts, told_frames}
 
 none_shared : (index : ℕ) (cs : List CallClass) → shared_size (parts_of index (class_parts cs)) ≡ 0
 none_shared index [] = omega arith

@@ -1,4 +1,1 @@
-pub mod Classes
-pub mod Framed
 pub mod Putting
-pub mod Views

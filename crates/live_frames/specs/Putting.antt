@@ -1,12 +1,11 @@
 -- Pieces of the codes that stand between the parts.
-use Rattle.std.specs.Prelude.{ℕ, ◌≤◌, List, [], ◌∷◌, length, None, All}
+use Rattle.std.specs.Prelude.{ℕ, List, [], ◌∷◌, None}
 use Rattle.wa_types.specs.declared.operators.NumOp.{NumOp}
 use Rattle.wa_types.specs.declared.operators.NumOp.TheVariants.{I32Or, I32Sub, I32LtU}
 use Rattle.wa_types.specs.declared.values.Value.TheVariants as V
 use Rattle.wa_types.specs.Syntax.{const, num, global_get, load, basic, local_get, local_set, local_tee, unreachable, Code, done, plain, branch}
 use Rattle.local_spill.specs.Spilling.{location_of}
 use Rattle.call_frames.specs.CallTests.{at_call}
-use Rattle.live_frames.specs.declared.frames.CallClass.{CallClass}
 
 -- the index compared with more calls, each joined with what stands
 abbrev pub calls_joined : (index : ℕ) → List ℕ → Code → Code
@@ -26,7 +25,3 @@ room_tested adr sp next =
 -- the scratch local becomes the location, lowered by so many bytes
 abbrev pub location_noted : (address scratch n : ℕ) → Code → Code
 location_noted adr sp n next = location_of adr (plain (basic (const (V.I32 n))) (plain (basic (num I32Sub)) (plain (local_tee sp) next)))
-
--- classes of few fields, so that their sizes are small
-abbrev pub FewFields : List CallClass → Type 0
-FewFields cs = All (λ (c : CallClass). length c.fields.items ≤ 50000) cs

@@ -1,15 +1,9 @@
-//! The code of frames that differ by call, from the sets of locals that the calls keep.
+//! The code of frames that differ by call, instruction by instruction.
 //!
-//! Calls that keep the same locals are a class: its fields stand under one test of the call index, and calls that keep nothing need
-//! none (`saved_parts`). Where all calls keep the same, their fields stand under no test. `saving` and `restoring` are the codes of
-//! `call_frames` for such parts; what they do is proved there.
+//! What all calls keep is stored and loaded at fixed offsets. The fields of a class of calls stand under one test of the call index.
+//! `saving` and `restoring` are the codes of `call_frames` for such parts; what they do is proved there.
 #![tactic(auto)]
 
-mod classing;
-mod finding;
-mod frames;
-mod keeping;
-mod laws;
 mod loading;
 mod locating;
 mod putting;
@@ -18,7 +12,4 @@ mod spilling;
 mod storing;
 mod testing;
 
-pub use classing::saved_parts;
-pub use frames::{CallClass, FrameParts, KeptLocal};
-pub use laws::sets_are_framed;
 pub use spilling::{restoring, saving};

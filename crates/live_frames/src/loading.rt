@@ -8,12 +8,12 @@ ghost use Rattle.call_frames.specs.FrameParts.{parts_loaded, scratch_lowered};
 ghost use Rattle.call_frames.specs.PlainFrames.{parts_of};
 ghost use Rattle.local_spill.specs.Putting.{Puts};
 ghost use Rattle.local_spill.specs.Spilling.{loaded_value};
-ghost use Rattle.live_frames.specs.Putting.{FewFields};
-ghost use Rattle.live_frames.specs.Views.{class_parts, fields_of};
+ghost use Rattle.call_classes.specs.Classes.{FewFields};
+ghost use Rattle.call_classes.specs.Views.{class_parts, fields_of};
 
-use crate::frames::{CallClass, KeptLocal};
 use crate::putting::{load_of, put_scratch_moved, size_of, width};
 use crate::testing::put_under_test;
+use call_classes::{CallClass, KeptLocal};
 use std::alloc::{AllocError, Global};
 use wa_types::{Instr, NumOp};
 

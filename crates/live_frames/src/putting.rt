@@ -8,9 +8,9 @@ ghost use Rattle.frame_laws.specs.Layout.{fields_size};
 ghost use Rattle.local_spill.specs.Putting.{Puts};
 ghost use Rattle.local_spill.specs.Spilling.{loaded_value, stored_value};
 ghost use Rattle.live_frames.specs.Putting.{scratch_moved};
-ghost use Rattle.live_frames.specs.Views.{fields_of};
+ghost use Rattle.call_classes.specs.Views.{fields_of};
 
-use crate::frames::KeptLocal;
+use call_classes::KeptLocal;
 use std::alloc::AllocError;
 use wa_types::{Instr, NumOp, ValType, Value};
 

@@ -6,12 +6,12 @@ ghost use Rattle.wa_types.specs.View.{code};
 ghost use Rattle.call_frames.specs.FrameParts.{scratch_raised};
 ghost use Rattle.call_frames.specs.PlainFrames.{sizes_added};
 ghost use Rattle.local_spill.specs.Putting.{Puts};
-ghost use Rattle.live_frames.specs.Putting.{FewFields};
-ghost use Rattle.live_frames.specs.Views.{class_parts};
+ghost use Rattle.call_classes.specs.Classes.{FewFields};
+ghost use Rattle.call_classes.specs.Views.{class_parts};
 
-use crate::frames::CallClass;
 use crate::putting::{put_scratch_moved, size_of};
 use crate::testing::put_under_test;
+use call_classes::CallClass;
 use std::alloc::{AllocError, Global};
 use wa_types::{Instr, NumOp};
 

@@ -7,10 +7,9 @@ ghost use Rattle.wa_types.specs.declared.values.Value.TheVariants.{I32 as value_
 ghost use Rattle.call_frames.specs.FrameParts.{restoring_by_call, saving_by_call};
 ghost use Rattle.call_frames.specs.PlainFrames.{frames_of};
 ghost use Rattle.local_spill.specs.Putting.{Puts};
-ghost use Rattle.live_frames.specs.Putting.{FewFields};
-ghost use Rattle.live_frames.specs.Views.{told_frames};
+ghost use Rattle.call_classes.specs.Classes.{FewFields};
+ghost use Rattle.call_classes.specs.Views.{told_frames};
 
-use crate::frames::FrameParts;
 use crate::loading::{put_classes_loaded, put_fields_loaded};
 use crate::locating::{
     put_index_loaded, put_index_saved, put_location_lowered, put_location_noted,
@@ -19,6 +18,7 @@ use crate::locating::{
 use crate::putting::size_of;
 use crate::sizing::put_sizes_added;
 use crate::storing::{put_classes_stored, put_fields_stored};
+use call_classes::FrameParts;
 use std::alloc::{AllocError, Global};
 use wa_types::{Instr, Value};
 

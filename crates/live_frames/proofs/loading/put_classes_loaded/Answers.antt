@@ -5,8 +5,8 @@ use Rattle.frame_laws.specs.Layout.{fields_size, loads}
 use Rattle.call_frames.specs.FrameParts.{parts_loaded, scratch_lowered}
 use Rattle.call_frames.specs.PlainFrames.{parts_of}
 use Rattle.local_spill.specs.Putting.{Puts}
-use Rattle.live_frames.specs.declared.frames.CallClass.{CallClass}
-use Rattle.live_frames.specs.Views.{class_parts, fields_of}
+use Rattle.call_classes.specs.declared.frames.CallClass.{CallClass}
+use Rattle.call_classes.specs.Views.{class_parts, fields_of}
 use Rattle.live_frames.proofs.PutSteps.{class_loaded_step, under_class}
 use Rattle.live_frames.proofs.loading.put_classes_loaded.Goals as goal
 

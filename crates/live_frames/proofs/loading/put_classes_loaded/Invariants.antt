@@ -2,7 +2,7 @@ use Rattle.std.proofs.Common.{◌≤◌, drop, length}
 use Rattle.call_frames.specs.FrameParts.{parts_loaded}
 use Rattle.call_frames.specs.PlainFrames.{parts_of}
 use Rattle.local_spill.specs.Putting.{Puts}
-use Rattle.live_frames.specs.Views.{class_parts}
+use Rattle.call_classes.specs.Views.{class_parts}
 use Rattle.live_frames.proofs.loading.put_classes_loaded.Given as goal
 
 abbrev pub invariant-loop-left : goal.invariant-loop-left

@@ -3,8 +3,8 @@ use Rattle.wa_types.specs.Syntax.{done}
 use Rattle.wa_types.specs.View.{code}
 use Rattle.frame_laws.specs.Layout.{fields_size}
 use Rattle.call_frames.specs.FrameParts.{scratch_raised}
-use Rattle.live_frames.specs.declared.frames.CallClass.{CallClass}
-use Rattle.live_frames.specs.Views.{fields_of}
+use Rattle.call_classes.specs.declared.frames.CallClass.{CallClass}
+use Rattle.call_classes.specs.Views.{fields_of}
 use Rattle.live_frames.proofs.PutSteps.{added_step, under_class}
 use Rattle.live_frames.proofs.sizing.put_sizes_added.Goals as goal
 

@@ -1,7 +1,7 @@
 use Rattle.std.proofs.Common.{take}
 use Rattle.call_frames.specs.PlainFrames.{sizes_added}
 use Rattle.local_spill.specs.Putting.{Puts}
-use Rattle.live_frames.specs.Views.{class_parts}
+use Rattle.call_classes.specs.Views.{class_parts}
 use Rattle.live_frames.proofs.sizing.put_sizes_added.Given as goal
 
 abbrev pub invariant-loop-class : goal.invariant-loop-class

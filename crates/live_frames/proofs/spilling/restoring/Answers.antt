@@ -3,7 +3,7 @@ use Rattle.frame_laws.specs.Layout.{fields_size, loads}
 use Rattle.call_frames.specs.FrameParts.{parts_loaded}
 use Rattle.call_frames.specs.PlainFrames.{parts_of}
 use Rattle.local_spill.proofs.PutLemmas.{put_first, put_on}
-use Rattle.live_frames.specs.Views.{class_parts, fields_of}
+use Rattle.call_classes.specs.Views.{class_parts, fields_of}
 use Rattle.live_frames.proofs.PutSteps.{put_same}
 use Rattle.live_frames.proofs.WholeCodes.{restored_whole}
 use Rattle.live_frames.proofs.spilling.restoring.Goals as goal

@@ -3,7 +3,7 @@ use Rattle.frame_laws.specs.Layout.{fields_size, stores}
 use Rattle.call_frames.specs.FrameParts.{parts_stored}
 use Rattle.call_frames.specs.PlainFrames.{parts_of, sizes_added}
 use Rattle.local_spill.proofs.PutLemmas.{put_first, put_on}
-use Rattle.live_frames.specs.Views.{class_parts, fields_of}
+use Rattle.call_classes.specs.Views.{class_parts, fields_of}
 use Rattle.live_frames.proofs.PutSteps.{put_same}
 use Rattle.live_frames.proofs.WholeCodes.{saved_whole}
 use Rattle.live_frames.proofs.spilling.saving.Goals as goal

@@ -3,8 +3,8 @@ use Rattle.wa_types.specs.Syntax.{done}
 use Rattle.wa_types.specs.View.{code}
 use Rattle.frame_laws.specs.Layout.{fields_size, stores}
 use Rattle.call_frames.specs.FrameParts.{scratch_raised}
-use Rattle.live_frames.specs.declared.frames.CallClass.{CallClass}
-use Rattle.live_frames.specs.Views.{fields_of}
+use Rattle.call_classes.specs.declared.frames.CallClass.{CallClass}
+use Rattle.call_classes.specs.Views.{fields_of}
 use Rattle.live_frames.proofs.PutSteps.{class_stored_step, under_class}
 use Rattle.live_frames.proofs.storing.put_classes_stored.Goals as goal
 

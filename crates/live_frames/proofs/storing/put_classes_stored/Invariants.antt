@@ -2,7 +2,7 @@ use Rattle.std.proofs.Common.{take}
 use Rattle.call_frames.specs.FrameParts.{parts_stored}
 use Rattle.call_frames.specs.PlainFrames.{parts_of}
 use Rattle.local_spill.specs.Putting.{Puts}
-use Rattle.live_frames.specs.Views.{class_parts}
+use Rattle.call_classes.specs.Views.{class_parts}
 use Rattle.live_frames.proofs.storing.put_classes_stored.Given as goal
 
 abbrev pub invariant-loop-class : goal.invariant-loop-class

@@ -1,0 +1,4 @@
+pub mod ClassLemmas
+pub mod FoundClasses
+pub mod FramedSets
+pub mod IndexLemmas

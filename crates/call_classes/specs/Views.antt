@@ -1,0 +1,48 @@
+-- Parts of frames as the definitions have them, and the fields of a set.
+use Rattle.std.specs.Prelude.{ℕ, suc, ◌+◌, List, [], ◌∷◌, map, Bool, true, false, Vec}
+use Rattle.std.specs.declared.alloc.Global.{Global}
+use Rattle.wa_types.specs.declared.values.ValType.{ValType}
+use Rattle.frame_laws.specs.Layout.{FrameField, kept, kept_count}
+use Rattle.call_frames.specs.PlainFrames.{SavedPart, at_every, at_these, SavedParts}
+use Rattle.call_classes.specs.declared.frames.CallClass.{CallClass}
+use Rattle.call_classes.specs.declared.frames.FrameParts.{FrameParts}
+use Rattle.call_classes.specs.declared.frames.KeptLocal.{KeptLocal}
+
+abbrev pub kept_field : KeptLocal → FrameField
+kept_field k = kept k.local k.ty
+
+abbrev pub fields_of : List KeptLocal → List FrameField
+fields_of ks = map kept_field ks
+
+abbrev pub class_part : CallClass → SavedPart
+class_part c = at_these c.calls.items (fields_of c.fields.items)
+
+abbrev pub class_parts : List CallClass → List SavedPart
+class_parts cs = map class_part cs
+
+abbrev pub parts_view : FrameParts → List SavedPart
+parts_view p = at_every (fields_of p.shared.items) ∷ class_parts p.classes.items
+
+-- the frames of so many calls, where the call index stands in local `base`, and the scratch local behind it
+abbrev pub told_frames : (count base address : ℕ) → FrameParts → SavedParts
+told_frames count base address p = record { count = count; address = address; index = base; scratch = base + 1; parts = parts_view p }
+
+-- ---- sets
+
+abbrev pub kept_where : Bool → ℕ → ValType → List FrameField → List FrameField
+kept_where true x t rest = kept x t ∷ rest
+kept_where false x t rest = rest
+
+-- the fields of the locals that a set has, from local x on
+abbrev pub fields_in : (x : ℕ) → List Bool → List ValType → List FrameField
+fields_in x [] ts = []
+fields_in x (b ∷ bs) [] = []
+fields_in x (b ∷ bs) (t ∷ ts) = kept_where b x t (fields_in (suc x) bs ts)
+
+abbrev pub sets_of : List (Vec Bool Global) → List (List Bool)
+sets_of sets = map (λ (set : Vec Bool Global). set.items) sets
+
+-- how many locals the calls keep together
+abbrev pub kept_total : List ValType → List (List Bool) → ℕ
+kept_total types [] = 0
+kept_total types (set ∷ sets) = kept_count (fields_in 0 set types) + kept_total types sets

@@ -1,7 +1,0 @@
-use Rattle.std.proofs.Common.{take}
-use Rattle.live_frames.specs.Classes.{AllAre}
-use Rattle.live_frames.specs.Views.{sets_of}
-use Rattle.live_frames.proofs.classing.are_alike.Given as goal
-
-abbrev pub invariant-loop-set : goal.invariant-loop-set
-invariant-loop-set l = AllAre l.first (sets_of (take l.set-index l.sets))
