@@ -25,8 +25,8 @@ pub struct Written {
     pub frames: Vec<Layout>,
 }
 
-/// The function as it is written, and its frames, where `which` tells the functions that may pause and `listed` the imports
-/// that may. Takes time linear in the flat function and in what is answered.
+/// The function as it is written under the policy `all`, and its frames, where `which` tells the functions that may pause and
+/// `listed` the imports that may. Takes time linear in the flat function and in what is answered.
 pub fn write_func(
     alloc: Global,
     module: &Module,
@@ -50,7 +50,7 @@ pub fn write_func(
     Ok(Written { func, frames })
 }
 
-/// The function as it is written, without its frames, each of which names all its saved locals. Takes time and memory linear
+/// The function as it is written under the policy `all`, without its frames, each of which names all its saved locals. Takes time and memory linear
 /// in the flat function.
 pub fn emit_func(
     alloc: Global,

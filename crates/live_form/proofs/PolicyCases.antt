@@ -24,7 +24,8 @@ use Rattle.live_form.proofs.LiveModules as Live
 
 -- ---- laws
 
-live_rewriting : (m : Module) (s : Settings) (which : List Bool) (parts : (index : ℕ) → SavedParts) → CanBeEmitted m s which → s.policy ≡ save_live → AllLiveParts m s which parts → LiveRewriting m s which parts
+live_rewriting : (m : Module) (s : Settings) (which : List Bool) (parts : (index : ℕ) → SavedParts) → CanBeEmitted m s which → s.policy ≡ save_live → AllLiveParts m s which parts
+    → LiveRewriting m s which parts
 live_rewriting m s which parts c policy live = record { valid = c.valid; sizes = c.sizes; few = c.few; policy = policy; tells = c.tells; live = live }
 
 pub valid_as : EmittedAsIsValid
@@ -127,7 +128,8 @@ module _ (m : Module) (s : Settings) (which : List Bool) where
       pub all_owed : AllLiveParts m s which parts
       all_owed x f = by (nat_lt x (func_imports m)) refl
         where
-          by : (b : Bool) → nat_lt x (func_imports m) ≡ b → (if b then None else slice_get m.funcs (x - func_imports m)) ≡ Some f → is_told (slice_get which x) ≡ true → LiveParts m s which x f (parts x)
+          by : (b : Bool) → nat_lt x (func_imports m) ≡ b → (if b then None else slice_get m.funcs (x - func_imports m)) ≡ Some f → is_told (slice_get which x) ≡ true
+              → LiveParts m s which x f (parts x)
           by true e is told = cc
           by false e is told =
               let le = ltb-false x (func_imports m) e in

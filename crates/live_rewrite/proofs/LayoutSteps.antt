@@ -18,7 +18,9 @@ use Rattle.live_rewrite.specs.Layouts.{IsSetFrame, SetFrames}
 
 named_append : (keep : ℕ → Bool) (x : ℕ) (ts us : List ValType) → named_places keep x (ts ++ us) ≡ named_places keep x ts ++ named_places keep (x + length ts) us
 named_append keep x [] us = let z : x ≡ x + 0 = omega arith in ap (λ k. named_places keep k us) z
-named_append keep x (t ∷ ts) us = by (keep x) (named_append keep (suc x) ts us ∙ ap (λ k. named_places keep (suc x) ts ++ named_places keep k us) (let z : suc x + length ts ≡ x + suc (length ts) = omega arith in z))
+named_append keep x (t ∷ ts) us =
+    let z : suc x + length ts ≡ x + suc (length ts) = omega arith in
+    by (keep x) (named_append keep (suc x) ts us ∙ ap (λ k. named_places keep (suc x) ts ++ named_places keep k us) z)
   where
     by : (b : Bool) → named_places keep (suc x) (ts ++ us) ≡ named_places keep (suc x) ts ++ named_places keep (x + suc (length ts)) us
         → place_onto b x t (named_places keep (suc x) (ts ++ us)) ≡ place_onto b x t (named_places keep (suc x) ts) ++ named_places keep (x + suc (length ts)) us
@@ -43,7 +45,8 @@ get_same (b ∷ bs) zero d e lt = refl
 get_same (b ∷ bs) (suc i) d e lt = get_same bs i d e (omega (arith, lt))
 
 pub set_step : (places new : List Place) (set : List Bool) (types : List ValType) (x : ℕ) (p : Place) (d : ValType) (e : Bool) → x < length set → length set ≡ length types
-    → new ≡ places ++ (if get_or set x e then p ∷ [] else []) → p.local ≡ x → p.ty ≡ get_or types x d → map saved_local places ≡ named_places (has set) 0 (take x types) → map saved_local new ≡ named_places (has set) 0 (take (x + 1) types)
+    → new ≡ places ++ (if get_or set x e then p ∷ [] else []) → p.local ≡ x → p.ty ≡ get_or types x d
+    → map saved_local places ≡ named_places (has set) 0 (take x types) → map saved_local new ≡ named_places (has set) 0 (take (x + 1) types)
 set_step places new set types x p d e within size is el et before =
     let told = get_or set x e in
     let eb : told ≡ has set x = get_same set x e false within in
@@ -77,8 +80,8 @@ row_locals : (off : ℕ) (ps : List Place) → map saved_local (in_a_row off ps)
 row_locals off [] = refl
 row_locals off (p ∷ ps) = ap (λ qs. saved_local p ∷ qs) (row_locals (off + width p.ty) ps)
 
-pub set_frame : (types : List ValType) (set : List Bool) (k : ℕ) (l : Layout) (saved : List Place) → map saved_local saved ≡ named_places (has set) 0 types → l.index ≡ k → l.places.items ≡ in_a_row 0 saved
-    → SizedAsSaved saved l.size → IsSetFrame types set k l
+pub set_frame : (types : List ValType) (set : List Bool) (k : ℕ) (l : Layout) (saved : List Place) → map saved_local saved ≡ named_places (has set) 0 types → l.index ≡ k
+    → l.places.items ≡ in_a_row 0 saved → SizedAsSaved saved l.size → IsSetFrame types set k l
 set_frame types set k l saved e ei ep sized = record {
   index = ei;
   locals = ap (map saved_local) ep ∙ row_locals 0 saved ∙ e;
@@ -102,12 +105,14 @@ pub frames_step : (types : List ValType) (sets : List (Vec Bool Global)) (ls new
 frames_step types sets ls new i d l lt e is h =
     let len : length (map items (take i sets)) ≡ i = length-map (take i sets) items ∙ length-take-le i sets (omega (arith, lt)) in
     let z : i ≡ 0 + length (map items (take i sets)) = omega (arith, len) in
-    let more : map items (take (i + 1) sets) ≡ map items (take i sets) ++ (get_or sets i d).items ∷ [] = ap (map items) (take_more sets i d lt) ∙ map-append items (take i sets) (get_or sets i d ∷ []) in
+    let more : map items (take (i + 1) sets) ≡ map items (take i sets) ++ (get_or sets i d).items ∷ [] =
+    ap (map items) (take_more sets i d lt) ∙ map-append items (take i sets) (get_or sets i d ∷ []) in
     subst (λ ss. SetFrames types 0 ss new) (sym more)
     (subst (SetFrames types 0 (map items (take i sets) ++ (get_or sets i d).items ∷ [])) (sym e)
     (frames_more types 0 (map items (take i sets)) ls (get_or sets i d).items l h (subst (λ n. IsSetFrame types (get_or sets i d).items n l) z is)))
 
-pub frames_end : (types : List ValType) (sets : List (Vec Bool Global)) (ls : List Layout) (i : ℕ) → length sets ≤ i → SetFrames types 0 (map items (take i sets)) ls → SetFrames types 0 (map items sets) ls
+pub frames_end : (types : List ValType) (sets : List (Vec Bool Global)) (ls : List Layout) (i : ℕ) → length sets ≤ i → SetFrames types 0 (map items (take i sets)) ls
+    → SetFrames types 0 (map items sets) ls
 frames_end types sets ls i le h = subst (λ ss. SetFrames types 0 (map items ss) ls) (take_all i sets le) h
 
 -- ---- as the policy has them

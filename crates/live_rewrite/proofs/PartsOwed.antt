@@ -20,9 +20,9 @@ use Rattle.guard_form.specs.Guarded.{function_body, guarded_code}
 use Rattle.call_frames.specs.FrameParts.{restoring_by_call, saving_by_call}
 use Rattle.call_frames.specs.PlainFrames.{SavedParts, frames_of}
 use Rattle.live_locals.specs.LiveAt.{LiveAtCalls}
-use Rattle.live_frames.specs.declared.frames.FrameParts.{FrameParts}
-use Rattle.live_frames.specs.Classes.{KeepSets}
-use Rattle.live_frames.specs.Views.{parts_view, told_frames}
+use Rattle.call_classes.specs.declared.frames.FrameParts.{FrameParts}
+use Rattle.call_classes.specs.Classes.{KeepSets}
+use Rattle.call_classes.specs.Views.{parts_view, told_frames}
 use Rattle.live_form.specs.EmittedAs.{IsLiveWritten, live_written}
 use Rattle.live_form.specs.LiveParts.{LiveParts}
 use Rattle.func_rewrite.specs.Frames.{IsFlattened}

@@ -19,8 +19,8 @@ use Rattle.live_stacks.specs.LiveFrames.{fields_at}
 use Rattle.live_locals.specs.LiveAt.{KeepsAt, LiveAtCalls}
 use Rattle.live_passes.specs.Sets.{has}
 use Rattle.save_laws.proofs.SavedLive.{live_is_saved}
-use Rattle.live_frames.specs.Classes as Made
-use Rattle.live_frames.specs.Views.{fields_in, kept_total, kept_where}
+use Rattle.call_classes.specs.Classes as Made
+use Rattle.call_classes.specs.Views.{fields_in, kept_total, kept_where}
 use Rattle.live_form.specs.LiveParts as Owed
 use Rattle.func_rewrite.specs.Frames.{IsFlattened}
 

@@ -53,7 +53,8 @@ fn with_parts(alloc: Global, module: Module) -> Result<Valid, RewriteFault>
 
 /// The module rewritten so that it can stop in the middle of a call of a listed import and go on later. `Reserved` comes
 /// exactly where `reserved` gives that place; else `Locals` exactly where a function that may pause would have more than
-/// 50,000 parameters and locals, for the first. Takes time linear in the module and in what is answered.
+/// 50,000 parameters and locals, for the first. Takes time linear in the module and in what is answered; under the policy `live`
+/// each branch, construct and call of a function that may pause takes time linear in its locals.
 pub fn asyncify_module(
     alloc: Global,
     valid: &Valid,

@@ -14,10 +14,12 @@ use Rattle.live_rewrite.proofs.SetFields.{places_below}
 use Rattle.live_rewrite.proofs.calls.live_calls.Goals as goal
 
 pub number_calls-requires : goal.number_calls-requires
-number_calls-requires c = few_calls (module_of c.args._module.now) (settings_of c.args.settings.now) c.args.which.now (func_of c.args._source.now) c.args.flat.now c.requires.valid c.requires.sizes c.requires.flat
+number_calls-requires c =
+    few_calls (module_of c.args._module.now) (settings_of c.args.settings.now) c.args.which.now (func_of c.args._source.now) c.args.flat.now c.requires.valid c.requires.sizes c.requires.flat
 
 pub live_at-requires-clause-fits : goal.live_at-requires-clause-fits
-live_at-requires-clause-fits c = fits (module_of c.args._module.now) (settings_of c.args.settings.now) c.args.which.now (func_of c.args._source.now) c.args.flat.now c.requires.valid c.requires.sizes c.requires.flat
+live_at-requires-clause-fits c =
+    fits (module_of c.args._module.now) (settings_of c.args.settings.now) c.args.which.now (func_of c.args._source.now) c.args.flat.now c.requires.valid c.requires.sizes c.requires.flat
 
 pub live_at-requires-clause-rises : goal.live_at-requires-clause-rises
 live_at-requires-clause-rises c =
@@ -33,7 +35,8 @@ live_at-requires-clause-calls c =
     (places_below (gets_number c.args.which.now c.args.listed.now c.args.settings.now.ignore_indirect) 0 (callees body)))
 
 pub live_at-requires-clause-few : goal.live_at-requires-clause-few
-live_at-requires-clause-few c = few_calls (module_of c.args._module.now) (settings_of c.args.settings.now) c.args.which.now (func_of c.args._source.now) c.args.flat.now c.requires.valid c.requires.sizes c.requires.flat
+live_at-requires-clause-few c =
+    few_calls (module_of c.args._module.now) (settings_of c.args.settings.now) c.args.which.now (func_of c.args._source.now) c.args.flat.now c.requires.valid c.requires.sizes c.requires.flat
 
 pub returns : goal.returns
 returns c = record {

@@ -13,22 +13,22 @@ use Rattle.live_rewrite.proofs.function.live_layouts.Goals as goal
 pub set_layouts-requires-clause-sizes : goal.set_layouts-requires-clause-sizes
 set_layouts-requires-clause-sizes c =
     let calls = c.args.calls.now in
-    let all = set_sizes (module_of c.args._module.now) (settings_of c.args._settings.now) c.args._which.now (func_of c.args._source.now) c.args.flat.now c.requires.valid c.requires.sizes c.requires.flat
-    calls.numbers.items calls.sets.items c.requires.calls.numbers c.requires.calls.sets in
+    let all = set_sizes (module_of c.args._module.now) (settings_of c.args._settings.now) c.args._which.now (func_of c.args._source.now) c.args.flat.now
+    c.requires.valid c.requires.sizes c.requires.flat calls.numbers.items calls.sets.items c.requires.calls.numbers c.requires.calls.sets in
     subst (λ ts. SetsSized (length ts) c.deref.result.now) (sym c.deref-2.ensures.value) (subst (SetsSized (length c.args.flat.now.func.locals.items)) (sym c.deref.ensures.value) all)
 
 pub set_layouts-requires-clause-few : goal.set_layouts-requires-clause-few
 set_layouts-requires-clause-few c =
     let calls = c.args.calls.now in
-    let k = types_few (module_of c.args._module.now) (settings_of c.args._settings.now) c.args._which.now (func_of c.args._source.now) c.args.flat.now c.requires.valid c.requires.sizes c.requires.flat
-    calls.numbers.items calls.sets.items c.requires.calls.numbers c.requires.calls.sets in
+    let k = types_few (module_of c.args._module.now) (settings_of c.args._settings.now) c.args._which.now (func_of c.args._source.now) c.args.flat.now
+    c.requires.valid c.requires.sizes c.requires.flat calls.numbers.items calls.sets.items c.requires.calls.numbers c.requires.calls.sets in
     let e = ap length c.deref-2.ensures.value in omega (arith, k, e)
 
 pub set_layouts-requires-clause-calls : goal.set_layouts-requires-clause-calls
 set_layouts-requires-clause-calls c =
     let calls = c.args.calls.now in
-    let k = sets_few (module_of c.args._module.now) (settings_of c.args._settings.now) c.args._which.now (func_of c.args._source.now) c.args.flat.now c.requires.valid c.requires.sizes c.requires.flat
-    calls.numbers.items calls.sets.items c.requires.calls.numbers c.requires.calls.sets in
+    let k = sets_few (module_of c.args._module.now) (settings_of c.args._settings.now) c.args._which.now (func_of c.args._source.now) c.args.flat.now
+    c.requires.valid c.requires.sizes c.requires.flat calls.numbers.items calls.sets.items c.requires.calls.numbers c.requires.calls.sets in
     let e = ap length c.deref.ensures.value in omega (arith, k, e)
 
 pub returns : goal.returns

@@ -9,7 +9,8 @@ use Rattle.live_rewrite.proofs.layouts.set_layouts.Goals as goal
 pub set_places-requires-clause-size : goal.set_places-requires-clause-size
 set_places-requires-clause-size c =
     ap length c.deref.ensures.value
-    ∙ subst (λ (v : Vec Bool Global). length v.items ≡ length c.args.locals.now) (sym c.index-sets-index.is) (c.requires.sizes c.loop-index.index c.index-sets-index.result (omega (arith, c.loop-index-test.true)))
+    ∙ subst (λ (v : Vec Bool Global). length v.items ≡ length c.args.locals.now) (sym c.index-sets-index.is)
+    (c.requires.sizes c.loop-index.index c.index-sets-index.result (omega (arith, c.loop-index-test.true)))
 
 pub layout-requires : goal.layout-requires
 layout-requires c =

@@ -9,7 +9,8 @@ use Rattle.live_rewrite.proofs.policy.write_by_policy.Goals as goal
 pub returns-in-All-clause-func : goal.returns-in-All-clause-func
 returns-in-All-clause-func c =
     IfOk-weaker c.write_func.result _ _
-    (λ w h. subst (λ p. IsWrittenUnder (policy_of p) (module_of c.args.«module».now) (settings_of c.args.settings.now) c.args.which.now c.args.flat.now.func.func (func_of c.args.source.now) (func_of w.func)) (sym c.in-All.is) h)
+    (λ w h. subst (λ p. IsWrittenUnder (policy_of p) (module_of c.args.«module».now) (settings_of c.args.settings.now) c.args.which.now
+    c.args.flat.now.func.func (func_of c.args.source.now) (func_of w.func)) (sym c.in-All.is) h)
     c.write_func.ensures.func
 
 pub returns-in-All-clause-frames : goal.returns-in-All-clause-frames
@@ -21,7 +22,8 @@ returns-in-All-clause-frames c =
 pub returns-in-Live-clause-func : goal.returns-in-Live-clause-func
 returns-in-Live-clause-func c =
     IfOk-weaker c.write_live_func.result _ _
-    (λ w h. subst (λ p. IsWrittenUnder (policy_of p) (module_of c.args.«module».now) (settings_of c.args.settings.now) c.args.which.now c.args.flat.now.func.func (func_of c.args.source.now) (func_of w.func)) (sym c.in-Live.is) h)
+    (λ w h. subst (λ p. IsWrittenUnder (policy_of p) (module_of c.args.«module».now) (settings_of c.args.settings.now) c.args.which.now
+    c.args.flat.now.func.func (func_of c.args.source.now) (func_of w.func)) (sym c.in-Live.is) h)
     c.write_live_func.ensures.func
 
 pub returns-in-Live-clause-frames : goal.returns-in-Live-clause-frames
