@@ -85,7 +85,7 @@ row_locals : (off : ℕ) (ps : List Place) → map saved_local (in_a_row off ps)
 row_locals off [] = refl
 row_locals off (p ∷ ps) = ap (λ qs. saved_local p ∷ qs) (row_locals (off + width p.ty) ps)
 
-frame_of : (m : Module) (f : Func) (saved : List Place) → map saved_local saved ≡ Saved m save_all f 0 → (k place : ℕ) (l : LayoutValue) → IsFrame saved k l → IsFrameOf m f k place l
+frame_of : (m : Module) (f : Func) (saved : List Place) → map saved_local saved ≡ Saved m save_all f 0 → (k place : ℕ) (l : LayoutValue) → IsFrame saved k l → IsFrameOf m save_all f k place l
 frame_of m f saved e k place l h = record {
   index = h.index;
   locals = ap (map saved_local) h.places ∙ row_locals 0 saved ∙ e;
@@ -93,7 +93,7 @@ frame_of m f saved e k place l h = record {
   size = h.sized m save_all f place e;
 }
 
-pub frames_at : (m : Module) (f : Func) (saved : List Place) → map saved_local saved ≡ Saved m save_all f 0 → (k : ℕ) (places : List ℕ) (ls : List LayoutValue) → length ls ≡ length places → FramesFrom saved k ls → FramesAt m f k places ls
+pub frames_at : (m : Module) (f : Func) (saved : List Place) → map saved_local saved ≡ Saved m save_all f 0 → (k : ℕ) (places : List ℕ) (ls : List LayoutValue) → length ls ≡ length places → FramesFrom saved k ls → FramesAt m save_all f k places ls
 frames_at m f saved e k [] [] n h = tt
 frames_at m f saved e k [] (l ∷ ls) n h = absurd (omega arith)
 frames_at m f saved e k (p ∷ ps) [] n h = absurd (omega arith)

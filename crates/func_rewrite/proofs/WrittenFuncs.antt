@@ -34,7 +34,7 @@ use Rattle.call_numbers.specs.Numbering.{callees, gets_number}
 use Rattle.rewrite_form.specs.Emitted.{holds_operand, is_kept, field_where, frame_layout, written_func}
 use Rattle.written_frames.specs.Frames.{numbered_places, AllFrames}
 use Rattle.written_frames.specs.Marking.{StacksFit}
-use Rattle.func_rewrite.specs.Frames.{IsFlattened, FramesOf}
+use Rattle.func_rewrite.specs.Frames.{IsFlattened, FramesUnder}
 use Rattle.func_rewrite.proofs.CallNumbers.{total_is, numbers_are, stacks_fit}
 use Rattle.func_rewrite.proofs.FrameChoice.{saved_are, chosen_places, chosen_size, row_below, frames_at}
 
@@ -117,7 +117,7 @@ module _ (m : Module) (s : Settings) (which : List Bool) (f : Func) (v : Flatten
         let e = slots_count in let k = saved_few in
         row_below (length v.func.locals.items) (take v.first_result v.func.locals.items) (omega arith) places ep
 
-    pub frames_are : (numbers : List ℕ) (count : ℕ) (ls : List LayoutValue) → numbers ≡ Numbered m s which f → count ≡ length numbers → AllFrames places count ls → FramesOf m s which f ls
+    pub frames_are : (numbers : List ℕ) (count : ℕ) (ls : List LayoutValue) → numbers ≡ Numbered m s which f → count ≡ length numbers → AllFrames places count ls → FramesUnder save_all m s which f ls
     frames_are ns count ls en ec a = frames_at m f places same_saved 0 (Numbered m s which f) ls (a.many ∙ ec ∙ ap length en) a.each
 
     -- ---- the body

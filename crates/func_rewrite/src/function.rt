@@ -1,12 +1,12 @@
 ghost use Rattle.std.specs.Prelude.{◌≡◌, IfOk};
-ghost use Rattle.wa_types.specs.Pausing.{Listed};
+ghost use Rattle.wa_types.specs.Pausing.{Listed, save_all};
 ghost use Rattle.wa_types.specs.Sizes.{StrictSizeRule};
 ghost use Rattle.wa_types.specs.Validity.{Valid as IsValid};
 ghost use Rattle.wa_types.specs.View.{func_of, module_of};
 ghost use Rattle.call_graph.specs.Settings.{settings_of};
 ghost use Rattle.asyncify_runtime.specs.Ids.{ids_behind};
 ghost use Rattle.rewrite_form.specs.Emitted.{written_func};
-ghost use Rattle.func_rewrite.specs.Frames.{IsFlattened, FramesOf};
+ghost use Rattle.func_rewrite.specs.Frames.{IsFlattened, FramesUnder};
 
 use crate::body::written_body;
 use crate::locals::written_locals;
@@ -25,8 +25,8 @@ pub struct Written {
     pub frames: Vec<Layout>,
 }
 
-/// The function as it is written, and its frames, where `which` tells the functions that may pause and `listed` the imports
-/// that may. Takes time linear in the flat function and in what is answered.
+/// The function as it is written under the policy `all`, and its frames, where `which` tells the functions that may pause and
+/// `listed` the imports that may. Takes time linear in the flat function and in what is answered.
 pub fn write_func(
     alloc: Global,
     module: &Module,
@@ -43,14 +43,14 @@ pub fn write_func(
     requires ids { ids.now ≡ ids_behind (module_of «module».now) }
     requires flat { IsFlattened (module_of «module».now) (func_of source.now) flat.now }
     ensures func { IfOk result (λ w. func_of w.func ≡ written_func (module_of «module».now) (settings_of settings.now) which.now flat.now.func.func (func_of source.now)) }
-    ensures frames { IfOk result (λ w. FramesOf (module_of «module».now) (settings_of settings.now) which.now (func_of source.now) w.frames.items) }
+    ensures frames { IfOk result (λ w. FramesUnder save_all (module_of «module».now) (settings_of settings.now) which.now (func_of source.now) w.frames.items) }
 {
     let func = emit_func(alloc, module, settings, which, listed, source, flat, ids)?;
     let frames = func_frames(alloc, module, settings, which, listed, source, flat)?;
     Ok(Written { func, frames })
 }
 
-/// The function as it is written, without its frames, each of which names all its saved locals. Takes time and memory linear
+/// The function as it is written under the policy `all`, without its frames, each of which names all its saved locals. Takes time and memory linear
 /// in the flat function.
 pub fn emit_func(
     alloc: Global,
@@ -98,7 +98,7 @@ fn func_frames(
     requires sizes { StrictSizeRule (module_of _module.now) }
     requires listed { listed.now ≡ Listed (module_of _module.now) (settings_of settings.now) }
     requires flat { IsFlattened (module_of _module.now) (func_of _source.now) flat.now }
-    ensures { IfOk result (λ ls. FramesOf (module_of _module.now) (settings_of settings.now) which.now (func_of _source.now) ls.items) }
+    ensures { IfOk result (λ ls. FramesUnder save_all (module_of _module.now) (settings_of settings.now) which.now (func_of _source.now) ls.items) }
 {
     let numbers = number_calls(alloc, &flat.func, which, listed, settings.ignore_indirect)?;
     let saved = saved_places(alloc, &flat.func.locals, flat.first_result)?;

@@ -17,7 +17,7 @@ fn put_each(out: &mut Vec<Run>, types: &[ValType]) -> Result<(), AllocError>
 
 /// The declared locals of a written function: its own, the slots and result locals of the flat one, of which so many
 /// are its own, the call index and a scratch local of each type.
-pub(crate) fn written_locals(
+pub fn written_locals(
     alloc: Global,
     runs: &[Run],
     locals: &[ValType],

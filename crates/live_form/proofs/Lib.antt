@@ -2,3 +2,4 @@ pub mod CallCounts
 pub mod LiveHold
 pub mod LiveModules
 pub mod PartRows
+pub mod PolicyCases

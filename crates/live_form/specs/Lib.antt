@@ -1,2 +1,4 @@
+pub mod EmittedAs
 pub mod Laws
 pub mod LiveParts
+pub mod PolicyLaws

@@ -19,8 +19,7 @@ use Rattle.flatten.specs.declared.fault.FlatFault.{FlatFault}
 use Rattle.flatten.specs.declared.fault.FlatFault.TheVariants as F
 use Rattle.flatten.proofs.ToldLemmas.{Sofar, sofar_first, sofar_done, go_skip, go_put, go_stop}
 use Rattle.func_rewrite.specs.Frames.{IsFlattened}
-use Rattle.rewrite_form.specs.Emitted.{written_func, emitted_func, emitted_funcs}
-use Rattle.rewrite_form.proofs.Emitted.{told, not_told}
+use Rattle.live_form.specs.EmittedAs.{AreEmitted, IsEmitted, IsEmittedWhere, IsWritten}
 use Rattle.rewrite_form.proofs.EmittedBy.{defined_of}
 use Rattle.module_rewrite.specs.Emitting.{LaidOut, PutKept, PutWritten, AllEmitted, Emits}
 use Rattle.module_rewrite.specs.Faults.{of_flat}
@@ -46,7 +45,7 @@ module _ (m : Module) (s : Settings) (which : List Bool) where
   pub record Going (i : ℕ) (v : Emitted) : Type 0 where
     pub flats : List FlatFunc
     pub sofar : Sofar m ws m.funcs n i flats
-    pub funcs : map func_of v.funcs.items ++ emitted_funcs m s which (n + i) (drop i m.funcs) ≡ emitted_funcs m s which n m.funcs
+    pub funcs : (rest : List Func) → AreEmitted m s which (n + i) (drop i m.funcs) rest → AreEmitted m s which n m.funcs (map func_of v.funcs.items ++ rest)
     pub layouts : (rest : List FuncLayout) → LaidOut m s which (n + i) (drop i ws) (drop i m.funcs) rest → LaidOut m s which n ws m.funcs (v.layouts.items ++ rest)
 
   pub going_first : (v : Emitted) → v.funcs.items ≡ [] → v.layouts.items ≡ [] → Going 0 v
@@ -55,7 +54,7 @@ module _ (m : Module) (s : Settings) (which : List Bool) where
       record {
         flats = [];
         sofar = sofar_first m ws m.funcs n [] refl;
-        funcs = ap (λ fs. map func_of fs ++ emitted_funcs m s which (n + 0) m.funcs) ef ∙ ap (λ k. emitted_funcs m s which k m.funcs) z;
+        funcs = λ rest h. subst (λ fs. AreEmitted m s which n m.funcs (map func_of fs ++ rest)) (sym ef) (subst (λ k. AreEmitted m s which k m.funcs rest) z h);
         layouts = λ rest h. subst (λ ls. LaidOut m s which n ws m.funcs (ls ++ rest)) (sym el) (subst (λ k. LaidOut m s which k ws m.funcs rest) z h);
       }
 
@@ -63,7 +62,7 @@ module _ (m : Module) (s : Settings) (which : List Bool) where
   going_end i v g le =
       let none : drop i m.funcs ≡ [] = drop_all i m.funcs le in
       record {
-        funcs = sym (append-nil (map func_of v.funcs.items)) ∙ ap (λ fs. map func_of v.funcs.items ++ emitted_funcs m s which (n + i) fs) (sym none) ∙ g.funcs;
+        funcs = subst (AreEmitted m s which n m.funcs) (append-nil (map func_of v.funcs.items)) (g.funcs [] (subst (λ fs. AreEmitted m s which (n + i) fs []) (sym none) tt));
         layouts = subst (LaidOut m s which n ws m.funcs) (append-nil v.layouts.items) (g.layouts [] (subst (λ fs. LaidOut m s which (n + i) (drop i ws) fs []) (sym none) (nothing (n + i) (drop i ws))));
         few = (sofar_done m ws m.funcs n i g.flats g.sofar le).1;
       }
@@ -85,22 +84,18 @@ module _ (m : Module) (s : Settings) (which : List Bool) where
     next_x : suc (n + i) ≡ n + (i + 1)
     next_x = omega arith
 
-    emitted_here : emitted_funcs m s which (n + i) (drop i m.funcs) ≡ emitted_func m s which (n + i) f ∷ emitted_funcs m s which (n + (i + 1)) (drop (i + 1) m.funcs)
-    emitted_here = ap (emitted_funcs m s which (n + i)) here_f ∙ ap (λ k. emitted_func m s which (n + i) f ∷ emitted_funcs m s which k (drop (i + 1) m.funcs)) next_x
-
-    one_more : (new : Emitted) (h : Func) → emitted_func m s which (n + i) f ≡ h → map func_of new.funcs.items ≡ map func_of v.funcs.items ++ h ∷ []
-        → map func_of new.funcs.items ++ emitted_funcs m s which (n + (i + 1)) (drop (i + 1) m.funcs) ≡ emitted_funcs m s which n m.funcs
-    one_more new h eh en =
-        ap (λ fs. fs ++ emitted_funcs m s which (n + (i + 1)) (drop (i + 1) m.funcs)) en
-        ∙ append_assoc (map func_of v.funcs.items) (h ∷ []) (emitted_funcs m s which (n + (i + 1)) (drop (i + 1) m.funcs))
-        ∙ ap (λ k. map func_of v.funcs.items ++ k ∷ emitted_funcs m s which (n + (i + 1)) (drop (i + 1) m.funcs)) (sym eh)
-        ∙ ap (λ fs. map func_of v.funcs.items ++ fs) (sym emitted_here) ∙ g.funcs
+    one_more : (new : Emitted) (h : Func) → IsEmitted m s which (n + i) f h → map func_of new.funcs.items ≡ map func_of v.funcs.items ++ h ∷ [] → (rest : List Func)
+        → AreEmitted m s which (n + (i + 1)) (drop (i + 1) m.funcs) rest → AreEmitted m s which n m.funcs (map func_of new.funcs.items ++ rest)
+    one_more new h is en rest r =
+        subst (AreEmitted m s which n m.funcs) (sym (append_assoc (map func_of v.funcs.items) (h ∷ []) rest) ∙ ap (λ fs. fs ++ rest) (sym en))
+        (g.funcs (h ∷ rest)
+        (subst (λ fs. AreEmitted m s which (n + i) fs (h ∷ rest)) (sym here_f) (is, subst (λ k. AreEmitted m s which k (drop (i + 1) m.funcs) rest) (sym next_x) r)))
 
     pub going_keep : (new : Emitted) → get_or which at false ≡ false → PutKept f v new → Going (i + 1) new
     going_keep new e p = record {
       flats = g.flats;
       sofar = go_skip m which n i at g.flats g.sofar many lt ea e;
-      funcs = one_more new f (not_told m s which (n + i) f (ap is_told (bit false e))) p.funcs;
+      funcs = one_more new f (subst (λ b. IsEmittedWhere b m s which (n + i) f f) (sym (ap is_told (bit false e))) refl) p.funcs;
       layouts = λ rest h.
           subst (λ ls. LaidOut m s which n ws m.funcs (ls ++ rest)) (sym p.layouts)
           (g.layouts rest
@@ -128,7 +123,7 @@ module _ (m : Module) (s : Settings) (which : List Bool) where
           record {
             flats = flats;
             sofar = go_put m which n i at g.flats g.sofar many lt ea flats (flattened m (n + i) f) (n + i) e refl refl (λ k ek. let z : Some f ≡ Some k = sym ef ∙ ek in let q : f ≡ k = cc in (ap (flattened m (n + i)) q, subst (λ w. Count m w ≤ 50000) q h.1));
-            funcs = one_more new (written_func m s which flat.func.func f) (told m s which (n + i) f (ap is_told (bit true e)) ∙ ap (λ k. written_func m s which k f) (sym index_is)) p.funcs;
+            funcs = one_more new p.written (subst (λ b. IsEmittedWhere b m s which (n + i) f p.written) (sym (ap is_told (bit true e))) (subst (λ k. IsWritten m s which k f p.written) index_is p.is)) p.funcs;
             layouts = λ rest r.
                 subst (LaidOut m s which n ws m.funcs) (sym (append_assoc v.layouts.items (p.layout ∷ []) rest) ∙ ap (λ ls. ls ++ rest) (sym p.layouts))
                 (g.layouts (p.layout ∷ rest)

@@ -12,7 +12,8 @@ use Rattle.wa_types.specs.Syntax.{Func, Module}
 use Rattle.flat_laws.proofs.FlatModules.{dropped_at}
 use Rattle.flatten.specs.Whole.{NonePasses}
 use Rattle.rewrite_form.specs.Sizes.{FewWritten}
-use Rattle.rewrite_form.proofs.Emitted.{sort_of, inner, own_sorts}
+use Rattle.rewrite_form.proofs.Emitted.{sort_of}
+use Rattle.live_form.specs.EmittedAs.{AreEmitted}
 use Rattle.asyncify_runtime.specs.Reserved.{reserved_at}
 use Rattle.module_rewrite.specs.Emitting.{Emits}
 use Rattle.module_rewrite.specs.Whole.{Asyncifies}
@@ -52,8 +53,21 @@ space_small m h = let a = funcs_counted m in let b = h.funcs in omega arith
 pub globals_small : (m : Module) → StrictSizeRule m → global_space m < 2 ^ 31
 globals_small m h = let a = globals_counted m in let b = h.globals in omega arith
 
-pub inner_space : (m : Module) (s : Settings) (which : List Bool) → StrictSizeRule m → func_space (inner m s which) < 2 ^ 31
-inner_space m s which h = let e = ap length (own_sorts m s which) in let k = space_small m h in omega arith
+emitted_count : (m : Module) (s : Settings) (which : List Bool) (x : ℕ) (fs gs : List Func) → AreEmitted m s which x fs gs → length gs ≡ length fs
+emitted_count m s which x [] [] h = refl
+emitted_count m s which x [] (g ∷ gs) h = absurd h
+emitted_count m s which x (f ∷ fs) [] h = absurd h
+emitted_count m s which x (f ∷ fs) (g ∷ gs) h = ap suc (emitted_count m s which (suc x) fs gs h.1)
+
+-- as many functions as before
+pub made_space : (m : Module) (s : Settings) (which : List Bool) (gs : List Func) → AreEmitted m s which (func_imports m) m.funcs gs → StrictSizeRule m → func_space (record m { funcs = gs }) < 2 ^ 31
+made_space m s which gs h strict =
+    let n = emitted_count m s which (func_imports m) m.funcs gs h in
+    let a = length-append (imported imported_func m) (map sort_of gs) in
+    let b = length-append (imported imported_func m) (map sort_of m.funcs) in
+    let c = length-map gs sort_of in
+    let d = length-map m.funcs sort_of in
+    let k = space_small m strict in omega (arith, n, a, b, c, d, k)
 
 pub none_is : {X : Type 0} (o : Option X) → ((x : X) → o ≡ Some x → ⊥) → o ≡ None
 none_is None h = refl

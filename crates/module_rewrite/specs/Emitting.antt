@@ -6,7 +6,7 @@ use Rattle.wa_types.specs.Syntax.{Func, Module}
 use Rattle.wa_types.specs.View.{func_of}
 use Rattle.flatten.specs.Whole.{NonePasses, FirstPasses}
 use Rattle.func_rewrite.specs.Frames.{FramesOf}
-use Rattle.rewrite_form.specs.Emitted.{written_func, emitted_funcs}
+use Rattle.live_form.specs.EmittedAs.{AreEmitted, IsWritten}
 use Rattle.module_rewrite.specs.declared.emitting.Emitted.{Emitted}
 use Rattle.module_rewrite.specs.declared.emitting.FuncLayout.{FuncLayout}
 use Rattle.module_rewrite.specs.declared.fault.RewriteFault.{RewriteFault}
@@ -27,7 +27,9 @@ pub record PutKept (f : Func) (old new : Emitted) : Type 0 where
 
 -- a function was put as it is written, with its frames
 pub record PutWritten (m : Module) (s : Settings) (which : List Bool) (x : ℕ) (f : Func) (old new : Emitted) : Type 0 where
-  pub funcs : map func_of new.funcs.items ≡ map func_of old.funcs.items ++ written_func m s which x f ∷ []
+  pub written : Func
+  pub is : IsWritten m s which x f written
+  pub funcs : map func_of new.funcs.items ≡ map func_of old.funcs.items ++ written ∷ []
   pub layout : FuncLayout
   pub layouts : new.layouts.items ≡ old.layouts.items ++ layout ∷ []
   pub func : layout.func ≡ x
@@ -35,7 +37,7 @@ pub record PutWritten (m : Module) (s : Settings) (which : List Bool) (x : ℕ) 
 
 -- All functions are emitted, and none that is told has too many locals; or the first that has too many is refused.
 pub record AllEmitted (m : Module) (s : Settings) (which : List Bool) (v : Emitted) : Type 0 where
-  pub funcs : map func_of v.funcs.items ≡ emitted_funcs m s which (func_imports m) m.funcs
+  pub funcs : AreEmitted m s which (func_imports m) m.funcs (map func_of v.funcs.items)
   pub layouts : LaidOut m s which (func_imports m) (drop (func_imports m) which) m.funcs v.layouts.items
   pub few : NonePasses m (drop (func_imports m) which) m.funcs
 

@@ -6,20 +6,20 @@ use Rattle.wa_types.specs.Syntax.{Module}
 use Rattle.wa_types.specs.View.{module_of}
 use Rattle.asyncify_runtime.specs.Reserved.{reserved_at}
 use Rattle.flatten.specs.Whole.{NonePasses, FirstPasses}
-use Rattle.rewrite_form.specs.Emitted.{asyncified}
 use Rattle.rewrite_form.specs.Rewritten.{RewritesButRuns}
+use Rattle.live_form.specs.EmittedAs.{EmittedAs}
 use Rattle.module_rewrite.specs.Emitting.{LaidOut}
 use Rattle.module_rewrite.specs.declared.fault.RewriteFault.{RewriteFault}
 use Rattle.module_rewrite.specs.declared.fault.RewriteFault.TheVariants.{Memory, Locals, Reserved}
 use Rattle.module_rewrite.specs.declared.whole.Rewritten.{Rewritten}
 
--- The module is the one that is emitted, where those functions are written that may pause, none of which has too many locals;
+-- The module is one that is emitted by the policy, where those functions are written that may pause, none of which has too many locals;
 -- it is the original, rewritten in every part but its runs. The frames are those of the written functions.
 pub record IsAsyncified (m : Module) (s : Settings) (r : Rewritten) : Type 0 where
   pub free : reserved_at m ≡ None
   pub tells : TellsMayPause m s r.instrumented.items
   pub few : NonePasses m (drop (func_imports m) r.instrumented.items) m.funcs
-  pub emitted : module_of r.«module» ≡ asyncified m s r.instrumented.items
+  pub emitted : EmittedAs m s r.instrumented.items (module_of r.«module»)
   pub rewrites : RewritesButRuns m s (module_of r.«module»)
   pub layouts : LaidOut m s r.instrumented.items (func_imports m) (drop (func_imports m) r.instrumented.items) m.funcs r.layouts.items
 

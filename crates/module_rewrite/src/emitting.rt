@@ -12,7 +12,7 @@ ghost use Rattle.module_rewrite.specs.Emitting.{Emits, PutKept, PutWritten};
 use crate::fault::RewriteFault;
 use call_graph::Settings;
 use flatten::{Flattened, flatten_func};
-use func_rewrite::write_func;
+use live_rewrite::write_by_policy;
 use local_spill::{Layout, RuntimeIds};
 use module_copy::copy_func;
 use std::alloc::{AllocError, Global};
@@ -61,7 +61,7 @@ fn put_written(
     requires flat { IsFlattened (module_of «module».now) (func_of source.now) flat.now }
     ensures { OnOk result (PutWritten (module_of «module».now) (settings_of settings.now) which.now flat.now.func.func (func_of source.now) out.old out.new) }
 {
-    let written = write_func(alloc, module, settings, which, listed, source, flat, ids)?;
+    let written = write_by_policy(alloc, module, settings, which, listed, source, flat, ids)?;
     out.funcs.push(written.func)?;
     out.layouts.push(FuncLayout {
         func: flat.func.func,

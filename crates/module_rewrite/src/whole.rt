@@ -5,7 +5,6 @@ ghost use Rattle.wa_types.specs.Validity.{Valid as IsValid};
 ghost use Rattle.wa_types.specs.View.{module_of};
 ghost use Rattle.asyncify_runtime.specs.Reserved.{reserved_at};
 ghost use Rattle.call_graph.specs.Settings.{settings_of};
-ghost use Rattle.call_graph.specs.declared.settings.Policy.TheVariants.{All};
 ghost use Rattle.module_rewrite.specs.declared.fault.RewriteFault.TheVariants.{Memory};
 ghost use Rattle.module_rewrite.specs.Whole.{Asyncifies};
 
@@ -54,14 +53,14 @@ fn with_parts(alloc: Global, module: Module) -> Result<Valid, RewriteFault>
 
 /// The module rewritten so that it can stop in the middle of a call of a listed import and go on later. `Reserved` comes
 /// exactly where `reserved` gives that place; else `Locals` exactly where a function that may pause would have more than
-/// 50,000 parameters and locals, for the first. Takes time linear in the module and in what is answered.
+/// 50,000 parameters and locals, for the first. Takes time linear in the module and in what is answered; under the policy `live`
+/// each branch, construct and call of a function that may pause takes time linear in its locals.
 pub fn asyncify_module(
     alloc: Global,
     valid: &Valid,
     settings: &Settings,
 ) -> Result<Rewritten, RewriteFault>
     requires sizes { StrictSizeRule (module_of valid.now) }
-    requires policy { settings.now.policy ≡ All }
     ensures { Asyncifies (module_of valid.now) (settings_of settings.now) result }
 {
     let module = valid.module();

@@ -1,5 +1,5 @@
 -- A module that isn't reserved has no export under a name of the runtime.
-use Rattle.std.proofs.Common.{◌≡◌, ℕ, zero, suc, ◌+◌, ◌<◌, ◌||◌, not, List, [], ◌∷◌, Option, Some, None, Bool, true, false, cond, refl, sym, ap, subst, ◌∙◌, length, arith, All, Contains}
+use Rattle.std.proofs.Common.{◌≡◌, ℕ, zero, suc, ◌+◌, ◌<◌, ◌||◌, not, List, [], ◌∷◌, Option, Some, None, Bool, true, false, cond, refl, sym, ap, ◌∙◌, length, arith, All, Contains}
 use Rattle.std.specs.Prelude.{slice_index_or, nat_lt, position}
 use Rattle.std.specs.List.{list_any, position_or_len}
 use Rattle.std.specs.Str.{bytes_eq}
@@ -17,6 +17,8 @@ use Rattle.wa_model.specs.Quiet.{FreeOfNames}
 use Rattle.rewrite_form.specs.Emitted.{asyncified}
 use Rattle.rewrite_form.specs.Sizes.{FewWritten}
 use Rattle.rewrite_runs.proofs.Asyncified.{asyncified_law}
+use Rattle.live_form.specs.EmittedAs.{EmittedAs}
+use Rattle.live_form.proofs.PolicyCases.{rewrites_as}
 use Rattle.wa_types.specs.Norm.{Norm}
 use Rattle.norm_laws.proofs.Norms.{norm_rewritten}
 use Rattle.asyncify_runtime.specs.Reserved.{is_runtime_name, reserved_import, reserved_export, first_reserved, reserved_at}
@@ -68,6 +70,6 @@ pub sources_rewritten : (m : Module) (s : Settings) (which : List Bool) → Vali
 sources_rewritten m s which v free strict few policy t = norm_rewritten m s (asyncified m s which) (asyncified_law m s which v (unreserved_is_free m free) strict few policy t)
 
 -- What is run of it is that module, rewritten.
-pub runs_rewritten : (m : Module) (s : Settings) (which : List Bool) (p : Module) → p ≡ asyncified m s which → Valid m → reserved_at m ≡ None → StrictSizeRule m → FewWritten m which → s.policy ≡ save_all
-    → TellsMayPause m s which → Rewrites m s p
-runs_rewritten m s which p e v free strict few policy t = subst (Rewrites m s) (sym e) (asyncified_law m s which v (unreserved_is_free m free) strict few policy t)
+pub runs_rewritten : (m : Module) (s : Settings) (which : List Bool) (p : Module) → EmittedAs m s which p → Valid m → reserved_at m ≡ None → StrictSizeRule m → FewWritten m which → TellsMayPause m s which
+    → Rewrites m s p
+runs_rewritten m s which p e v free strict few t = rewrites_as m s which p (record { valid = v; sizes = strict; few = few; tells = t }) (unreserved_is_free m free) e

@@ -1,8 +1,7 @@
 // A source, rewritten to be run, without being written.
-ghost use Rattle.std.specs.Prelude.{◌≡◌, IfOk};
+ghost use Rattle.std.specs.Prelude.{IfOk};
 ghost use Rattle.std.specs.Result.{IfErr};
 ghost use Rattle.call_graph.specs.Settings.{settings_of};
-ghost use Rattle.call_graph.specs.declared.settings.Policy.TheVariants.{All};
 ghost use Rattle.wa_types.specs.View.{module_of};
 ghost use Rattle.source_modules.specs.Refusals.{IsFaultOf, IsUnwritten};
 ghost use Rattle.source_modules.specs.Running.{RunsAs};
@@ -23,7 +22,6 @@ pub struct Runnable {
 /// The module that these bytes spell, rewritten by these settings, where it is a source that can be rewritten. It isn't written, so
 /// its length has no limit.
 pub fn rewritten(alloc: Global, bytes: &[u8], settings: &Settings) -> Result<Runnable, SourceFault>
-    requires { settings.now.policy ≡ All }
     ensures done { IfOk result (λ r. RunsAs (settings_of settings.now) bytes.now r.listed.items (module_of r.«module»)) }
     ensures refused { IfErr result (λ fault. IsFaultOf (settings_of settings.now) bytes.now fault) }
     ensures unwritten { IfErr result IsUnwritten }

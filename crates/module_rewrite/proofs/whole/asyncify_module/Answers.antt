@@ -8,13 +8,13 @@ use Rattle.wa_types.specs.View.{func_of, module_of}
 use Rattle.asyncify_runtime.specs.Reserved.{reserved_at}
 use Rattle.call_graph.specs.Settings.{settings_of}
 use Rattle.rewrite_form.specs.Rewritten.{RewritesButRuns}
-use Rattle.rewrite_form.proofs.Emitted.{inner}
-use Rattle.rewrite_form.proofs.EmittedRewritten.{rewritten_law, valid_law}
-use Rattle.rewrite_form.proofs.EmittedSizes.{sizes_law}
+use Rattle.live_form.specs.EmittedAs.{EmittedAs}
+use Rattle.live_form.specs.PolicyLaws.{CanBeEmitted}
+use Rattle.live_form.proofs.PolicyCases.{functions_law, rewritten_as, sizes_as, valid_as}
 use Rattle.module_rewrite.specs.Emitting.{Emits, AllEmitted}
 use Rattle.module_rewrite.specs.Whole.{Asyncifies}
 use Rattle.module_rewrite.proofs.FreeNames.{unreserved_is_free}
-use Rattle.module_rewrite.proofs.WholeLemmas.{emits_fault, few_written, globals_small, inner_space, none_is, space_small}
+use Rattle.module_rewrite.proofs.WholeLemmas.{emits_fault, few_written, globals_small, made_space, none_is, space_small}
 use Rattle.module_rewrite.proofs.whole.asyncify_module.Goals as goal
 
 pub ids_behind-ids-requires-clause-funcs : goal.ids_behind-ids-requires-clause-funcs
@@ -53,9 +53,11 @@ with_parts-requires-clause-funcs c =
     let valid = subst (λ (z : ModuleValue). Valid (module_of z)) same c.module-module.ensures.valid in
     let free : reserved_at m ≡ None = ap (λ (z : ModuleValue). reserved_at (module_of z)) (sym same) ∙ sym c.reserved.ensures ∙ none_is c.reserved.result c.in_default.not-Some in
     let emitted : AllEmitted m s which c.in_ok-emitted.emitted = subst (λ w. AllEmitted m s w c.in_ok-emitted.emitted) c.deref.ensures.value c.in_ok-emitted.ensures in
-    let made : module_of c.in_ok-inner.inner ≡ inner m s which =
-    c.in_ok-inner.ensures ∙ ap (λ (z : ModuleValue). record (module_of z) { funcs = map func_of c.in_ok-emitted.emitted.funcs.items }) same ∙ ap (λ fs. record m { funcs = fs }) emitted.funcs in
-    subst (λ q. func_space q < 2 ^ 31) (sym made) (inner_space m s which c.requires.sizes)
+    let gs = map func_of c.in_ok-emitted.emitted.funcs.items in
+    let made : module_of c.in_ok-inner.inner ≡ record m { funcs = gs } = c.in_ok-inner.ensures ∙ ap (λ (z : ModuleValue). record (module_of z) { funcs = gs }) same in
+    let can : CanBeEmitted m s which = record { valid = valid; sizes = c.requires.sizes; few = few_written m which emitted.few; tells = c.in_ok-which.ensures } in
+    let as_ : EmittedAs m s which (with_runtime (record m { funcs = gs })) = functions_law m s which gs emitted.funcs in
+    subst (λ q. func_space q < 2 ^ 31) (sym made) (made_space m s which gs emitted.funcs c.requires.sizes)
 
 pub with_parts-requires-clause-globals : goal.with_parts-requires-clause-globals
 with_parts-requires-clause-globals c =
@@ -67,8 +69,10 @@ with_parts-requires-clause-globals c =
     let valid = subst (λ (z : ModuleValue). Valid (module_of z)) same c.module-module.ensures.valid in
     let free : reserved_at m ≡ None = ap (λ (z : ModuleValue). reserved_at (module_of z)) (sym same) ∙ sym c.reserved.ensures ∙ none_is c.reserved.result c.in_default.not-Some in
     let emitted : AllEmitted m s which c.in_ok-emitted.emitted = subst (λ w. AllEmitted m s w c.in_ok-emitted.emitted) c.deref.ensures.value c.in_ok-emitted.ensures in
-    let made : module_of c.in_ok-inner.inner ≡ inner m s which =
-    c.in_ok-inner.ensures ∙ ap (λ (z : ModuleValue). record (module_of z) { funcs = map func_of c.in_ok-emitted.emitted.funcs.items }) same ∙ ap (λ fs. record m { funcs = fs }) emitted.funcs in
+    let gs = map func_of c.in_ok-emitted.emitted.funcs.items in
+    let made : module_of c.in_ok-inner.inner ≡ record m { funcs = gs } = c.in_ok-inner.ensures ∙ ap (λ (z : ModuleValue). record (module_of z) { funcs = gs }) same in
+    let can : CanBeEmitted m s which = record { valid = valid; sizes = c.requires.sizes; few = few_written m which emitted.few; tells = c.in_ok-which.ensures } in
+    let as_ : EmittedAs m s which (with_runtime (record m { funcs = gs })) = functions_law m s which gs emitted.funcs in
     subst (λ q. global_space q < 2 ^ 31) (sym made) (globals_small m c.requires.sizes)
 
 pub with_parts-requires-clause-free : goal.with_parts-requires-clause-free
@@ -81,8 +85,10 @@ with_parts-requires-clause-free c =
     let valid = subst (λ (z : ModuleValue). Valid (module_of z)) same c.module-module.ensures.valid in
     let free : reserved_at m ≡ None = ap (λ (z : ModuleValue). reserved_at (module_of z)) (sym same) ∙ sym c.reserved.ensures ∙ none_is c.reserved.result c.in_default.not-Some in
     let emitted : AllEmitted m s which c.in_ok-emitted.emitted = subst (λ w. AllEmitted m s w c.in_ok-emitted.emitted) c.deref.ensures.value c.in_ok-emitted.ensures in
-    let made : module_of c.in_ok-inner.inner ≡ inner m s which =
-    c.in_ok-inner.ensures ∙ ap (λ (z : ModuleValue). record (module_of z) { funcs = map func_of c.in_ok-emitted.emitted.funcs.items }) same ∙ ap (λ fs. record m { funcs = fs }) emitted.funcs in
+    let gs = map func_of c.in_ok-emitted.emitted.funcs.items in
+    let made : module_of c.in_ok-inner.inner ≡ record m { funcs = gs } = c.in_ok-inner.ensures ∙ ap (λ (z : ModuleValue). record (module_of z) { funcs = gs }) same in
+    let can : CanBeEmitted m s which = record { valid = valid; sizes = c.requires.sizes; few = few_written m which emitted.few; tells = c.in_ok-which.ensures } in
+    let as_ : EmittedAs m s which (with_runtime (record m { funcs = gs })) = functions_law m s which gs emitted.funcs in
     subst (λ q. reserved_at q ≡ None) (sym made) free
 
 pub with_parts-requires-clause-valid : goal.with_parts-requires-clause-valid
@@ -95,9 +101,11 @@ with_parts-requires-clause-valid c =
     let valid = subst (λ (z : ModuleValue). Valid (module_of z)) same c.module-module.ensures.valid in
     let free : reserved_at m ≡ None = ap (λ (z : ModuleValue). reserved_at (module_of z)) (sym same) ∙ sym c.reserved.ensures ∙ none_is c.reserved.result c.in_default.not-Some in
     let emitted : AllEmitted m s which c.in_ok-emitted.emitted = subst (λ w. AllEmitted m s w c.in_ok-emitted.emitted) c.deref.ensures.value c.in_ok-emitted.ensures in
-    let made : module_of c.in_ok-inner.inner ≡ inner m s which =
-    c.in_ok-inner.ensures ∙ ap (λ (z : ModuleValue). record (module_of z) { funcs = map func_of c.in_ok-emitted.emitted.funcs.items }) same ∙ ap (λ fs. record m { funcs = fs }) emitted.funcs in
-    subst (λ q. Valid (with_runtime q)) (sym made) (valid_law m s which valid (unreserved_is_free m free))
+    let gs = map func_of c.in_ok-emitted.emitted.funcs.items in
+    let made : module_of c.in_ok-inner.inner ≡ record m { funcs = gs } = c.in_ok-inner.ensures ∙ ap (λ (z : ModuleValue). record (module_of z) { funcs = gs }) same in
+    let can : CanBeEmitted m s which = record { valid = valid; sizes = c.requires.sizes; few = few_written m which emitted.few; tells = c.in_ok-which.ensures } in
+    let as_ : EmittedAs m s which (with_runtime (record m { funcs = gs })) = functions_law m s which gs emitted.funcs in
+    subst (λ q. Valid (with_runtime q)) (sym made) (valid_as m s which (with_runtime (record m { funcs = gs })) can (unreserved_is_free m free) as_)
 
 pub with_parts-requires-clause-sizes : goal.with_parts-requires-clause-sizes
 with_parts-requires-clause-sizes c =
@@ -109,9 +117,11 @@ with_parts-requires-clause-sizes c =
     let valid = subst (λ (z : ModuleValue). Valid (module_of z)) same c.module-module.ensures.valid in
     let free : reserved_at m ≡ None = ap (λ (z : ModuleValue). reserved_at (module_of z)) (sym same) ∙ sym c.reserved.ensures ∙ none_is c.reserved.result c.in_default.not-Some in
     let emitted : AllEmitted m s which c.in_ok-emitted.emitted = subst (λ w. AllEmitted m s w c.in_ok-emitted.emitted) c.deref.ensures.value c.in_ok-emitted.ensures in
-    let made : module_of c.in_ok-inner.inner ≡ inner m s which =
-    c.in_ok-inner.ensures ∙ ap (λ (z : ModuleValue). record (module_of z) { funcs = map func_of c.in_ok-emitted.emitted.funcs.items }) same ∙ ap (λ fs. record m { funcs = fs }) emitted.funcs in
-    subst (λ q. SizeRule (with_runtime q)) (sym made) (sizes_law m s which valid c.requires.sizes (few_written m which emitted.few))
+    let gs = map func_of c.in_ok-emitted.emitted.funcs.items in
+    let made : module_of c.in_ok-inner.inner ≡ record m { funcs = gs } = c.in_ok-inner.ensures ∙ ap (λ (z : ModuleValue). record (module_of z) { funcs = gs }) same in
+    let can : CanBeEmitted m s which = record { valid = valid; sizes = c.requires.sizes; few = few_written m which emitted.few; tells = c.in_ok-which.ensures } in
+    let as_ : EmittedAs m s which (with_runtime (record m { funcs = gs })) = functions_law m s which gs emitted.funcs in
+    subst (λ q. SizeRule (with_runtime q)) (sym made) (sizes_as m s which (with_runtime (record m { funcs = gs })) can as_)
 
 pub returns : goal.returns
 returns c =
@@ -123,14 +133,16 @@ returns c =
     let valid = subst (λ (z : ModuleValue). Valid (module_of z)) same c.module-module.ensures.valid in
     let free : reserved_at m ≡ None = ap (λ (z : ModuleValue). reserved_at (module_of z)) (sym same) ∙ sym c.reserved.ensures ∙ none_is c.reserved.result c.in_default.not-Some in
     let emitted : AllEmitted m s which c.in_ok-emitted.emitted = subst (λ w. AllEmitted m s w c.in_ok-emitted.emitted) c.deref.ensures.value c.in_ok-emitted.ensures in
-    let made : module_of c.in_ok-inner.inner ≡ inner m s which =
-    c.in_ok-inner.ensures ∙ ap (λ (z : ModuleValue). record (module_of z) { funcs = map func_of c.in_ok-emitted.emitted.funcs.items }) same ∙ ap (λ fs. record m { funcs = fs }) emitted.funcs in
+    let gs = map func_of c.in_ok-emitted.emitted.funcs.items in
+    let made : module_of c.in_ok-inner.inner ≡ record m { funcs = gs } = c.in_ok-inner.ensures ∙ ap (λ (z : ModuleValue). record (module_of z) { funcs = gs }) same in
+    let can : CanBeEmitted m s which = record { valid = valid; sizes = c.requires.sizes; few = few_written m which emitted.few; tells = c.in_ok-which.ensures } in
+    let as_ : EmittedAs m s which (with_runtime (record m { funcs = gs })) = functions_law m s which gs emitted.funcs in
     let is = c.in_ok-rewritten.ensures.done ∙ ap with_runtime made in
     record {
       free = free;
       tells = c.in_ok-which.ensures;
       few = emitted.few;
-      emitted = is;
-      rewrites = subst (RewritesButRuns m s) (sym is) (rewritten_law m s which valid (unreserved_is_free m free) c.in_ok-which.ensures);
+      emitted = subst (EmittedAs m s which) (sym is) as_;
+      rewrites = subst (RewritesButRuns m s) (sym is) (rewritten_as m s which (with_runtime (record m { funcs = gs })) can (unreserved_is_free m free) as_);
       layouts = emitted.layouts;
     }

@@ -1,17 +1,17 @@
 -- A source keeps the size rule and reserves nothing; rewritten, it behaves like itself.
-use Rattle.std.proofs.Common.{◌≡◌, None, ap, arith, drop}
+use Rattle.std.proofs.Common.{◌≡◌, None, arith, drop}
 use Rattle.wa_types.specs.Marks.{first_above}
 use Rattle.wa_types.specs.Modules.{func_imports}
 use Rattle.wa_types.specs.Syntax.{Module}
 use Rattle.wa_types.specs.View.{module_of}
-use Rattle.call_graph.specs.Settings.{policy_of, settings_of}
+use Rattle.call_graph.specs.Settings.{settings_of}
 use Rattle.source_modules.specs.Sources.{rewritten_counts}
 use Rattle.source_modules.proofs.Accepted.{strict, few_written, none_passes, none_reserved, rewrite_refused, well}
 use Rattle.source_modules.proofs.FreeNames.{runs_rewritten}
 use Rattle.source_modules.proofs.running.rewritten.Goals as goal
 
-pub asyncify_module-requires-clause-sizes : goal.asyncify_module-requires-clause-sizes
-asyncify_module-requires-clause-sizes c = strict c.args.bytes.now (module_of c.in_ok-valid.valid) c.in_ok-valid.ensures.source
+pub asyncify_module-requires : goal.asyncify_module-requires
+asyncify_module-requires c = record { sizes = strict c.args.bytes.now (module_of c.in_ok-valid.valid) c.in_ok-valid.ensures.source }
 
 pub rewrite_fault-requires : goal.rewrite_fault-requires
 rewrite_fault-requires c =
@@ -36,5 +36,5 @@ returns-in-Ok-clause-done c =
       listed_is = c.in_ok-listed.ensures;
       written = e.emitted;
       rewrites = runs_rewritten m s which (module_of c.in-Ok.rewritten.«module») e.emitted c.in_ok-valid.ensures.source.valid e.free (strict c.args.bytes.now m c.in_ok-valid.ensures.source)
-          (few_written m which few) (ap policy_of c.requires) e.tells;
+          (few_written m which few) e.tells;
     }

@@ -1,0 +1,29 @@
+//! Laws of what is emitted, for both policies. Each is the contract of a function that does nothing.
+
+ghost use Rattle.live_form.specs.EmittedAs.{FunctionsAreEmitted};
+ghost use Rattle.live_form.specs.PolicyLaws.{EmittedAsIsRewritten, EmittedAsIsValid, EmittedAsKeepsSizes, EmittedAsRewrites};
+
+/// Functions that are emitted one by one are those of an emitted module.
+pub fn functions_are_emitted()
+    ensures { FunctionsAreEmitted }
+{}
+
+/// What is emitted is valid.
+pub fn emitted_is_valid()
+    ensures { EmittedAsIsValid }
+{}
+
+/// It is the original, rewritten, in every part but its runs.
+pub fn emitted_is_rewritten()
+    ensures { EmittedAsIsRewritten }
+{}
+
+/// It is the original, rewritten: it behaves like it under every plan of pauses.
+pub fn emitted_rewrites()
+    ensures { EmittedAsRewrites }
+{}
+
+/// It keeps the size rule.
+pub fn emitted_keeps_sizes()
+    ensures { EmittedAsKeepsSizes }
+{}

@@ -1,0 +1,4 @@
+pub mod CallFacts
+pub mod LayoutSteps
+pub mod PartsOwed
+pub mod SetFields

@@ -1,0 +1,82 @@
+-- The parts that are made from the sets are those of the policy `live`, and the function is as it is written with them.
+use Rattle.std.proofs.Common.{◌≡◌, ◌∙◌, ℕ, suc, ◌+◌, ◌<◌, List, [], ◌∷◌, ◌++◌, length, map, drop, Bool, refl, ap, arith}
+use Rattle.std.specs.Prelude.{slice_get}
+use Rattle.std.proofs.lemmas.Option.{slice_get_within}
+use Rattle.wa_types.specs.declared.syntax.Run.{Run}
+use Rattle.wa_types.specs.declared.values.ValType.TheVariants.{I32, I64}
+use Rattle.wa_types.specs.Pausing.{Numbered, Settings}
+use Rattle.wa_types.specs.Runtime.{global_space}
+use Rattle.wa_types.specs.Sizes.{StrictSizeRule}
+use Rattle.wa_types.specs.Syntax.{Code, done, Func, Module}
+use Rattle.wa_types.specs.Validity.{Valid}
+use Rattle.wa_model.specs.Flat.{FlatFunc, result_got}
+use Rattle.wa_model.specs.FlatFits.{one_run}
+use Rattle.wa_model.specs.FlatView.{flat_func_of}
+use Rattle.flat_laws.specs.Flatten.{flattened}
+use Rattle.flatten.specs.declared.whole.Flattened.{Flattened}
+use Rattle.asyncify_runtime.specs.Ids.{ids_behind}
+use Rattle.local_spill.specs.declared.RuntimeIds.{RuntimeIds}
+use Rattle.guard_form.specs.Guarded.{function_body, guarded_code}
+use Rattle.call_frames.specs.FrameParts.{restoring_by_call, saving_by_call}
+use Rattle.call_frames.specs.PlainFrames.{SavedParts, frames_of}
+use Rattle.live_locals.specs.LiveAt.{LiveAtCalls}
+use Rattle.call_classes.specs.declared.frames.FrameParts.{FrameParts}
+use Rattle.call_classes.specs.Classes.{KeepSets}
+use Rattle.call_classes.specs.Views.{parts_view, told_frames}
+use Rattle.live_form.specs.EmittedAs.{IsLiveWritten, live_written}
+use Rattle.live_form.specs.LiveParts.{LiveParts}
+use Rattle.func_rewrite.specs.Frames.{IsFlattened}
+use Rattle.func_rewrite.proofs.WrittenFuncs.{func_is, mk_func, runs_same}
+use Rattle.live_rewrite.proofs.SetFields.{fields_saved, numbers_below, total_saved}
+
+module _ (m : Module) (s : Settings) (which : List Bool) (f : Func) (v : Flattened) (valid : Valid m) (sizes : StrictSizeRule m) (h : IsFlattened m f v)
+    (ns : List ℕ) (sets : List (List Bool)) (en : ns ≡ Numbered m s which f) (live : LiveAtCalls (flat_func_of v.func) ns sets)
+    (ids : RuntimeIds) (ei : ids ≡ ids_behind m) (parts : FrameParts) (keep : KeepSets v.func.locals.items sets (parts_view parts)) where
+  abbrev x : ℕ
+  x = v.func.func
+
+  abbrev base : ℕ
+  base = length v.func.locals.items
+
+  abbrev told : SavedParts
+  told = told_frames (length ns) base ids.address parts
+
+  many : length sets ≡ length (Numbered m s which f)
+  many = live.calls ∙ ap length en
+
+  base_is : base ≡ length (flattened m x f).locals
+  base_is = ap (λ (g : FlatFunc). length g.locals) h.flat
+
+  pub owed : LiveParts m s which x f told
+  owed = record {
+    count = ap length en;
+    address = ap (λ (i : RuntimeIds). i.address) ei ∙ (let z : global_space m + 1 ≡ suc (global_space m) = omega arith in z);
+    index = base_is;
+    scratch = (let e = base_is in let z : base + 1 ≡ suc (length (flattened m x f).locals) = omega (arith, e) in z);
+    fields = λ k place at.
+        let here = ap (λ ps. slice_get ps k) en ∙ at in
+        let lt = slice_get_within ns k place here in
+        let few : k < length sets = (let c = live.calls in omega (arith, lt, c)) in
+        keep.fields k few ∙ fields_saved m s which f v valid h ns sets en live k place here;
+    below = numbers_below (length sets) (length (Numbered m s which f)) (parts_view parts) many keep.below;
+    named = keep.named;
+    numbers = (let a = keep.numbers in let e = many in omega (arith, a, e));
+    size = (let a = keep.size in let e = total_saved m s which f v valid h ns sets en live in omega (arith, a, e));
+  }
+
+  abbrev whole : ℕ → SavedParts → List ℕ → FlatFunc → Code
+  whole g p ks fl = function_body g (restoring_by_call (frames_of p) done) (saving_by_call (frames_of p) done) (result_got fl.result) (guarded_code g ks fl)
+
+  body_same : whole ids.state told ns (flat_func_of v.func) ≡ (live_written m s which x f told).body
+  body_same =
+      ap (λ (i : RuntimeIds). whole i.state told ns (flat_func_of v.func)) ei
+      ∙ ap (λ ks. whole (global_space m) told ks (flat_func_of v.func)) en
+      ∙ ap (whole (global_space m) told (Numbered m s which f)) h.flat
+
+  pub live_is : (locals : List Run) (body : Code) → locals ≡ f.locals ++ map one_run (drop v.first_slot v.func.locals.items ++ I32 ∷ I32 ∷ I64 ∷ [])
+      → body ≡ whole ids.state told ns (flat_func_of v.func) → IsLiveWritten m s which x f (mk_func f.sort locals body)
+  live_is locals body el eb = record {
+    parts = told;
+    live = owed;
+    is = func_is (live_written m s which x f told) f.sort locals body refl (el ∙ runs_same m s which f v valid sizes h v.first_slot refl) (eb ∙ body_same);
+  }

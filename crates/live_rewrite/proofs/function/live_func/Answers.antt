@@ -1,0 +1,73 @@
+use Rattle.std.proofs.Common.{arith, ap, length, drop, map, subst, sym, ◌∙◌, ◌++◌, ◌∷◌, []}
+use Rattle.wa_types.specs.declared.values.ValType.TheVariants.{I32, I64}
+use Rattle.wa_types.specs.Syntax.{done}
+use Rattle.wa_types.specs.View.{code, func_of, module_of}
+use Rattle.wa_model.specs.Flat.{result_got}
+use Rattle.wa_model.specs.FlatFits.{one_run}
+use Rattle.wa_model.specs.FlatView.{flat_func_of}
+use Rattle.call_graph.specs.Settings.{settings_of}
+use Rattle.call_frames.specs.FrameParts.{restoring_by_call, saving_by_call}
+use Rattle.call_frames.specs.PlainFrames.{frames_of}
+use Rattle.flow_rewrite.specs.Emitting.{Rises}
+use Rattle.guard_form.specs.Guarded.{function_body, guarded_code}
+use Rattle.func_rewrite.proofs.WrittenFuncs.{few_calls, fits}
+use Rattle.call_classes.specs.Classes.{KeepSets}
+use Rattle.call_classes.specs.Views.{parts_view, sets_of, told_frames}
+use Rattle.live_locals.specs.LiveAt.{lists_of}
+use Rattle.live_rewrite.proofs.CallFacts.{SetsSized, numbers_rise, set_sizes, sets_few, types_few}
+use Rattle.live_rewrite.proofs.PartsOwed.{live_is}
+use Rattle.live_rewrite.proofs.function.live_func.Goals as goal
+
+pub saved_parts-requires-clause-sizes : goal.saved_parts-requires-clause-sizes
+saved_parts-requires-clause-sizes c =
+    let calls = c.args.calls.now in
+    let all = set_sizes (module_of c.args._module.now) (settings_of c.args._settings.now) c.args._which.now (func_of c.args.source.now) c.args.flat.now
+    c.requires.valid c.requires.sizes c.requires.flat calls.numbers.items calls.sets.items c.requires.calls.numbers c.requires.calls.sets in
+    subst (λ ts. SetsSized (length ts) c.deref.result.now) (sym c.deref-2.ensures.value) (subst (SetsSized (length c.args.flat.now.func.locals.items)) (sym c.deref.ensures.value) all)
+
+pub saved_parts-requires-clause-few : goal.saved_parts-requires-clause-few
+saved_parts-requires-clause-few c =
+    let calls = c.args.calls.now in
+    let k = types_few (module_of c.args._module.now) (settings_of c.args._settings.now) c.args._which.now (func_of c.args.source.now) c.args.flat.now
+    c.requires.valid c.requires.sizes c.requires.flat calls.numbers.items calls.sets.items c.requires.calls.numbers c.requires.calls.sets in
+    let e = ap length c.deref-2.ensures.value in omega (arith, k, e)
+
+pub saved_parts-requires-clause-calls : goal.saved_parts-requires-clause-calls
+saved_parts-requires-clause-calls c =
+    let calls = c.args.calls.now in
+    let k = sets_few (module_of c.args._module.now) (settings_of c.args._settings.now) c.args._which.now (func_of c.args.source.now) c.args.flat.now
+    c.requires.valid c.requires.sizes c.requires.flat calls.numbers.items calls.sets.items c.requires.calls.numbers c.requires.calls.sets in
+    let e = ap length c.deref.ensures.value in omega (arith, k, e)
+
+pub live_body-requires-clause-fits : goal.live_body-requires-clause-fits
+live_body-requires-clause-fits c =
+    fits (module_of c.args._module.now) (settings_of c.args._settings.now) c.args._which.now (func_of c.args.source.now) c.args.flat.now c.requires.valid c.requires.sizes c.requires.flat
+
+pub live_body-requires-clause-rises : goal.live_body-requires-clause-rises
+live_body-requires-clause-rises c =
+    let calls = c.args.calls.now in
+    subst Rises (sym c.deref-3.ensures.value)
+    (numbers_rise (module_of c.args._module.now) (settings_of c.args._settings.now) c.args._which.now (func_of c.args.source.now) c.args.flat.now
+    c.requires.valid c.requires.sizes c.requires.flat calls.numbers.items calls.sets.items c.requires.calls.numbers c.requires.calls.sets)
+
+pub live_body-requires-clause-few : goal.live_body-requires-clause-few
+live_body-requires-clause-few c =
+    few_calls (module_of c.args._module.now) (settings_of c.args._settings.now) c.args._which.now (func_of c.args.source.now) c.args.flat.now c.requires.valid c.requires.sizes c.requires.flat
+
+pub returns : goal.returns
+returns c =
+    let calls = c.args.calls.now in
+    let v = c.args.flat.now in
+    let ids = c.args.ids.now in
+    let parts = c.in_ok-parts.parts in
+    let told = told_frames (length calls.numbers.items) (length v.func.locals.items) ids.address parts in
+    let keep = subst (λ ts. KeepSets ts (sets_of calls.sets.items) (parts_view parts)) c.deref-2.ensures.value
+    (subst (λ ss. KeepSets c.deref-2.result.now (sets_of ss) (parts_view parts)) c.deref.ensures.value c.in_ok-parts.ensures.keep) in
+    let body = c.in_ok-body.ensures (length calls.numbers.items)
+    ∙ ap (λ ns. function_body ids.state (restoring_by_call (frames_of told) done) (saving_by_call (frames_of told) done) (result_got v.func.result)
+    (guarded_code ids.state ns (flat_func_of v.func))) c.deref-3.ensures.value in
+    let locals = c.in_ok-locals.ensures ∙ ap (λ rs. rs ++ map one_run (drop v.first_slot c.deref-5.result.now ++ I32 ∷ I32 ∷ I64 ∷ [])) c.deref-4.ensures.value
+    ∙ ap (λ ls. c.args.source.now.locals.items ++ map one_run (drop v.first_slot ls ++ I32 ∷ I32 ∷ I64 ∷ [])) c.deref-5.ensures.value in
+    live_is (module_of c.args._module.now) (settings_of c.args._settings.now) c.args._which.now (func_of c.args.source.now) v
+    c.requires.valid c.requires.sizes c.requires.flat calls.numbers.items (lists_of calls.sets.items) c.requires.calls.numbers c.requires.calls.sets ids c.requires.ids parts keep
+    c.in_ok-locals.locals.items (code c.in_ok-body.body.items) locals body

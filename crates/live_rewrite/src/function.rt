@@ -1,0 +1,154 @@
+//! The function as it is written, and its frames.
+
+ghost use Rattle.std.specs.Prelude.{◌≡◌, ◌≤◌, ◌<◌, ◌+◌, ◌^◌, ℕ, length, IfOk};
+ghost use Rattle.wa_types.specs.Pausing.{Listed, save_live};
+ghost use Rattle.wa_types.specs.Sizes.{StrictSizeRule};
+ghost use Rattle.wa_types.specs.Syntax.{done};
+ghost use Rattle.wa_types.specs.Validity.{Valid as IsValid};
+ghost use Rattle.wa_types.specs.View.{code, func_of, module_of};
+ghost use Rattle.wa_model.specs.Flat.{result_got};
+ghost use Rattle.wa_model.specs.FlatFits.{FlatFits};
+ghost use Rattle.wa_model.specs.FlatView.{flat_func_of};
+ghost use Rattle.call_graph.specs.Settings.{settings_of};
+ghost use Rattle.asyncify_runtime.specs.Ids.{ids_behind};
+ghost use Rattle.call_frames.specs.FrameParts.{restoring_by_call, saving_by_call};
+ghost use Rattle.call_frames.specs.PlainFrames.{frames_of};
+ghost use Rattle.flow_rewrite.specs.Emitting.{Rises};
+ghost use Rattle.func_rewrite.specs.Frames.{FramesUnder, IsFlattened};
+ghost use Rattle.guard_form.specs.Guarded.{function_body, guarded_code};
+ghost use Rattle.guard_form.specs.Pieces.{call_total};
+ghost use Rattle.live_form.specs.EmittedAs.{IsLiveWritten};
+ghost use Rattle.call_classes.specs.Classes.{FewFields};
+ghost use Rattle.call_classes.specs.Views.{told_frames};
+ghost use Rattle.live_rewrite.specs.Calls.{AreLiveCalls};
+
+use crate::calls::{LiveCalls, live_calls};
+use crate::layouts::set_layouts;
+use call_classes::{FrameParts, saved_parts};
+use call_graph::Settings;
+use flatten::Flattened;
+use func_rewrite::{Written, body_around, unless_normal, written_locals};
+use live_frames::{restoring, saving};
+use local_spill::{Layout, RuntimeIds};
+use std::alloc::{AllocError, Global};
+use wa_model::FlatFunc;
+use wa_types::{Func, Instr, Module};
+
+/// The body of the written function, whose numbered calls have these places and whose frames have these parts.
+fn live_body(
+    alloc: Global,
+    flat: &FlatFunc,
+    numbers: &[u32],
+    parts: &FrameParts,
+    ids: &RuntimeIds,
+) -> Result<Vec<Instr>, AllocError>
+    requires fits { FlatFits (flat_func_of flat.now) }
+    requires rises { Rises numbers.now }
+    requires few { call_total (flat_func_of flat.now).body < 2 ^ 32 }
+    requires shared { length parts.now.shared.items ≤ 50000 }
+    requires classes { FewFields parts.now.classes.items }
+    ensures { IfOk result (λ v. (count : ℕ) → code v.items ≡ function_body ids.now.state (restoring_by_call (frames_of (told_frames count (length flat.now.locals.items) ids.now.address parts.now)) done) (saving_by_call (frames_of (told_frames count (length flat.now.locals.items) ids.now.address parts.now)) done) (result_got flat.now.result) (guarded_code ids.now.state numbers.now (flat_func_of flat.now))) }
+{
+    let base = flat.locals.len() as u32;
+    let restored = restoring(alloc, parts, base, ids.address)?;
+    let start = unless_normal(alloc, ids.state, restored)?;
+    let saved = saving(alloc, parts, base, ids.address)?;
+    let end = unless_normal(alloc, ids.state, saved)?;
+    body_around(alloc, flat, numbers, start, end, ids.state)
+}
+
+/// The function as it is written, whose numbered calls keep these locals.
+fn live_func(
+    alloc: Global,
+    _module: &Module,
+    _settings: &Settings,
+    _which: &[bool],
+    source: &Func,
+    flat: &Flattened,
+    calls: &LiveCalls,
+    ids: &RuntimeIds,
+) -> Result<Func, AllocError>
+    requires valid { IsValid (module_of _module.now) }
+    requires sizes { StrictSizeRule (module_of _module.now) }
+    requires ids { ids.now ≡ ids_behind (module_of _module.now) }
+    requires flat { IsFlattened (module_of _module.now) (func_of source.now) flat.now }
+    requires calls { AreLiveCalls (module_of _module.now) (settings_of _settings.now) _which.now (func_of source.now) flat.now calls.now }
+    ensures { IfOk result (λ f. IsLiveWritten (module_of _module.now) (settings_of _settings.now) _which.now flat.now.func.func (func_of source.now) (func_of f)) }
+{
+    let parts = saved_parts(alloc, &calls.sets, &flat.func.locals)?;
+    let body = live_body(alloc, &flat.func, &calls.numbers, &parts, ids)?;
+    let locals = written_locals(alloc, &source.locals, &flat.func.locals, flat.first_slot)?;
+    Ok(Func {
+        sort: source.sort,
+        locals,
+        body,
+    })
+}
+
+/// The frames of its numbered calls, in order.
+fn live_layouts(
+    alloc: Global,
+    _module: &Module,
+    _settings: &Settings,
+    _which: &[bool],
+    _source: &Func,
+    flat: &Flattened,
+    calls: &LiveCalls,
+) -> Result<Vec<Layout>, AllocError>
+    requires valid { IsValid (module_of _module.now) }
+    requires sizes { StrictSizeRule (module_of _module.now) }
+    requires flat { IsFlattened (module_of _module.now) (func_of _source.now) flat.now }
+    requires calls { AreLiveCalls (module_of _module.now) (settings_of _settings.now) _which.now (func_of _source.now) flat.now calls.now }
+    ensures { IfOk result (λ ls. FramesUnder save_live (module_of _module.now) (settings_of _settings.now) _which.now (func_of _source.now) ls.items) }
+{
+    let layouts = set_layouts(alloc, &calls.sets, &flat.func.locals)?;
+    Ok(layouts)
+}
+
+/// The function as it is written under the policy `live`, and its frames, where `which` tells the functions that may pause and
+/// `listed` the imports that may.
+pub fn write_live_func(
+    alloc: Global,
+    module: &Module,
+    settings: &Settings,
+    which: &[bool],
+    listed: &[bool],
+    source: &Func,
+    flat: &Flattened,
+    ids: &RuntimeIds,
+) -> Result<Written, AllocError>
+    requires valid { IsValid (module_of «module».now) }
+    requires sizes { StrictSizeRule (module_of «module».now) }
+    requires listed { listed.now ≡ Listed (module_of «module».now) (settings_of settings.now) }
+    requires ids { ids.now ≡ ids_behind (module_of «module».now) }
+    requires flat { IsFlattened (module_of «module».now) (func_of source.now) flat.now }
+    ensures func { IfOk result (λ w. IsLiveWritten (module_of «module».now) (settings_of settings.now) which.now flat.now.func.func (func_of source.now) (func_of w.func)) }
+    ensures frames { IfOk result (λ w. FramesUnder save_live (module_of «module».now) (settings_of settings.now) which.now (func_of source.now) w.frames.items) }
+{
+    let calls = live_calls(alloc, module, settings, which, listed, source, flat)?;
+    let func = live_func(alloc, module, settings, which, source, flat, &calls, ids)?;
+    let frames = live_layouts(alloc, module, settings, which, source, flat, &calls)?;
+    Ok(Written { func, frames })
+}
+
+/// The function as it is written under the policy `live`, without its frames.
+pub fn emit_live_func(
+    alloc: Global,
+    module: &Module,
+    settings: &Settings,
+    which: &[bool],
+    listed: &[bool],
+    source: &Func,
+    flat: &Flattened,
+    ids: &RuntimeIds,
+) -> Result<Func, AllocError>
+    requires valid { IsValid (module_of «module».now) }
+    requires sizes { StrictSizeRule (module_of «module».now) }
+    requires listed { listed.now ≡ Listed (module_of «module».now) (settings_of settings.now) }
+    requires ids { ids.now ≡ ids_behind (module_of «module».now) }
+    requires flat { IsFlattened (module_of «module».now) (func_of source.now) flat.now }
+    ensures { IfOk result (λ f. IsLiveWritten (module_of «module».now) (settings_of settings.now) which.now flat.now.func.func (func_of source.now) (func_of f)) }
+{
+    let calls = live_calls(alloc, module, settings, which, listed, source, flat)?;
+    live_func(alloc, module, settings, which, source, flat, &calls, ids)
+}
