@@ -26,10 +26,10 @@ use transform_command::run_transform;
 use vault_port::{Sink, Vault};
 
 /// Runs the command that the words spell, without the program's own name, over a vault of files, a sink for what it prints, and
-/// devices that answer imports of the programs of a script, and answers its status: 0 done, 2 no command, 3 bytes that spell no module, 4 a float, 5 a module that isn't
-/// valid, 6 a limit, 7 a reserved name, 8 a line of a script, 9 want of memory, 10 a file that could not be read, 11 one that could not be
-/// written, 12 a sink that failed. Each refusal prints a line, and changes no device. Want of memory may come in the place of any other
-/// answer.
+/// devices that answer imports of the programs of a script, and answers its status: 0 done, 2 no command, 3 bytes that spell no module,
+/// 4 a float, 5 a module that isn't valid, 6 a limit, 7 a reserved name, 8 a line of a script, 9 want of memory, 10 a file that could not
+/// be read, 11 one that could not be written, 12 a sink that failed. Each refusal prints a line, and changes no device. Want of memory may
+/// come in the place of any other answer.
 pub fn asyncify<V: Vault, S: Sink>(
     alloc: Global,
     words: &[String],
@@ -80,7 +80,6 @@ pub fn asyncify<V: Vault, S: Sink>(
     ensures kept { (result ≡ 10) ⊎ IsRefusal result → V.files vault.new ≡ V.files vault.old }
     ensures cut { OnTransform (rewriting (spelled (map string_bytes words.now))) (λ settings input output.
         (result ≡ 9) ⊎ (result ≡ 11) → Becomes (V.files vault.old) (V.files vault.new) (IsCutShort settings input output)) }
-
     ensures scripts_kept { OnScript (spelled (map string_bytes words.now)) (V.files vault.new ≡ V.files vault.old) }
 
     // What is printed.

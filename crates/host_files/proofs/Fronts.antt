@@ -1,5 +1,6 @@
 -- What holds of the front of a file that was read holds of the file.
-use Rattle.std.proofs.Common.{◌≡◌, inl, inr, ℕ, ◌≤◌, List, Option, Some, None, refl, sym, subst, take, length, arith, Result, Ok, Err}
+use Rattle.std.proofs.Common.{◌≡◌, inl, inr, ℕ, ◌≤◌, List, [], Option, Some, None, refl, sym, ap, subst, take, length, arith, Result, Ok, Err}
+use Rattle.std.specs.Prelude.{IsSome, unwrap_or}
 use Rattle.std.specs.Result.{IfErr}
 use Rattle.std.proofs.lemmas.List.{take_all, length-take}
 use Rattle.vault_port.specs.Files.{Files, bytes_of}
@@ -21,6 +22,19 @@ use Rattle.host_files.specs.declared.fault.FileFault.{FileFault}
 use Rattle.host_files.specs.declared.fault.FileFault.TheVariants.{Memory, Read, Refused}
 use Rattle.host_files.specs.Scripts.{IsScript, IsNoScript, HasFault}
 use Rattle.host_files.specs.Views.{Holds, IsContentFault, IsNoScriptFor, IsToldNoScript, IsToldUnprepared, file_fault}
+
+-- ---- files
+
+present : (o : Option (List ℕ)) → IsSome o → o ≡ Some (unwrap_or o [])
+present None h = cc
+present (Some bytes) h = refl
+
+-- a file that is there holds its bytes
+pub holds_own : (all : Files) (name : List ℕ) → IsSome (all name) → all name ≡ Some (bytes_of all name)
+holds_own all name h = present (all name) h
+
+pub own_bytes : (all : Files) (name bytes : List ℕ) → all name ≡ Some bytes → bytes ≡ bytes_of all name
+own_bytes all name bytes e = sym (ap (λ (o : Option (List ℕ)). unwrap_or o []) e)
 
 -- ---- modules
 
@@ -63,17 +77,19 @@ unprepared_whole bytes (read_fault name) h = absurd h
 unprepared_whole bytes (write_fault name) h = absurd h
 
 -- the module that was read is the file's
-pub prepared_of : (name bytes : List ℕ) (files : Option Files) (m : Module) → WhereTold files (λ all. bytes ≡ take 67108865 (bytes_of all name)) → IsPrepared bytes m
+pub prepared_of : (name bytes : List ℕ) (files : Option Files) (m : Module) → WhereTold files (λ all. bytes ≡ take 67108865 (bytes_of all name)) → WhereTold files (λ all. IsSome (all name))
+    → IsPrepared bytes m
     → (whole : List ℕ) × Holds files name whole × IsPrepared whole m
-prepared_of name bytes None m read h = (bytes, tt, h)
-prepared_of name bytes (Some all) m read h =
+prepared_of name bytes None m read there h = (bytes, tt, h)
+prepared_of name bytes (Some all) m read there h =
     let at : IsPrepared (take 67108865 (bytes_of all name)) m = subst (λ b. IsPrepared b m) read h in
-    (bytes_of all name, refl, record { read = accepted_whole (bytes_of all name) m at.read; valid = at.valid })
+    (bytes_of all name, holds_own all name there, record { read = accepted_whole (bytes_of all name) m at.read; valid = at.valid })
 
-pub unprepared_of : (name bytes : List ℕ) (files : Option Files) (r : Refusal) → WhereTold files (λ all. bytes ≡ take 67108865 (bytes_of all name)) → IsUnprepared bytes r
+pub unprepared_of : (name bytes : List ℕ) (files : Option Files) (r : Refusal) → WhereTold files (λ all. bytes ≡ take 67108865 (bytes_of all name)) → WhereTold files (λ all. IsSome (all name))
+    → IsUnprepared bytes r
     → (whole : List ℕ) × Holds files name whole × IsUnprepared whole r
-unprepared_of name bytes None r read h = (bytes, tt, h)
-unprepared_of name bytes (Some all) r read h = (bytes_of all name, refl, unprepared_whole (bytes_of all name) r (subst (λ b. IsUnprepared b r) read h))
+unprepared_of name bytes None r read there h = (bytes, tt, h)
+unprepared_of name bytes (Some all) r read there h = (bytes_of all name, holds_own all name there, unprepared_whole (bytes_of all name) r (subst (λ b. IsUnprepared b r) read h))
 
 -- ---- scripts
 
@@ -86,17 +102,19 @@ no_script_whole bytes r h = elim h [
   | inr f ↦ inr (f.0, subst (λ b. HasFault b f.0) (take_all 1048577 bytes (omega (arith, length-take 1048577 bytes, f.1.few))) f.1, f.2)
 ]
 
-pub script_of_file : (name bytes : List ℕ) (files : Option Files) (s : T.Script) → WhereTold files (λ all. bytes ≡ take 1048577 (bytes_of all name)) → IsScript bytes s
+pub script_of_file : (name bytes : List ℕ) (files : Option Files) (s : T.Script) → WhereTold files (λ all. bytes ≡ take 1048577 (bytes_of all name)) → WhereTold files (λ all. IsSome (all name))
+    → IsScript bytes s
     → (whole : List ℕ) × Holds files name whole × IsScript whole s
-script_of_file name bytes None s read h = (bytes, tt, h)
-script_of_file name bytes (Some all) s read h = (bytes_of all name, refl, script_whole (bytes_of all name) s (subst (λ b. IsScript b s) read h))
+script_of_file name bytes None s read there h = (bytes, tt, h)
+script_of_file name bytes (Some all) s read there h = (bytes_of all name, holds_own all name there, script_whole (bytes_of all name) s (subst (λ b. IsScript b s) read h))
 
-pub no_script_of : (name bytes : List ℕ) (files : Option Files) (fault : FileFault) → WhereTold files (λ all. bytes ≡ take 1048577 (bytes_of all name)) → IsNoScriptFor bytes fault
-    → IsToldNoScript files name fault
-no_script_of name bytes files Memory read h = tt
-no_script_of name bytes files Read read h = absurd h
-no_script_of name bytes None (Refused kind) read h = (bytes, tt, h)
-no_script_of name bytes (Some all) (Refused kind) read h = (bytes_of all name, refl, no_script_whole (bytes_of all name) (refusal_of kind) (subst (λ b. IsNoScript b (refusal_of kind)) read h))
+pub no_script_of : (name bytes : List ℕ) (files : Option Files) (fault : FileFault) → WhereTold files (λ all. bytes ≡ take 1048577 (bytes_of all name)) → WhereTold files (λ all. IsSome (all name))
+    → IsNoScriptFor bytes fault → IsToldNoScript files name fault
+no_script_of name bytes files Memory read there h = tt
+no_script_of name bytes files Read read there h = absurd h
+no_script_of name bytes None (Refused kind) read there h = (bytes, tt, h)
+no_script_of name bytes (Some all) (Refused kind) read there h =
+    (bytes_of all name, holds_own all name there, no_script_whole (bytes_of all name) (refusal_of kind) (subst (λ b. IsNoScript b (refusal_of kind)) read h))
 
 -- ---- answers
 
@@ -115,9 +133,9 @@ content_of bytes (read_fault name) h = h
 content_of bytes (write_fault name) h = h
 
 pub unprepared_told : (name bytes : List ℕ) (files : Option Files) (fault : PreparedFault) (told : FileFault) → told ≡ file_fault fault → WhereTold files (λ all. bytes ≡ take 67108865 (bytes_of all name))
-    → IsFaultOf bytes fault → IsToldUnprepared files name told
-unprepared_told name bytes files P.Memory told e read h = subst (IsToldUnprepared files name) (sym e) tt
-unprepared_told name bytes files (P.Refused kind) told e read h = subst (IsToldUnprepared files name) (sym e) (unprepared_of name bytes files (refusal_of kind) read h)
+    → WhereTold files (λ all. IsSome (all name)) → IsFaultOf bytes fault → IsToldUnprepared files name told
+unprepared_told name bytes files P.Memory told e read there h = subst (IsToldUnprepared files name) (sym e) tt
+unprepared_told name bytes files (P.Refused kind) told e read there h = subst (IsToldUnprepared files name) (sym e) (unprepared_of name bytes files (refusal_of kind) read there h)
 
 pub content_told : (bytes : List ℕ) (fault : PreparedFault) (told : FileFault) → told ≡ file_fault fault → IsFaultOf bytes fault → IsContentFault told
 content_told bytes P.Memory told e h = subst IsContentFault (sym e) tt

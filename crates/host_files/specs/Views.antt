@@ -1,6 +1,6 @@
 -- What is answered, as plain data.
-use Rattle.std.specs.Prelude.{◌≡◌, ℕ, List, Option, Result, Ok, Err}
-use Rattle.vault_port.specs.Files.{Files, bytes_of}
+use Rattle.std.specs.Prelude.{◌≡◌, ℕ, List, Option, Some, Result, Ok, Err}
+use Rattle.vault_port.specs.Files.{Files}
 use Rattle.vault_port.specs.Told.{WhereTold}
 use Rattle.wa_model.specs.Script as T
 use Rattle.wa_model.specs.ScriptLines.{Statement}
@@ -41,9 +41,9 @@ IsNoScriptFor bytes Memory = Unit {0}
 IsNoScriptFor bytes Read = ⊥
 IsNoScriptFor bytes (Refused kind) = IsNoScript bytes (refusal_of kind)
 
--- the file holds these bytes, where the files are told
+-- where the files are told, this one is there and holds these bytes
 abbrev pub Holds : Option Files → (name bytes : List ℕ) → Type 0
-Holds files name bytes = WhereTold files (λ all. bytes ≡ bytes_of all name)
+Holds files name bytes = WhereTold files (λ all. all name ≡ Some bytes)
 
 -- a refusal, for which the file's bytes are no script
 abbrev pub IsToldNoScript : Option Files → List ℕ → FileFault → Type 0

@@ -1,21 +1,26 @@
 -- What is run are rewritten originals.
-use Rattle.std.proofs.Common.{◌≡◌, ℕ, List, [], ◌∷◌, map, Option, Some, None, Bool, true, false, All, Result, Ok, Err, sym, ap, ◌∙◌, subst, if◌then◌else◌}
-use Rattle.std.specs.List.{AllZip}
+use Rattle.std.proofs.Common.{◌≡◌, ℕ, suc, List, [], ◌∷◌, length, map, Option, Some, None, Bool, true, false, All, Result, Ok, Err, refl, sym, ap, ◌∙◌, subst, if◌then◌else◌}
+use Rattle.std.specs.List.{AllZip, filter_map}
 use Rattle.std.specs.Option.{option_map}
 use Rattle.std.proofs.lemmas.List.Elements.{All-head, All-tail}
 use Rattle.vault_port.specs.Files.{Files}
-use Rattle.wa_types.specs.Pausing.{Choice, Settings, save_all}
+use Rattle.wa_types.specs.declared.syntax.Import.{Import}
+use Rattle.wa_types.specs.Modules.{imported_func}
+use Rattle.wa_types.specs.Pausing.{Choice, joined_name, Settings, save_all}
 use Rattle.wa_model.specs.Command.{choice_said}
-use Rattle.wa_model.specs.Script.{ProgramText, Script, ScriptFault, breaks, too_many}
+use Rattle.wa_model.specs.World.{name_if}
+use Rattle.wa_model.specs.Script.{EntryText, ProgramText, Script, ScriptFault, breaks, too_many}
 use Rattle.wa_model.specs.ScriptText.{script_text}
+use Rattle.wa_model.specs.Transcript.{Names, Transcript}
+use Rattle.script_setup.specs.SetUpRules.{program_names}
 use Rattle.host_files.specs.Scripts.{in_front_of, is_earlier, served_script}
 use Rattle.script_opening.specs.Playing.{IsStage, Play}
 use Rattle.script_opening.specs.declared.way.Way.TheVariants.{Run}
-use Rattle.world_hosting.specs.Worlds.{HasRanges, Part}
+use Rattle.world_hosting.specs.Worlds.{HasRanges, Part, part_names, turn_count}
 use Rattle.world_hosting.proofs.ScriptPrograms.{scripts_are_in_range}
 use Rattle.original_runs.specs.OriginalRuns.{IsRewritten, Source}
 use Rattle.original_runs.proofs.Originals.{told_of_originals}
-use Rattle.run_originals.specs.RunOriginals.{IsSource, RunsAreOfOriginals}
+use Rattle.run_originals.specs.RunOriginals.{IsSource, RunsAreOfOriginals, original_names}
 
 -- ---- the script's text
 
@@ -89,7 +94,37 @@ sources_of files (y ∷ ys) stages ranges =
     let rest = sources_of files ys (All-tail (IsStage Run files) y ys stages) (All-tail HasRanges y.text (texts_of ys) ranges) in
     record { sources = first.of ∷ rest.sources; are_sources = (first.is_source, rest.are_sources); rewritten = (first.rewritten, rest.rewritten) }
 
+-- ---- names
+
+abbrev names_over : ProgramText → List Import → Names
+names_over t is = record {
+  imports = filter_map (λ (i : Import). name_if (joined_name i) (imported_func i.kind)) is;
+  entries = map (λ (e : EntryText). e.name) t.entries;
+  len = t.area.len;
+}
+
+same_names : (xs : List Source) (ys : List Part) → AllZip IsRewritten xs ys → map part_names ys ≡ original_names xs ys
+same_names [] [] h = refl
+same_names [] (y ∷ ys) h = absurd h
+same_names (x ∷ xs) [] h = absurd h
+same_names (x ∷ xs) (y ∷ ys) h =
+    let one : part_names y ≡ program_names x.original y.text = ap (names_over y.text) h.0.rewrites.imports in
+    ap (λ (n : Names). n ∷ map part_names ys) one ∙ ap (λ (ns : List Names). program_names x.original y.text ∷ ns) (same_names xs ys h.1)
+
+as_many : (xs : List Source) (ys : List Part) → AllZip IsRewritten xs ys → length ys ≡ length xs
+as_many [] [] h = refl
+as_many [] (y ∷ ys) h = absurd h
+as_many (x ∷ xs) [] h = absurd h
+as_many (x ∷ xs) (y ∷ ys) h = ap suc (as_many xs ys h.1)
+
 pub runs_of_originals : RunsAreOfOriginals
 runs_of_originals files name play =
-    let have = sources_of files play.parts play.stages.each (in_range files name play) in
-    (have.sources, have.are_sources, λ old new text told calm. told_of_originals have.sources play.parts _ _ _ told.lines have.rewritten told.world calm)
+    let have = sources_of files play.parts play.stages.each (in_range files name play) in (
+      have.sources,
+      have.are_sources,
+      λ old new text told calm. (
+        told_of_originals have.sources play.parts _ _ _ told.lines have.rewritten told.world calm,
+        told.text_is ∙ ap (λ (ns : List Names). Transcript ns (length play.parts) (turn_count told.lines) told.lines) (same_names have.sources play.parts have.rewritten)
+            ∙ ap (λ (n : ℕ). Transcript (original_names have.sources play.parts) n (turn_count told.lines) told.lines) (as_many have.sources play.parts have.rewritten),
+      ),
+    )

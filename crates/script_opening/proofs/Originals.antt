@@ -1,5 +1,6 @@
 -- Originals, rewritten to be run.
 use Rattle.std.proofs.Common.{◌≡◌, ℕ, List, Option, Some, None, Bool, length, take, refl, sym, ap, ◌∙◌, subst}
+use Rattle.std.specs.Prelude.{IsSome}
 use Rattle.std.specs.List.{filter_map}
 use Rattle.vault_port.specs.Files.{Files, bytes_of}
 use Rattle.vault_port.specs.Told.{WhereTold}
@@ -23,6 +24,7 @@ use Rattle.source_modules.proofs.Fronts.{runs_whole, cause_whole}
 use Rattle.host_files.specs.declared.fault.FileFault.{FileFault}
 use Rattle.host_files.specs.declared.fault.FileFault.TheVariants.{Memory, Read, Refused}
 use Rattle.host_files.specs.Views.{Holds, IsToldUnprepared}
+use Rattle.host_files.proofs.Fronts.{holds_own}
 use Rattle.world_hosting.specs.Worlds.{IsListing}
 use Rattle.script_opening.specs.declared.way.Way.TheVariants.{Host, Run}
 use Rattle.script_opening.specs.declared.modules.Loaded.{Loaded}
@@ -59,25 +61,27 @@ module _ (t : ProgramText) where
   bad_front : (bytes : List ℕ) (r : Refusal) → IsBadOriginal t (take 8388609 bytes) r → IsBadOriginal t bytes r
   bad_front bytes r h = (h.0, h.1, h.2, cause_whole h.0 bytes h.1 h.3, h.4, h.5)
 
-  module_run : (files : Option Files) (front : List ℕ) (listed : List Bool) (p : Module) → WhereTold files (λ all. front ≡ take 8388609 (bytes_of all t.path))
+  module_run : (files : Option Files) (front : List ℕ) (listed : List Bool) (p : Module) → WhereTold files (λ all. front ≡ take 8388609 (bytes_of all t.path)) → WhereTold files (λ all. IsSome (all t.path))
       → RunsFor t front listed p → (bytes : List ℕ) × Holds files t.path bytes × RunsFor t bytes listed p
-  module_run None front listed p read h = (front, tt, h)
-  module_run (Some all) front listed p read h = (bytes_of all t.path, refl, runs_front (bytes_of all t.path) listed p (subst (λ b. RunsFor t b listed p) read h))
+  module_run None front listed p read there h = (front, tt, h)
+  module_run (Some all) front listed p read there h = (bytes_of all t.path, holds_own all t.path there, runs_front (bytes_of all t.path) listed p (subst (λ b. RunsFor t b listed p) read h))
 
-  pub loads_rewritten : (files : Option Files) (front : List ℕ) (l : Loaded) → WhereTold files (λ all. front ≡ take 8388609 (bytes_of all t.path)) → Rewritten t front l → Loads Run files t l
-  loads_rewritten files front l read h =
-      let m = module_run files front h.runs.0 (module_of l.valid) read h.runs.1 in
+  pub loads_rewritten : (files : Option Files) (front : List ℕ) (l : Loaded) → WhereTold files (λ all. front ≡ take 8388609 (bytes_of all t.path)) → WhereTold files (λ all. IsSome (all t.path))
+      → Rewritten t front l → Loads Run files t l
+  loads_rewritten files front l read there h =
+      let m = module_run files front h.runs.0 (module_of l.valid) read there h.runs.1 in
       record { module_is = (m.0, h.runs.0, m.1, m.2, h.runs.2); listing = h.listing }
 
-  bad_run : (files : Option Files) (front : List ℕ) (r : Refusal) → WhereTold files (λ all. front ≡ take 8388609 (bytes_of all t.path)) → IsBadOriginal t front r → IsBadModule Run files t r
-  bad_run None front r read h = (front, tt, h)
-  bad_run (Some all) front r read h = (bytes_of all t.path, refl, bad_front (bytes_of all t.path) r (subst (λ b. IsBadOriginal t b r) read h))
+  bad_run : (files : Option Files) (front : List ℕ) (r : Refusal) → WhereTold files (λ all. front ≡ take 8388609 (bytes_of all t.path)) → WhereTold files (λ all. IsSome (all t.path))
+      → IsBadOriginal t front r → IsBadModule Run files t r
+  bad_run None front r read there h = (front, tt, h)
+  bad_run (Some all) front r read there h = (bytes_of all t.path, holds_own all t.path there, bad_front (bytes_of all t.path) r (subst (λ b. IsBadOriginal t b r) read h))
 
-  pub bad_rewritten : (files : Option Files) (front : List ℕ) (fault : FileFault) → WhereTold files (λ all. front ≡ take 8388609 (bytes_of all t.path)) → IsBadOriginalFor t front fault
-      → IsBadModuleFor Run files t fault
-  bad_rewritten files front Memory read h = tt
-  bad_rewritten files front Read read h = tt
-  bad_rewritten files front (Refused kind) read h = bad_run files front (refusal_of kind) read h
+  pub bad_rewritten : (files : Option Files) (front : List ℕ) (fault : FileFault) → WhereTold files (λ all. front ≡ take 8388609 (bytes_of all t.path)) → WhereTold files (λ all. IsSome (all t.path))
+      → IsBadOriginalFor t front fault → IsBadModuleFor Run files t fault
+  bad_rewritten files front Memory read there h = tt
+  bad_rewritten files front Read read there h = tt
+  bad_rewritten files front (Refused kind) read there h = bad_run files front (refusal_of kind) read there h
 
   -- .. and those that are taken as they are
   pub bad_prepared : (files : Option Files) (fault : FileFault) → IsToldUnprepared files t.path fault → IsBadModuleFor Host files t fault

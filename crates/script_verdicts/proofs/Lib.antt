@@ -1,3 +1,5 @@
 pub mod Modules
+pub mod OneRead
 pub mod Prepared
 pub mod Scripts
+pub mod Sources

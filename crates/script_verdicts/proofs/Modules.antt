@@ -1,4 +1,4 @@
--- A program has one module, or is refused for causes of one status.
+-- A program has one module, or is refused for one cause.
 use Rattle.std.proofs.Common.{arith, ◌≡◌, ℕ, suc, ◌≤◌, List, Option, Some, None, Bool, refl, sym, ap, ◌∙◌, subst}
 use Rattle.vault_port.specs.Files.{Files, bytes_of}
 use Rattle.wa_types.specs.declared.bounds.LimitKind.{LimitKind}
@@ -9,15 +9,16 @@ use Rattle.slot_laws.proofs.Closed.{one_list}
 use Rattle.rewrite_form.specs.Emitted.{asyncified}
 use Rattle.wa_model.specs.Script.{ProgramText}
 use Rattle.wa_model.specs.Transcript.{Refusal}
+use Rattle.host_files.proofs.Fronts.{own_bytes}
 use Rattle.host_modules.specs.Prepared.{IsPrepared, IsUnprepared}
-use Rattle.printing.specs.Refused.{status_of}
 use Rattle.source_modules.specs.Running.{RunsAs}
 use Rattle.source_modules.specs.Sources.{Cause, malformed, float, deep, limit, reserved, invalid, rewritten_locals, long_output, IsRefusedFor, refusal_for}
 use Rattle.transform_command.proofs.Verdicts as V
 use Rattle.script_opening.specs.declared.way.Way.{Way}
 use Rattle.script_opening.specs.declared.way.Way.TheVariants.{Host, Run}
 use Rattle.script_opening.specs.Playing.{IsBadModule, IsModule, IsUnwritten, RunsFor, settings_for}
-use Rattle.script_verdicts.proofs.Prepared.{one_prepared, one_status, prepared_passes}
+use Rattle.script_verdicts.proofs.Prepared.{one_prepared, one_unprepared, prepared_passes}
+use Rattle.script_verdicts.proofs.Sources.{one_bad_original}
 
 -- ---- originals
 
@@ -65,35 +66,41 @@ pub record One (p q : Module) (l k : Option (List Bool)) : Type 0 where
   pub lists : l ≡ k
 
 module _ (files : Files) (t : ProgramText) where
+  -- the bytes of its file
+  own : (P : List ℕ → Type 0) (bytes : List ℕ) → files t.path ≡ Some bytes → P bytes → P (bytes_of files t.path)
+  own P bytes e h = subst P (own_bytes files t.path bytes e) h
+
   pub one_module : (way : Way) (p q : Module) (l k : Option (List Bool)) → IsModule way (Some files) t p l → IsModule way (Some files) t q k → One p q l k
   one_module Host p q l k a b = record {
-    modules = one_prepared (bytes_of files t.path) p q (subst (λ (bs : List ℕ). IsPrepared bs p) a.1 a.2) (subst (λ (bs : List ℕ). IsPrepared bs q) b.1 b.2);
+    modules = one_prepared (bytes_of files t.path) p q (own (λ (bs : List ℕ). IsPrepared bs p) a.0 a.1 a.2) (own (λ (bs : List ℕ). IsPrepared bs q) b.0 b.1 b.2);
     lists = a.3 ∙ sym b.3;
   }
   one_module Run p q l k a b =
       let s = one_settings t a.3.0 b.3.0 a.3.1 b.3.1 in
       let same = one_run b.3.0 (bytes_of files t.path) a.1 b.1 p q
-      (subst (λ (x : Settings). RunsAs x (bytes_of files t.path) a.1 p) s (subst (λ (bs : List ℕ). RunsAs a.3.0 bs a.1 p) a.2 a.3.2))
-      (subst (λ (bs : List ℕ). RunsAs b.3.0 bs b.1 q) b.2 b.3.2) in
+      (subst (λ (x : Settings). RunsAs x (bytes_of files t.path) a.1 p) s (own (λ (bs : List ℕ). RunsAs a.3.0 bs a.1 p) a.0 a.2 a.3.2))
+      (own (λ (bs : List ℕ). RunsAs b.3.0 bs b.1 q) b.0 b.2 b.3.2) in
       record { modules = same.modules; lists = a.4 ∙ ap (λ (x : List Bool). Some x) same.lists ∙ sym b.4 }
 
   -- a module isn't refused
   pub not_bad : (way : Way) (p : Module) (l : Option (List Bool)) (r : Refusal) → IsModule way (Some files) t p l → IsBadModule way (Some files) t r → ⊥
-  not_bad Host p l r a b = prepared_passes (bytes_of files t.path) p r (subst (λ (bs : List ℕ). IsPrepared bs p) a.1 a.2) (subst (λ (bs : List ℕ). IsUnprepared bs r) b.1 b.2)
+  not_bad Host p l r a b =
+      prepared_passes (bytes_of files t.path) p r (own (λ (bs : List ℕ). IsPrepared bs p) a.0 a.1 a.2) (own (λ (bs : List ℕ). IsUnprepared bs r) b.0 b.1 b.2)
   not_bad Run p l r a b =
       let bad = b.2 in
       let s = one_settings t bad.0 a.3.0 bad.2 a.3.1 in
-      run_passes a.3.0 (bytes_of files t.path) a.1 p bad.1 (subst (λ (bs : List ℕ). RunsAs a.3.0 bs a.1 p) a.2 a.3.2) bad.4
-      (subst (λ (x : Settings). IsRefusedFor x (bytes_of files t.path) bad.1) s (subst (λ (bs : List ℕ). IsRefusedFor bad.0 bs bad.1) b.1 bad.3))
+      run_passes a.3.0 (bytes_of files t.path) a.1 p bad.1 (own (λ (bs : List ℕ). RunsAs a.3.0 bs a.1 p) a.0 a.2 a.3.2) bad.4
+      (subst (λ (x : Settings). IsRefusedFor x (bytes_of files t.path) bad.1) s (own (λ (bs : List ℕ). IsRefusedFor bad.0 bs bad.1) b.0 b.1 bad.3))
 
-  -- refusals have one status
-  pub one_refused : (way : Way) (r q : Refusal) → IsBadModule way (Some files) t r → IsBadModule way (Some files) t q → status_of r ≡ status_of q
-  one_refused Host r q a b = one_status (bytes_of files t.path) r q (subst (λ (bs : List ℕ). IsUnprepared bs r) a.1 a.2) (subst (λ (bs : List ℕ). IsUnprepared bs q) b.1 b.2)
+  -- refusals are one
+  pub one_refused : (way : Way) (r q : Refusal) → IsBadModule way (Some files) t r → IsBadModule way (Some files) t q → r ≡ q
+  one_refused Host r q a b =
+      one_unprepared (bytes_of files t.path) r q (own (λ (bs : List ℕ). IsUnprepared bs r) a.0 a.1 a.2) (own (λ (bs : List ℕ). IsUnprepared bs q) b.0 b.1 b.2)
   one_refused Run r q a b =
       let x = a.2 in
       let y = b.2 in
       let s = one_settings t x.0 y.0 x.2 y.2 in
-      ap status_of x.5
-      ∙ V.one_status y.0 (bytes_of files t.path) x.1 y.1
-      (subst (λ (z : Settings). IsRefusedFor z (bytes_of files t.path) x.1) s (subst (λ (bs : List ℕ). IsRefusedFor x.0 bs x.1) a.1 x.3))
-      (subst (λ (bs : List ℕ). IsRefusedFor y.0 bs y.1) b.1 y.3) ∙ sym (ap status_of y.5)
+      x.5
+      ∙ one_bad_original y.0 (bytes_of files t.path) x.1 y.1 x.4 y.4
+      (subst (λ (z : Settings). IsRefusedFor z (bytes_of files t.path) x.1) s (own (λ (bs : List ℕ). IsRefusedFor x.0 bs x.1) a.0 a.1 x.3))
+      (own (λ (bs : List ℕ). IsRefusedFor y.0 bs y.1) b.0 b.1 y.3) ∙ sym y.5

@@ -1,13 +1,13 @@
 //! The laws.
 
-ghost use Rattle.script_verdicts.specs.Laws.{CausesHaveOneStatus, PlayedIsNotRefused};
+ghost use Rattle.script_verdicts.specs.Laws.{CausesAreOne, PlayedIsNotRefused};
 
 /// A script whose programs are all set up isn't refused.
 pub fn played_is_not_refused()
     ensures { PlayedIsNotRefused }
 {}
 
-/// All causes for which a script is refused have one status.
-pub fn causes_have_one_status()
-    ensures { CausesHaveOneStatus }
+/// A script that is refused is refused for one cause.
+pub fn causes_are_one()
+    ensures { CausesAreOne }
 {}
