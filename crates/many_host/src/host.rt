@@ -4,7 +4,7 @@ ghost use Rattle.wa_model.specs.World.{Device, Program as WorldProgram};
 ghost use Rattle.device_port.specs.Listed.{of_all};
 ghost use Rattle.host_turns.specs.Supplies.{IsLent};
 ghost use Rattle.event_order.specs.Dues.{HaveEnded};
-ghost use Rattle.turn_taking.specs.Calls.{TakesNext, left_at};
+ghost use Rattle.turn_taking.specs.Calls.{BegunNext, TakesNext, left_at};
 ghost use Rattle.turn_taking.specs.Standing.{InRange, LooksOut};
 ghost use Rattle.many_host.specs.Hosts.{AreSetUp, HostNext, HostTold};
 
@@ -60,6 +60,7 @@ impl<'m> Host<'m> {
             (of_all (λ d. record { device = seen d; faults = faults d }) devices.new)) }
         ensures none { IfOk result (λ line. MatchOption line (HaveEnded self.old.turns.dues.items × LooksOut self.old.turns.shows.items self.old.turns.stage)
             (λ l. HaveEnded self.old.turns.dues.items → LooksOut self.old.turns.shows.items self.old.turns.stage → ⊥)) }
+        ensures begun { IfOk result (λ line. BegunNext self.old.turns.stage self.old.turns.begun self.new.turns.begun line) }
     {
         self.turns.next(devices)
     }

@@ -1,15 +1,18 @@
 -- Devices with their counts, at a line.
-use Rattle.std.proofs.Common.{arith, ◌≡◌, ◌+◌, ℕ, List, [], ◌∷◌, length, map, Option, Some, Bool, true, false, if◌then◌else◌, nat_eq, slice_get, refl, sym, ap, ◌∙◌, subst}
+use Rattle.std.proofs.Common.{arith, ◌≡◌, ◌+◌, inl, ℕ, List, [], ◌∷◌, length, map, Option, Some, None, Bool, true, false, if◌then◌else◌, nat_eq, slice_get, refl, sym, ap, ◌∙◌, subst}
 use Rattle.std.proofs.lemmas.Bool.Decides.{nat_tests}
 use Rattle.std.proofs.lemmas.Option.{slice_get_within}
 use Rattle.wa_model.specs.declared.answers.Detach.{Detach}
+use Rattle.wa_model.specs.declared.events.Line.{Line as LineValue}
 use Rattle.wa_model.specs.Outside.{Event, Line, shown}
 use Rattle.wa_model.specs.World.{Device, Program, line_at}
 use Rattle.device_port.specs.declared.devices.Devices.{Devices}
 use Rattle.device_port.specs.Listed.{of_all}
 use Rattle.event_order.specs.Left.{Counted, left_before}
+use Rattle.event_order.specs.declared.turns.Turn.{Turn}
 use Rattle.told_worlds.proofs.Places.{item}
-use Rattle.turn_taking.specs.Calls.{TakesCall, devices_of, faults_of, left_at}
+use Rattle.turn_taking.specs.declared.turns.Stage.TheVariants.{Between, Showing}
+use Rattle.turn_taking.specs.Calls.{BegunNext, TakesCall, devices_of, faults_of, left_at}
 
 maps : {A B C : Type 0} (p : B → C) (q : A → B) (xs : List A) → map p (map q xs) ≡ map (λ (x : A). p (q x)) xs
 maps p q [] = refl
@@ -52,3 +55,8 @@ taken_of programs line old old' new is t = subst (λ (l : List Counted). TakesCa
 
 pub taken_by : (programs : List Program) (due i : ℕ) (v v' : Event) (old new : List Counted) → v' ≡ v → TakesCall programs (line_at due i v) old new → TakesCall programs (line_at due i v') old new
 taken_by programs due i v v' old new is t = subst (λ (e : Event). TakesCall programs (line_at due i e) old new) (sym is) t
+
+-- a turn that begins behind what was shown of memory
+pub begun_behind : (turn : Turn) (from b b' : ℕ) (r : Option LineValue) → BegunNext Between b b' r → BegunNext (Showing turn from) b b' r
+begun_behind turn from b b' None h = tt
+begun_behind turn from b b' (Some l) h = inl h

@@ -1,13 +1,15 @@
 -- What a line's call took of the devices.
-use Rattle.std.specs.Prelude.{◌≡◌, ℕ, List, map, Some, nat_eq, if◌then◌else◌, Option, MatchOption, slice_get}
+use Rattle.std.specs.Prelude.{◌≡◌, ◌⊎◌, ◌+◌, ℕ, List, map, Some, nat_eq, if◌then◌else◌, Option, MatchOption, slice_get}
 use Rattle.wa_model.specs.declared.answers.Detach.{Detach}
 use Rattle.wa_model.specs.declared.events.Line.{Line as LineValue}
-use Rattle.wa_model.specs.Outside.{AnswerLine, Line}
+use Rattle.wa_model.specs.Outside.{AnswerLine, Event, Line, shown}
 use Rattle.wa_model.specs.Plan.{Outcome}
 use Rattle.wa_model.specs.View.{line_of}
 use Rattle.wa_model.specs.World.{Device, Program, call_in}
 use Rattle.event_order.specs.Left.{Counted, left_before}
 use Rattle.host_turns.specs.Supplies.{Takes}
+use Rattle.turn_taking.specs.declared.turns.Stage.{Stage}
+use Rattle.turn_taking.specs.declared.turns.Stage.TheVariants.{Between, Telling, Showing}
 use Rattle.turn_taking.specs.Telling.{supply}
 
 -- the devices, and their counts of faults
@@ -34,3 +36,20 @@ left_at begun begun' detaches cs = if nat_eq begun begun' then cs else left_befo
 -- a line took what it took, and where there is none nothing changed
 abbrev pub TakesNext : List Program → Option LineValue → (old left new : List Counted) → Type 0
 TakesNext programs result old left new = MatchOption result (new ≡ old) (λ line. TakesCall programs (line_of line) left new)
+
+-- ---- how many turns have begun
+
+-- memory that is shown
+abbrev pub IsShown : Event → Type 0
+IsShown (shown at bytes) = Unit {0}
+IsShown _ = ⊥
+
+-- A line behind whole turns begins the next, one in a turn begins none, and behind a program's end none begins as long as memory is shown.
+abbrev pub BegunBy : Stage → (begun begun' : ℕ) → Event → Type 0
+BegunBy Between begun begun' e = begun' ≡ begun + 1
+BegunBy (Telling turn) begun begun' e = begun' ≡ begun
+BegunBy (Showing turn from) begun begun' e = (begun' ≡ begun + 1) ⊎ ((begun' ≡ begun) × IsShown e)
+
+-- of the next line
+abbrev pub BegunNext : Stage → (begun begun' : ℕ) → Option LineValue → Type 0
+BegunNext stage begun begun' result = MatchOption result (Unit {0}) (λ line. BegunBy stage begun begun' (line_of line).event)

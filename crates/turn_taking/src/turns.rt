@@ -6,7 +6,7 @@ ghost use Rattle.device_port.specs.Listed.{of_all};
 ghost use Rattle.host_turns.specs.Supplies.{IsLent};
 ghost use Rattle.std.specs.Prelude.{map, MatchOption, Some};
 ghost use Rattle.event_order.specs.Dues.{HaveEnded};
-ghost use Rattle.turn_taking.specs.Calls.{TakesCall, TakesNext, left_at};
+ghost use Rattle.turn_taking.specs.Calls.{BegunNext, TakesCall, TakesNext, left_at};
 ghost use Rattle.turn_taking.specs.Standing.{AllStart, AllTold, InRange, LooksOut, Standing, TellsNext, held_of};
 
 use crate::settling::settle;
@@ -80,6 +80,7 @@ impl<T: Teller + Drop> Turns<T> {
             → IfOk result (TellsNext T.follows T.has_ended T.memory programs detaches ds lines self.new (of_all seen devices.new)) }
         ensures none { IfOk result (λ line. MatchOption line (HaveEnded self.old.dues.items × LooksOut self.old.shows.items self.old.stage)
             (λ l. HaveEnded self.old.dues.items → LooksOut self.old.shows.items self.old.stage → ⊥)) }
+        ensures begun { IfOk result (λ line. BegunNext self.old.stage self.old.begun self.new.begun line) }
         ensures calls { (programs : List Program) (detaches : List Detach) (ds : List Device) (lines : List WorldLine)
             → Standing T.follows T.has_ended T.memory programs detaches ds lines (held_of self.old) (of_all seen devices.old) self.old.stage
             → IfOk result (λ line. TakesNext programs line (of_all (λ d. record { device = seen d; faults = faults d }) devices.old)
@@ -103,6 +104,7 @@ impl<T: Teller + Drop> Turns<T> {
             → Standing T.follows T.has_ended T.memory programs detaches ds lines (held_of self.old) (of_all seen devices.old) Stage.Between
             → IfOk result (TellsNext T.follows T.has_ended T.memory programs detaches ds lines self.new (of_all seen devices.new)) }
         ensures none { IfOk result (λ line. MatchOption line (HaveEnded self.old.dues.items) (λ l. HaveEnded self.old.dues.items → ⊥)) }
+        ensures begun { IfOk result (λ line. BegunNext Stage.Between self.old.begun self.new.begun line) }
         ensures calls { (programs : List Program) (detaches : List Detach) (ds : List Device) (lines : List WorldLine)
             → Standing T.follows T.has_ended T.memory programs detaches ds lines (held_of self.old) (of_all seen devices.old) Stage.Between
             → IfOk result (λ line. TakesNext programs line (of_all (λ d. record { device = seen d; faults = faults d }) devices.old)
@@ -165,6 +167,7 @@ impl<T: Teller + Drop> Turns<T> {
             → IfOk result (TellsNext T.follows T.has_ended T.memory programs detaches ds lines self.new (of_all seen devices.new)) }
         ensures none { IfOk result (λ line. MatchOption line (HaveEnded self.old.dues.items × LooksOut self.old.shows.items (Stage.Showing turn from))
             (λ l. HaveEnded self.old.dues.items → LooksOut self.old.shows.items (Stage.Showing turn from) → ⊥)) }
+        ensures begun { IfOk result (λ line. BegunNext (Stage.Showing turn from) self.old.begun self.new.begun line) }
         ensures calls { (programs : List Program) (detaches : List Detach) (ds : List Device) (lines : List WorldLine)
             → Standing T.follows T.has_ended T.memory programs detaches ds lines (held_of self.old) (of_all seen devices.old) (Stage.Showing turn from)
             → IfOk result (λ line. TakesNext programs line (of_all (λ d. record { device = seen d; faults = faults d }) devices.old)

@@ -1,5 +1,5 @@
 -- The lines of several programs, as they are being told and printed.
-use Rattle.std.proofs.Common.{◌≡◌, inl, inr, ℕ, List, [], ◌∷◌, ◌++◌, length, map, Option, Some, None, Result, Ok, Err, refl, sym, ap, ◌∙◌, subst, arith, append-nil}
+use Rattle.std.proofs.Common.{◌≡◌, inl, inr, ℕ, List, [], ◌∷◌, ◌++◌, length, map, Option, Some, None, Result, Ok, Err, refl, sym, ap, ◌∙◌, subst, arith, append-nil, add_assoc, ◌+◌}
 use Rattle.std.specs.Prelude.{MatchOption, OnErr, OnOk}
 use Rattle.std.specs.Result.{IfErr}
 use Rattle.std.proofs.lemmas.List.{length-map, take_all}
@@ -9,7 +9,7 @@ use Rattle.vault_port.specs.Taken.{Appends, AppendsLess}
 use Rattle.vault_port.specs.Told.{Becomes}
 use Rattle.wa_model.specs.declared.answers.Detach.{Detach}
 use Rattle.wa_model.specs.declared.events.Line.{Line as LineValue}
-use Rattle.wa_model.specs.Outside.{Line}
+use Rattle.wa_model.specs.Outside.{Event, Line}
 use Rattle.wa_model.specs.View.{line_of}
 use Rattle.wa_model.specs.Transcript as T
 use Rattle.wa_model.specs.Transcript.{event_line, event_lines, last_line, names_at}
@@ -19,7 +19,8 @@ use Rattle.device_port.specs.Listed.{of_all}
 use Rattle.event_order.specs.Dues.{HaveEnded}
 use Rattle.event_order.specs.Left.{Counted}
 use Rattle.told_notes.specs.Laws.{BeginsWorld}
-use Rattle.turn_taking.specs.Calls.{TakesCall, TakesNext, devices_of, left_at}
+use Rattle.turn_taking.specs.Calls.{BegunBy, BegunNext, TakesCall, TakesNext, devices_of, left_at}
+use Rattle.turn_taking.specs.declared.turns.Stage.{Stage}
 use Rattle.turn_taking.specs.Standing.{LooksOut}
 use Rattle.turn_taking.proofs.Counts.{counted_devices}
 use Rattle.many_host.specs.declared.host.Host.{Host}
@@ -27,9 +28,9 @@ use Rattle.many_host.specs.Hosts.{HostNext, HostTold}
 use Rattle.many_host.proofs.Worlds.{told_begins_world}
 use Rattle.transcript.specs.declared.events.Names.{Names}
 use Rattle.transcript.specs.Printing.{names_of}
-use Rattle.world_hosting.specs.Counts.{Took, counted}
+use Rattle.world_hosting.specs.Counts.{IsBegunBy, Took, counted, turns_at}
 use Rattle.world_hosting.specs.Worlds.{AreBegun, AreTold, Part, PrintsPart, Tells, TellsPart, part_names, turn_count, world_programs}
-use Rattle.world_hosting.proofs.TurnCounts.{turns_begun}
+use Rattle.world_hosting.proofs.TurnCounts.{begun_next, turns_begun}
 use Rattle.world_hosting.proofs.Texts.{becomes_by, becomes_same, line_more, then_less, then_printed}
 
 part_of : (fault : PutFault) (text x y : List ℕ) → AppendsLess text x y → PrintsPart fault text x y
@@ -46,11 +47,30 @@ on_ok (Err e) f q = tt
 
 -- ---- what lines took
 
-took_on : (programs : List Program) (detaches : List Detach) (begun ended now : ℕ) (lines : List Line) (l : Line) (old mid new : List Counted) → Took programs detaches begun lines old ended mid
-    → TakesCall programs l (left_at ended now detaches mid) new → Took programs detaches begun (lines ++ l ∷ []) old now new
-took_on programs detaches begun ended now [] l old mid new t c =
-    (now, new, subst (λ (cs : List Counted). TakesCall programs l cs new) (λ k. left_at (t.0 k) now detaches (t.1 k)) c, (refl, refl))
-took_on programs detaches begun ended now (x ∷ lines) l old mid new t c = (t.0, t.1, t.2, took_on programs detaches t.0 ended now lines l t.1 mid new t.3 c)
+took_on : (programs : List Program) (detaches : List Detach) (begun ended last now : ℕ) (lines : List Line) (l : Line) (old mid new : List Counted)
+    → Took programs detaches begun ended lines old last mid → IsBegunBy last (ended + turn_count lines) l.event now → TakesCall programs l (left_at last now detaches mid) new
+    → Took programs detaches begun ended (lines ++ l ∷ []) old now new
+took_on programs detaches begun ended last now [] l old mid new t is c =
+    let none : ended + 0 ≡ ended = omega arith in (
+      now,
+      new,
+      subst (λ (b : ℕ). IsBegunBy b ended l.event now) t.0 (subst (λ (n : ℕ). IsBegunBy last n l.event now) none is),
+      subst (λ (cs : List Counted). TakesCall programs l cs new) (λ k. left_at (t.0 k) now detaches (t.1 k)) c,
+      (refl, refl),
+    )
+took_on programs detaches begun ended last now (x ∷ lines) l old mid new t is c =
+    let all : ended + (turns_at x.event + turn_count lines) ≡ (ended + turns_at x.event) + turn_count lines = sym (add_assoc ended (turns_at x.event) (turn_count lines)) in (
+      t.0,
+      t.1,
+      t.2,
+      t.3,
+      took_on programs detaches t.0 (ended + turns_at x.event) last now lines l t.1 mid new t.4 (subst (λ (n : ℕ). IsBegunBy last n l.event now) all is) c,
+    )
+
+from_none : (begun n now : ℕ) (e : Event) → IsBegunBy begun n e now → IsBegunBy begun (0 + n) e now
+from_none begun n now e is =
+    let same : n ≡ 0 + n = omega arith in
+    subst (λ (k : ℕ). IsBegunBy begun k e now) same is
 
 -- ---- lines that are being told
 
@@ -79,7 +99,7 @@ module _ (parts : List Part) (detaches : List Detach) (cs : List Counted) where
   pub record Telling (h : Host) (now : List Counted) (old new : Option (List ℕ)) : Type 0 where
     pub lines : List Line
     pub host : HostTold programs detaches ds lines h (devices_of now)
-    pub took : Took programs detaches 0 lines cs h.turns.begun now
+    pub took : Took programs detaches 0 0 lines cs h.turns.begun now
     pub printed : Becomes old new (Appends (begun lines))
 
   module _ (h : Host) (now : List Counted) (old mid : Option (List ℕ)) (t : Telling h now old mid) where
@@ -98,12 +118,13 @@ module _ (parts : List Part) (detaches : List Detach) (cs : List Counted) where
       same_text : begun t.lines ++ event_line (names_at own l.program) l ≡ begun (t.lines ++ l ∷ [])
       same_text = ap (λ (n : List T.Names). begun t.lines ++ event_line (names_at n l.program) l) are ∙ line_more names t.lines l
 
-      pub told_on : (new : Option (List ℕ)) → TakesCall programs l (left_at h.turns.begun next.turns.begun detaches now) es → Becomes mid new (Appends (event_line (names_at own l.program) l))
-          → Telling next es old new
-      told_on new takes p = record {
+      pub told_on : (new : Option (List ℕ)) → BegunBy h.turns.stage h.turns.begun next.turns.begun l.event → TakesCall programs l (left_at h.turns.begun next.turns.begun detaches now) es
+          → Becomes mid new (Appends (event_line (names_at own l.program) l)) → Telling next es old new
+      told_on new begins takes p = record {
         lines = t.lines ++ l ∷ [];
         host = told;
-        took = took_on programs detaches 0 h.turns.begun next.turns.begun t.lines l cs now es t.took takes;
+        took = took_on programs detaches 0 0 h.turns.begun next.turns.begun t.lines l cs now es t.took
+            (from_none h.turns.begun (turn_count t.lines) next.turns.begun l.event (begun_next programs detaches ds t.lines h (devices_of now) t.host next.turns.begun l.event begins)) takes;
         printed = subst (λ (s : List ℕ). Becomes old new (Appends s)) same_text (then_printed (begun t.lines) (event_line (names_at own l.program) l) old mid new t.printed p);
       }
 
@@ -133,7 +154,9 @@ module _ (parts : List Part) (detaches : List Detach) (cs : List Counted) where
       are_told = record {
         lines = t.lines;
         world = world;
-        took = subst (λ (n : ℕ). Took programs detaches 0 t.lines cs n es) (sym events) (subst (λ (c : List Counted). Took programs detaches 0 t.lines cs h.turns.begun c) (sym kept) t.took);
+        took =
+            subst (λ (n : ℕ). Took programs detaches 0 0 t.lines cs n es) (sym events)
+            (subst (λ (c : List Counted). Took programs detaches 0 0 t.lines cs h.turns.begun c) (sym kept) t.took);
         text_is = ap (λ (s : List ℕ). begun t.lines ++ s) same_last;
       }
 
@@ -158,6 +181,9 @@ module _ (parts : List Part) (detaches : List Detach) (ds : List Device) (lines 
 pub line_takes : (programs : List Program) (r : Option LineValue) (l : LineValue) (old left new : List Counted) → r ≡ Some l → TakesNext programs r old left new
     → TakesCall programs (line_of l) left new
 line_takes programs r l old left new is t = subst (λ (o : Option LineValue). TakesNext programs o old left new) is t
+
+pub line_begins : (stage : Stage) (b b' : ℕ) (r : Option LineValue) (l : LineValue) → r ≡ Some l → BegunNext stage b b' r → BegunBy stage b b' (line_of l).event
+line_begins stage b b' r l is t = subst (λ (o : Option LineValue). BegunNext stage b b' o) is t
 
 pub none_takes : (programs : List Program) (r : Option LineValue) (old left new : List Counted) → r ≡ None → TakesNext programs r old left new → new ≡ old
 none_takes programs r old left new is t = subst (λ (o : Option LineValue). TakesNext programs o old left new) is t

@@ -1,18 +1,21 @@
 -- The lines that a host has told hold as many turns as have begun, once none is on its way.
-use Rattle.std.proofs.Common.{◌≡◌, ℕ, zero, suc, ◌+◌, List, [], ◌∷◌, ◌++◌, map, drop, Bool, true, false, if◌then◌else◌, MatchBool, refl, sym, ap, ◌∙◌, arith, add_assoc}
+use Rattle.std.proofs.Common.{◌≡◌, inl, inr, ℕ, zero, suc, ◌+◌, List, [], ◌∷◌, ◌++◌, map, drop, Bool, true, false, if◌then◌else◌, MatchBool, refl, sym, ap, ◌∙◌, arith, add_assoc}
 use Rattle.std.proofs.lemmas.List.{map-append}
 use Rattle.wa_model.specs.declared.answers.Detach.{Detach}
 use Rattle.wa_model.specs.Outside.{Event, called, answered, paused, returned, ended, shown, Line}
-use Rattle.wa_model.specs.Blocking.{Note}
+use Rattle.wa_model.specs.Blocking.{Note, events_of}
 use Rattle.wa_model.specs.World.{Device, Look, Program, ends_turn, events_with_looks, line_at, looks_after}
 use Rattle.event_order.specs.Looks.{looks_of}
+use Rattle.told_notes.specs.Notes.{GoesOn, TellsOn}
 use Rattle.told_worlds.specs.Turns.{EndsOnce, Teller, Tells}
 use Rattle.turn_taking.specs.declared.turns.Stage.{Stage}
 use Rattle.turn_taking.specs.declared.turns.Stage.TheVariants.{Between, Telling, Showing}
+use Rattle.turn_taking.specs.Calls.{BegunBy}
 use Rattle.turn_taking.specs.Standing.{LooksOut, StandsAt, held_of, looks_at}
 use Rattle.many_host.specs.declared.host.Host.{Host}
 use Rattle.many_host.specs.Hosts.{HostTold, memory_of}
-use Rattle.world_hosting.specs.Worlds.{turn_count, turns_at}
+use Rattle.world_hosting.specs.Counts.{IsBegunBy, turns_at}
+use Rattle.world_hosting.specs.Worlds.{turn_count}
 
 pub turns_append : (front bs : List Line) → turn_count (front ++ bs) ≡ turn_count front + turn_count bs
 turns_append [] bs = let e : turn_count bs ≡ 0 + turn_count bs = omega arith in e
@@ -51,6 +54,14 @@ module _ (due i : ℕ) where
       by true e on = ap (λ (l : List Note). 1 + turn_count (lines_of (events_with_looks looks l))) e
       by false m on = ap (λ (n : ℕ). 0 + n) (on m)
 
+  -- notes that go on end none
+  goes_none : (turn : List Note) → GoesOn turn → turn_count (lines_of (events_of turn)) ≡ 0
+  goes_none [] h = refl
+  goes_none (x ∷ xs) h = by (ends_turn x.event) h.0 (goes_none xs h.1) where
+    by : (b : Bool) → b ≡ false → turn_count (lines_of (events_of xs)) ≡ 0 → (if b then 1 else 0) + turn_count (lines_of (events_of xs)) ≡ 0
+    by true e z = absurd cc
+    by false e z = ap (λ (n : ℕ). 0 + n) z
+
 -- ---- so many turns
 
 turns_told : (programs : List Program) (detaches : List Detach) (ds : List Device) (count : ℕ) (lines : List Line) (tellers : List Teller) (ds' : List Device)
@@ -75,3 +86,32 @@ turns_begun programs detaches ds lines h ds' told out = by h.turns.stage told.at
       let parts = turns_append lines (map (line_at turn.due turn.program) (looks_at (memory_of at.0) looks)) in
       let shown_none = memory_none turn.due turn.program (memory_of at.0) looks in
       omega (arith, whole, parts, shown_none)
+
+turns_on : (programs : List Program) (detaches : List Detach) (ds : List Device) (number i due : ℕ) (lines : List Line) (tellers : List Teller) (ds' : List Device)
+    → TellsOn programs detaches ds number i due lines tellers ds' → turn_count lines ≡ number
+turns_on programs detaches ds number i due lines tellers ds' on =
+    let whole = turns_told programs detaches ds number on.before on.mid on.es on.whole in
+    let parts = ap turn_count on.made ∙ turns_append on.before (map (line_at due i) (events_of on.turn)) in
+    let none = goes_none due i on.turn on.goes_on in
+    omega (arith, whole, parts, none)
+
+-- so many events have begun by the next line
+pub begun_next : (programs : List Program) (detaches : List Detach) (ds : List Device) (lines : List Line) (h : Host) (ds' : List Device) → HostTold programs detaches ds lines h ds'
+    → (n : ℕ) (e : Event) → BegunBy h.turns.stage h.turns.begun n e → IsBegunBy h.turns.begun (turn_count lines) e n
+begun_next programs detaches ds lines h ds' told n e next = by h.turns.stage told.at next where
+  by : (stage : Stage) → StandsAt memory_of programs detaches ds lines told.tellers (held_of h.turns) ds' stage → BegunBy stage h.turns.begun n e
+      → IsBegunBy h.turns.begun (turn_count lines) e n
+  by Between at is =
+      let ended = turns_told programs detaches ds h.turns.begun lines told.tellers ds' at in
+      inl (omega (arith, ended, is))
+  by (Telling turn) at is =
+      let ended = turns_on programs detaches ds at.0 turn.program turn.due lines told.tellers ds' at.2 in
+      let own = at.1 in
+      inl (omega (arith, ended, own, is))
+  by (Showing turn from) at is =
+      let looks : List Look = looks_of turn.program (drop from h.turns.shows.items) in
+      let whole = turns_told programs detaches ds h.turns.begun (lines ++ map (line_at turn.due turn.program) (looks_at (memory_of at.0) looks)) told.tellers ds' at.2 in
+      let parts = turns_append lines (map (line_at turn.due turn.program) (looks_at (memory_of at.0) looks)) in
+      let shown_none = memory_none turn.due turn.program (memory_of at.0) looks in
+      let ended : h.turns.begun ≡ turn_count lines = omega (arith, whole, parts, shown_none) in
+      elim is [ inl begins ↦ inl (omega (arith, ended, begins)) | inr stays ↦ inr (stays.0 ∙ ended, ended, stays.1) ]

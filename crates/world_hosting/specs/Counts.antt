@@ -1,20 +1,30 @@
 -- Devices with their counts of faults, and what lines take of them.
-use Rattle.std.specs.Prelude.{◌≡◌, ℕ, List, [], ◌∷◌}
+use Rattle.std.specs.Prelude.{◌≡◌, ◌⊎◌, ◌+◌, if◌then◌else◌, ℕ, suc, List, [], ◌∷◌}
 use Rattle.wa_model.specs.declared.answers.Detach.{Detach}
-use Rattle.wa_model.specs.Outside.{Line}
-use Rattle.wa_model.specs.World.{Device, Program}
+use Rattle.wa_model.specs.Outside.{Event, Line}
+use Rattle.wa_model.specs.World.{Device, Program, ends_turn}
 use Rattle.device_port.specs.declared.devices.Devices.{Devices}
 use Rattle.device_port.specs.Listed.{of_all}
 use Rattle.event_order.specs.Left.{Counted}
-use Rattle.turn_taking.specs.Calls.{TakesCall, left_at}
+use Rattle.turn_taking.specs.Calls.{IsShown, TakesCall, left_at}
 
 -- the devices of a list, each with its count of faults
 abbrev pub counted : {X : Type 0} {F : X → Type 0} → ((x : X) × F x → Device) → ((x : X) × F x → ℕ) → Devices X F → List Counted
 counted seen faults devices = of_all (λ d. record { device = seen d; faults = faults d }) devices
 
+-- each turn of a program ends with one line, of a pause or of an end
+abbrev pub turns_at : Event → ℕ
+turns_at e = if ends_turn e then 1 else 0
+
+-- So many events have begun by a line, where so many had by the line before and so many turns had ended: that of its own turn is one
+-- more than those; and what is shown of memory behind a program's end begins none.
+abbrev pub IsBegunBy : (before ended : ℕ) → Event → (now : ℕ) → Type 0
+IsBegunBy before ended e now = (now ≡ suc ended) ⊎ ((now ≡ ended) × (before ≡ ended) × IsShown e)
+
 -- Line by line: what a line's new call took of the devices and their counts, once those were taken out whose event began with it. So
--- many events had begun before, and so many behind it.
-abbrev pub Took : List Program → List Detach → (begun : ℕ) → List Line → (old : List Counted) → (ended : ℕ) → (new : List Counted) → Type 0
-Took programs detaches begun [] old ended new = (ended ≡ begun) × (new ≡ old)
-Took programs detaches begun (l ∷ ls) old ended new =
-    (now : ℕ) × (mid : List Counted) × TakesCall programs l (left_at begun now detaches old) mid × Took programs detaches now ls mid ended new
+-- many events had begun and so many turns had ended before, and so many events had begun by the last line.
+abbrev pub Took : List Program → List Detach → (begun ended : ℕ) → List Line → (old : List Counted) → (last : ℕ) → (new : List Counted) → Type 0
+Took programs detaches begun ended [] old last new = (last ≡ begun) × (new ≡ old)
+Took programs detaches begun ended (l ∷ ls) old last new =
+    (now : ℕ) × (mid : List Counted) × IsBegunBy begun ended l.event now × TakesCall programs l (left_at begun now detaches old) mid
+    × Took programs detaches now (ended + turns_at l.event) ls mid last new

@@ -1,14 +1,14 @@
 -- What is told of the programs of a script, which share a list of devices.
-use Rattle.std.specs.Prelude.{◌≡◌, ◌⊎◌, ◌≤◌, ◌<◌, ◌^◌, ◌+◌, ◌++◌, if◌then◌else◌, ℕ, List, [], ◌∷◌, length, map, take, Option, Some, Bool, All}
+use Rattle.std.specs.Prelude.{◌≡◌, ◌⊎◌, ◌≤◌, ◌<◌, ◌^◌, ◌+◌, ◌++◌, ℕ, List, [], ◌∷◌, length, map, take, Option, Some, Bool, All}
 use Rattle.wa_types.specs.Modules.{func_imports}
 use Rattle.wa_types.specs.Sizes.{value_fits}
 use Rattle.wa_types.specs.Syntax.{Module}
 use Rattle.wa_model.specs.declared.answers.Detach.{Detach}
-use Rattle.wa_model.specs.Outside.{AnswerLine, Event, Line}
+use Rattle.wa_model.specs.Outside.{AnswerLine, Line}
 use Rattle.wa_model.specs.Plan.{AnswerFits}
 use Rattle.wa_model.specs.Script.{EntryText, GlobalText, ProgramText, ShowText}
 use Rattle.wa_model.specs.Transcript.{Names, Transcript, event_lines}
-use Rattle.wa_model.specs.World.{Device, Look, Program, ProtocolWorld, ends_turn}
+use Rattle.wa_model.specs.World.{Device, Look, Program, ProtocolWorld}
 use Rattle.event_order.specs.Left.{Counted}
 use Rattle.host_stages.specs.Moves.{HasShortPokes}
 use Rattle.pause_host.specs.Settings.{calls_of}
@@ -18,7 +18,7 @@ use Rattle.vault_port.specs.declared.whole.PutFault.{PutFault}
 use Rattle.vault_port.specs.declared.whole.PutFault.TheVariants.{Fault, Memory}
 use Rattle.vault_port.specs.Taken.{Appends, AppendsLess}
 use Rattle.world_hosting.specs.Bindings.{bindings}
-use Rattle.world_hosting.specs.Counts.{Took}
+use Rattle.world_hosting.specs.Counts.{Took, turns_at}
 
 -- ---- what is asked of a program
 
@@ -75,10 +75,7 @@ world_programs parts = map world_program parts
 
 -- ---- what is printed
 
--- each turn of a program ends with one line, of a pause or of an end
-abbrev pub turns_at : Event → ℕ
-turns_at e = if ends_turn e then 1 else 0
-
+-- how many turns end in these lines
 abbrev pub turn_count : List Line → ℕ
 turn_count [] = 0
 turn_count (l ∷ ls) = turns_at l.event + turn_count ls
@@ -87,7 +84,7 @@ turn_count (l ∷ ls) = turns_at l.event + turn_count ls
 pub record AreTold (parts : List Part) (detaches : List Detach) (old new : List Counted) (text : List ℕ) : Type 0 where
   pub lines : List Line
   pub world : ProtocolWorld (world_programs parts) detaches (devices_of old) lines (devices_of new)
-  pub took : Took (world_programs parts) detaches 0 lines old (turn_count lines) new
+  pub took : Took (world_programs parts) detaches 0 0 lines old (turn_count lines) new
   pub text_is : text ≡ Transcript (map part_names parts) (length parts) (turn_count lines) lines
 
 -- It tells the first lines of one.

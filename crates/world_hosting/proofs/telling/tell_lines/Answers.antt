@@ -9,7 +9,7 @@ use Rattle.turn_taking.specs.Calls.{devices_of}
 use Rattle.transcript.specs.Printing.{names_of}
 use Rattle.world_hosting.specs.Counts.{counted}
 use Rattle.world_hosting.specs.Worlds.{world_programs}
-use Rattle.world_hosting.proofs.Printed.{host_counted, host_seen, if_err, line_takes, line_told, none_left, none_takes, none_told, on_ok}
+use Rattle.world_hosting.proofs.Printed.{host_counted, host_seen, if_err, line_begins, line_takes, line_told, none_left, none_takes, none_told, on_ok}
 use Rattle.world_hosting.proofs.Printed.{told_less, told_less_last, told_on, told_so_far, told_whole, world_counted}
 use Rattle.world_hosting.proofs.Texts.{nothing_yet}
 use Rattle.world_hosting.proofs.telling.tell_lines.Goals as goal
@@ -31,9 +31,10 @@ telling-preserved g c = record {
       let next =
       line_told parts detaches ds t.lines c.next.new.self _ c.in-Ok.next c.in-Some.line c.in-Some.is (c.in-Ok.ensures.told (world_programs parts) detaches ds t.lines told) in
       let takes = line_takes (world_programs parts) c.in-Ok.next c.in-Some.line _ _ _ c.in-Some.is (c.in-Ok.ensures.calls (world_programs parts) detaches ds t.lines told) in
+      let begins = line_begins _ _ _ c.in-Ok.next c.in-Some.line c.in-Some.is c.in-Ok.ensures.begun in
       told_on parts detaches _ c.telling.host _ _ _ t c.next.new.self _ (map names_of c.args.names.now) are (line_of c.in-Some.line)
       (host_counted (λ z. (goal.Device-dyn g z).seen z.1) (λ z. (goal.Device-dyn g z).faults z.1) (world_programs parts) detaches ds _ c.next.new.devices c.next.new.self next) _
-      takes c.in_default-put_line.ensures.printed;
+      begins takes c.in_default-put_line.ensures.printed;
   range = c.in-Ok.ensures.range;
   same_list = c.next.ensures.same_list ∙ c.telling.invariant.same_list;
   rising = omega (arith, c.telling.invariant.rising, c.put_line.ensures.faults);

@@ -38,3 +38,6 @@ returns-clause-calls g c = λ programs detaches ds lines s.
     (begun_at g.T.Teller.follows g.T.Teller.has_ended g.T.Teller.memory programs detaches ds lines (held_of c.args.self.now) _ c.in-Some.turn s
     (subst (λ (l : List (Option ℕ)). IsLeast l c.in-Some.turn.program c.in-Some.turn.due) c.deref.ensures.value c.in-Some.ensures)
     c.in-Some-checked_add.begun c.deref-2.result.now _ c.in-Some-checked_add.ensures.1 c.deref-2.ensures.value c.detach_before.ensures.devices))
+
+pub returns-clause-begun : goal.returns-clause-begun
+returns-clause-begun g c = c.tell.ensures.begun ∙ c.in-Some-checked_add.ensures.1

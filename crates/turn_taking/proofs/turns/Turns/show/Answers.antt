@@ -1,11 +1,13 @@
-use Rattle.std.proofs.Common.{arith, ap, ◌∙◌, ◌+◌, refl, sym, subst, drop, List}
+use Rattle.std.proofs.Common.{arith, ap, ◌∙◌, ◌+◌, inr, refl, sym, subst, drop, List}
 use Rattle.std.proofs.lemmas.Option.{slice_get_within}
+use Rattle.std.proofs.lemmas.Result.{IfOk-weaker}
 use Rattle.wa_model.specs.Outside.{shown}
 use Rattle.wa_model.specs.View.{event_of}
 use Rattle.event_order.specs.declared.shows.Show.{Show}
 use Rattle.event_order.specs.Looks.{looks_of, IsNextShow}
+use Rattle.turn_taking.specs.Calls.{IsShown}
 use Rattle.turn_taking.specs.Standing.{held_of}
-use Rattle.turn_taking.proofs.Counts.{left_kept, shown_takes, taken_by, taken_of}
+use Rattle.turn_taking.proofs.Counts.{begun_behind, left_kept, shown_takes, taken_by, taken_of}
 use Rattle.turn_taking.proofs.Showing.{all_shown, looks_left, none_out, shown_on}
 use Rattle.turn_taking.proofs.Places.{stands_at}
 use Rattle.turn_taking.proofs.turns.Turns.show.Goals as goal
@@ -52,3 +54,9 @@ returns-clause-calls g c = λ programs detaches ds lines s.
     taken_of programs _ _ _ _ (left_kept c.args.self.now.begun c.args.self.now.begun detaches _ refl)
     (taken_by programs c.args.turn.due c.args.turn.program _ (event_of c.in_ok-event.event) _ _ c.in_ok-event.ensures
     (shown_takes programs c.args.self.now.programs.items c.index-2.result.now c.args.turn.due c.args.turn.program _ _ _ s.as_many program))
+
+pub returns-in_default-clause-begun : goal.returns-in_default-clause-begun
+returns-in_default-clause-begun g c = IfOk-weaker c.begin.result _ _ (λ r h. begun_behind c.args.turn c.args.from _ _ r h) c.begin.ensures.begun
+
+pub returns-clause-begun : goal.returns-clause-begun
+returns-clause-begun g c = inr (refl, subst IsShown (sym c.in_ok-event.ensures) tt)
