@@ -132,8 +132,8 @@ content_of bytes not_built h = h
 content_of bytes (read_fault name) h = h
 content_of bytes (write_fault name) h = h
 
-pub unprepared_told : (name bytes : List ℕ) (files : Option Files) (fault : PreparedFault) (told : FileFault) → told ≡ file_fault fault → WhereTold files (λ all. bytes ≡ take 67108865 (bytes_of all name))
-    → WhereTold files (λ all. IsSome (all name)) → IsFaultOf bytes fault → IsToldUnprepared files name told
+pub unprepared_told : (name bytes : List ℕ) (files : Option Files) (fault : PreparedFault) (told : FileFault) → told ≡ file_fault fault
+    → WhereTold files (λ all. bytes ≡ take 67108865 (bytes_of all name)) → WhereTold files (λ all. IsSome (all name)) → IsFaultOf bytes fault → IsToldUnprepared files name told
 unprepared_told name bytes files P.Memory told e read there h = subst (IsToldUnprepared files name) (sym e) tt
 unprepared_told name bytes files (P.Refused kind) told e read there h = subst (IsToldUnprepared files name) (sym e) (unprepared_of name bytes files (refusal_of kind) read there h)
 

@@ -1,42 +1,14 @@
 -- A call's end is its answer.
-use Rattle.std.proofs.Common.{◌≡◌, ◌⊎◌, inl, inr, ℕ, List, [], ◌∷◌, ◌++◌, map, Option, Some, None, Bool, refl, sym, ap, ◌∙◌, subst}
-use Rattle.std.specs.Prelude.{All}
-use Rattle.std.proofs.lemmas.List.Elements.{All-nil, All-cons, All-head, All-tail}
+use Rattle.std.proofs.Common.{◌≡◌, ◌⊎◌, inl, inr, ℕ, List, Option, Some, None, refl, sym, ap, ◌∙◌, subst}
+use Rattle.vault_port.specs.Counts.{HasRisen}
 use Rattle.vault_port.specs.Files.{Files, IsMissing}
-use Rattle.wa_types.specs.Syntax.{Module}
-use Rattle.wa_model.specs.Script.{ProgramText, Script}
-use Rattle.world_hosting.specs.Worlds.{Part}
-use Rattle.script_opening.specs.declared.way.Way.{Way}
-use Rattle.script_opening.specs.declared.way.Way.TheVariants.{Host, Run}
-use Rattle.script_opening.specs.Playing.{Cause, IsModule, IsRead, IsRefused, IsStage, Play}
-use Rattle.script_verdicts.proofs.Scripts.{one_cause, one_script, played_not_refused}
+use Rattle.script_opening.specs.Playing.{Cause, IsRead, IsRefused, Play}
+use Rattle.script_verdicts.proofs.Scripts.{IsThere, one_cause, played_not_refused, played_reads, refused_reads}
 use Rattle.script_command.specs.Ends.{Call, End, done, memory, sink_fault, refused, read_fault_of, HasEnd, IsWhy, status_of_end}
-use Rattle.script_command.specs.Answers.{HasOneEnd, IsAnswer, IsReadFault, NothingFails}
-
-one_among : (P : ProgramText → Type 0) (b d : List ProgramText) (t : ProgramText) → All P (b ++ t ∷ d) → P t
-one_among P [] d t h = All-head P t d h
-one_among P (x ∷ b) d t h = one_among P b d t (All-tail P x (b ++ t ∷ d) h)
-
--- ---- files that are there
+use Rattle.script_command.specs.Answers.{HasOneEnd, IsReadFault, NothingFails}
 
 not_missing : (o : Option (List ℕ)) (bytes : List ℕ) → o ≡ Some bytes → o ≡ None → ⊥
 not_missing o bytes e f = let bad = sym e ∙ f in cc
-
-abbrev IsThere : Files → ProgramText → Type 0
-IsThere all t = (bytes : List ℕ) × (all t.path ≡ Some bytes)
-
-module_there : (way : Way) (all : Files) (t : ProgramText) (p : Module) (l : Option (List Bool)) → IsModule way (Some all) t p l → IsThere all t
-module_there Host all t p l h = (h.0, h.1)
-module_there Run all t p l h = (h.0, h.2)
-
-stages_there : (way : Way) (all : Files) (xs : List Part) → All (IsStage way (Some all)) xs → All (IsThere all) (map (λ (x : Part). x.text) xs)
-stages_there way all [] h = All-nil (IsThere all)
-stages_there way all (x ∷ xs) h =
-    All-cons (IsThere all) x.text (map (λ (y : Part). y.text) xs) (module_there way all x.text x.source x.listed (All-head (IsStage way (Some all)) x xs h).module_is)
-    (stages_there way all xs (All-tail (IsStage way (Some all)) x xs h))
-
-modules_there : (way : Way) (all : Files) (name : List ℕ) (play : Play way (Some all) name) → All (IsThere all) play.whole.programs
-modules_there way all name play = subst (All (IsThere all)) play.stages.texts_are (stages_there way all play.parts play.stages.each)
 
 module _ (c : Call) (all : Files) (told : c.files ≡ Some all) where
   play_told : Play c.way c.files c.name → Play c.way (Some all) c.name
@@ -45,23 +17,22 @@ module _ (c : Call) (all : Files) (told : c.files ≡ Some all) where
   refused_told : (cause : Cause) → IsRefused c.way c.files c.name cause → IsRefused c.way (Some all) c.name cause
   refused_told cause h = subst (λ (files : Option Files). IsRefused c.way files c.name cause) told h
 
-  refusals : (cause : Cause) (which : End) → IsWhy c which → IsRefused c.way (Some all) c.name cause → (which ≡ refused cause) ⊎ (which ≡ memory) ⊎ IsReadFault which
+  -- a file that is read isn't missing, where it is there
+  never_missing : (read : List ℕ) → (IsRead c.way (Some all) c.name read → IsThere all read) → IsRead c.way c.files c.name read → IsMissing c.files read → ⊥
+  never_missing read reads is missing =
+      let there = reads (subst (λ (files : Option Files). IsRead c.way files c.name read) told is) in
+      not_missing (all read) there.0 there.1 (subst (λ (files : Option Files). IsMissing files read) told missing)
+
+  refusals : (cause : Cause) (which : End) → IsWhy c which → IsRefused c.way (Some all) c.name cause
+      → (which ≡ refused cause) ⊎ (which ≡ memory) ⊎ (IsReadFault which × HasRisen c.fetch_faults c.fetch_faults')
   refusals cause done why h = absurd (played_not_refused c.way all c.name cause (play_told why.0) h)
   refusals cause sink_fault why h = absurd (played_not_refused c.way all c.name cause (play_told why.0) h)
   refusals cause memory why h = inr (inl refl)
-  refusals cause (read_fault_of name) why h = inr (inr tt)
-  refusals cause (refused other) why h = inl (ap (λ (x : Cause). refused x) (one_cause c.way all c.name other cause (refused_told other why.0) h))
-
-  -- a file that is read isn't missing
-  never_missing : Play c.way (Some all) c.name → (read : List ℕ) → IsRead c.way (Some all) c.name read → IsMissing (Some all) read → ⊥
-  never_missing play read is missing = elim is [
-    | inl same ↦ not_missing (all c.name) play.of_script.bytes play.of_script.holds (sym (ap all same) ∙ missing)
-    | inr r ↦
-        let one = one_script all c.name play.whole r.2.whole play.of_script r.2.of_script in
-        let modules = subst (λ (s : Script). All (IsThere all) s.programs) one (modules_there c.way all c.name play) in
-        let here = one_among (IsThere all) r.2.reached.before r.2.reached.behind r.1 (subst (All (IsThere all)) r.2.reached.parted modules) in
-        not_missing (all r.1.path) here.0 here.1 (sym (ap all r.3) ∙ missing)
+  refusals cause (read_fault_of read) why h = elim why.1 [
+    | inl risen ↦ inr (inr (tt, risen))
+    | inr missing ↦ absurd (never_missing read (refused_reads c.way all c.name cause h read) why.0 missing)
   ]
+  refusals cause (refused other) why h = inl (ap (λ (x : Cause). refused x) (one_cause c.way all c.name other cause (refused_told other why.0) h))
 
   accepted : (which : End) → IsWhy c which → Play c.way (Some all) c.name → NothingFails c → (which ≡ done) ⊎ (which ≡ memory)
   accepted done why p n = inl refl
@@ -70,8 +41,7 @@ module _ (c : Call) (all : Files) (told : c.files ≡ Some all) where
   accepted (refused cause) why p n = absurd (played_not_refused c.way all c.name cause p (refused_told cause why.0))
   accepted (read_fault_of read) why p n = elim why.1 [
     | inl risen ↦ absurd (n.fetches risen)
-    | inr missing ↦
-        absurd (never_missing p read (subst (λ (files : Option Files). IsRead c.way files c.name read) told why.0) (subst (λ (files : Option Files). IsMissing files read) told missing))
+    | inr missing ↦ absurd (never_missing read (played_reads c.way all c.name p read) why.0 missing)
   ]
 
 -- a refusal leaves the devices

@@ -15,11 +15,12 @@ abbrev pub IsReadFault : End → Type 0
 IsReadFault (read_fault_of name) = Unit {0}
 IsReadFault _ = ⊥
 
--- The end of a call whose script is refused for a cause is that refusal, whose line is printed, and that of a call whose script can be
--- played, where nothing fails, is its transcript: all but for want of memory, and for a fault of reading, which may come first. (A file
--- that isn't there isn't read, and so neither plays nor is refused for what it holds.)
+-- The end of a call whose script is refused for a cause is that refusal, whose line is printed, unless a fetch failed first; and that of a
+-- call whose script can be played, where nothing fails, is its transcript: all but for want of memory. (A script of which a file isn't
+-- there is neither played nor refused for what stands behind it.)
 pub record IsAnswer (c : Call) (which : End) : Type 0 where
-  pub refusals : (all : Files) (cause : Cause) → c.files ≡ Some all → IsRefused c.way (Some all) c.name cause → (which ≡ refused cause) ⊎ (which ≡ memory) ⊎ IsReadFault which
+  pub refusals : (all : Files) (cause : Cause) → c.files ≡ Some all → IsRefused c.way (Some all) c.name cause → (which ≡ refused cause) ⊎ (which ≡ memory)
+      ⊎ (IsReadFault which × HasRisen c.fetch_faults c.fetch_faults')
   pub accepted : (all : Files) → c.files ≡ Some all → Play c.way (Some all) c.name → NothingFails c → (which ≡ done) ⊎ (which ≡ memory)
 
 -- The call has one end, with its reason, and that is its answer.

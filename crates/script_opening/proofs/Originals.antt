@@ -61,8 +61,8 @@ module _ (t : ProgramText) where
   bad_front : (bytes : List ℕ) (r : Refusal) → IsBadOriginal t (take 8388609 bytes) r → IsBadOriginal t bytes r
   bad_front bytes r h = (h.0, h.1, h.2, cause_whole h.0 bytes h.1 h.3, h.4, h.5)
 
-  module_run : (files : Option Files) (front : List ℕ) (listed : List Bool) (p : Module) → WhereTold files (λ all. front ≡ take 8388609 (bytes_of all t.path)) → WhereTold files (λ all. IsSome (all t.path))
-      → RunsFor t front listed p → (bytes : List ℕ) × Holds files t.path bytes × RunsFor t bytes listed p
+  module_run : (files : Option Files) (front : List ℕ) (listed : List Bool) (p : Module) → WhereTold files (λ all. front ≡ take 8388609 (bytes_of all t.path))
+      → WhereTold files (λ all. IsSome (all t.path)) → RunsFor t front listed p → (bytes : List ℕ) × Holds files t.path bytes × RunsFor t bytes listed p
   module_run None front listed p read there h = (front, tt, h)
   module_run (Some all) front listed p read there h = (bytes_of all t.path, holds_own all t.path there, runs_front (bytes_of all t.path) listed p (subst (λ b. RunsFor t b listed p) read h))
 

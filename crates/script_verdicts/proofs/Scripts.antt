@@ -12,7 +12,9 @@ use Rattle.host_files.proofs.Fronts.{own_bytes}
 use Rattle.script_setup.specs.SetUpRules.{SetUp, set_up_rules}
 use Rattle.world_hosting.specs.Worlds.{Part}
 use Rattle.script_opening.specs.declared.way.Way.{Way}
-use Rattle.script_opening.specs.Playing.{AreStages, BreaksRule, Cause, HasScript, IsBadModule, IsModule, IsReached, IsRefused, IsStage, Play, asks_all, bad_line, bad_module, bad_script}
+use Rattle.script_opening.specs.declared.way.Way.TheVariants.{Host, Run}
+use Rattle.script_opening.specs.Playing.{AreStages, BreaksRule, Cause, HasScript, IsBadModule, IsModule, IsRead, IsReached, IsRefused, IsStage, Play, Reaches}
+use Rattle.script_opening.specs.Playing.{asks_all, bad_line, bad_module, bad_script}
 use Rattle.script_verdicts.specs.Laws.{CausesAreOne, PlayedIsNotRefused}
 use Rattle.script_verdicts.proofs.Modules.{not_bad, one_module, one_refused}
 
@@ -50,6 +52,19 @@ module _ (files : Files) (name : List ℕ) where
           f.2 ∙ ap refusal_for same ∙ sym g.2
     ]
   ]
+
+-- ---- files that are there
+
+abbrev pub IsThere : Files → List ℕ → Type 0
+IsThere files name = (bytes : List ℕ) × (files name ≡ Some bytes)
+
+module_there : (way : Way) (files : Files) (t : ProgramText) (p : Module) (l : Option (List Bool)) → IsModule way (Some files) t p l → IsThere files t.path
+module_there Host files t p l h = (h.0, h.1)
+module_there Run files t p l h = (h.0, h.2)
+
+bad_there : (way : Way) (files : Files) (t : ProgramText) (r : Refusal) → IsBadModule way (Some files) t r → IsThere files t.path
+bad_there Host files t r h = (h.0, h.1)
+bad_there Run files t r h = (h.0, h.1)
 
 -- ---- programs
 
@@ -182,7 +197,8 @@ module _ (way : Way) (files : Files) where
           let same = sym x.reached.parted ∙ ap (λ (s : Script). s.programs) one ∙ y.reached.parted in
           same_cause x.number y.number x.text y.text a b
           (numbered x.number y.number (length x.reached.before) (length y.reached.before) x.text y.text x.reached.number_is y.reached.number_is
-          (meet x.reached.before y.reached.before x.reached.behind y.reached.behind x.text y.text same (before_stand x.whole x.number x.text x.reached) (before_stand y.whole y.number y.text y.reached)))
+          (meet x.reached.before y.reached.before x.reached.behind y.reached.behind x.text y.text same (before_stand x.whole x.number x.text x.reached)
+          (before_stand y.whole y.number y.text y.reached)))
           x.fails y.fails
     ]
   ]
@@ -194,6 +210,55 @@ module _ (way : Way) (files : Files) where
         let one = one_script files name play.whole y.whole play.of_script y.of_script in
         let all : All Stands y.whole.programs = subst (λ (s : Script). All Stands s.programs) one (texts_stand play.whole.programs play.parts play.stages) in
         never_fails y.number y.text a (stands_among y.reached.before y.reached.behind y.text (subst (All Stands) y.reached.parted all)) y.fails
+  ]
+
+  -- ---- files that are read
+
+  stands_there : (t : ProgramText) → Stands t → IsThere files t.path
+  stands_there t s = module_there way files t s.source s.listed s.module_is
+
+  fails_there : (number : ℕ) (t : ProgramText) (c : Cause) → Fails number t c → IsThere files t.path
+  fails_there number t c f = elim f.why [
+    | inl bad ↦ bad_there way files t bad.0 bad.1
+    | inr line ↦ let b = line.2 in module_there way files t b.0 b.1 b.2
+  ]
+
+  script_there : (name : List ℕ) (c : Cause) → IsRefused way (Some files) name c → IsThere files name
+  script_there name (bad_script r) h = (h.0, h.1)
+  script_there name (bad_module number r) h = (h.1.of_script.bytes, h.1.of_script.holds)
+  script_there name (bad_line line rule) h = (h.2.of_script.bytes, h.2.of_script.holds)
+
+  met_there : (i j number : ℕ) (t u : ProgramText) (c : Cause) → Meet i j t u → Fails number t c → IsThere files u.path
+  met_there i j number t u c m f = elim m.which [
+    | inl same ↦ subst (λ (x : ProgramText). IsThere files x.path) same.1 (fails_there number t c f)
+    | inr stands ↦ elim stands [ inl s ↦ absurd (never_fails number t c s f) | inr s ↦ stands_there u s ]
+  ]
+
+  program_there : (name : List ℕ) (c : Cause) → BadScript name c ⊎ BadProgram name c → (k : ℕ) (u : ProgramText) → Reaches way (Some files) name k u → IsThere files u.path
+  program_there name c f k u r = elim f [
+    | inl x ↦ absurd (script_passes files name r.whole x.refusal (is_here files name r.whole r.of_script) x.no_script)
+    | inr y ↦
+        let one = one_script files name y.whole r.whole y.of_script r.of_script in
+        let same = sym y.reached.parted ∙ ap (λ (s : Script). s.programs) one ∙ r.reached.parted in
+        met_there (length y.reached.before) (length r.reached.before) y.number y.text u c
+        (meet y.reached.before r.reached.before y.reached.behind r.reached.behind y.text u same (before_stand y.whole y.number y.text y.reached) (before_stand r.whole k u r.reached)) y.fails
+  ]
+
+  -- What is read of a script that is refused is there,
+  pub refused_reads : (name : List ℕ) (c : Cause) → IsRefused way (Some files) name c → (read : List ℕ) → IsRead way (Some files) name read → IsThere files read
+  refused_reads name c h read is = elim is [
+    | inl same ↦ subst (IsThere files) (sym same) (script_there name c h)
+    | inr r ↦ subst (IsThere files) (sym r.3) (program_there name c (found name c h) r.0 r.1 r.2)
+  ]
+
+  -- and of one that can be played.
+  pub played_reads : (name : List ℕ) → Play way (Some files) name → (read : List ℕ) → IsRead way (Some files) name read → IsThere files read
+  played_reads name play read is = elim is [
+    | inl same ↦ subst (IsThere files) (sym same) (play.of_script.bytes, play.of_script.holds)
+    | inr r ↦
+        let one = one_script files name play.whole r.2.whole play.of_script r.2.of_script in
+        let all : All Stands r.2.whole.programs = subst (λ (s : Script). All Stands s.programs) one (texts_stand play.whole.programs play.parts play.stages) in
+        subst (IsThere files) (sym r.3) (stands_there r.1 (stands_among r.2.reached.before r.2.reached.behind r.1 (subst (All Stands) r.2.reached.parted all)))
   ]
 
 pub played_not_refused : PlayedIsNotRefused
