@@ -33,6 +33,8 @@ mod running;
 #[cfg(test)]
 mod runtime;
 #[cfg(test)]
+mod saving;
+#[cfg(test)]
 mod texts;
 #[cfg(test)]
 mod trees;

@@ -141,7 +141,7 @@ has_back (suc c) n zero (at_these ks fs ∷ ps) gs h = h
 has_back (suc c) n (suc m) (at_every fs ∷ ps) gs h = has_back c n m ps gs h
 has_back (suc c) n (suc m) (at_these ks fs ∷ ps) gs h = has_back c n m ps gs h
 
-has_some : (c : ℕ) (ps : List SavedPart) (gs : List FrameField) → HasFields c ps gs → 1 ≤ kept_count gs
+pub has_some : (c : ℕ) (ps : List SavedPart) (gs : List FrameField) → HasFields c ps gs → 1 ≤ kept_count gs
 has_some c [] gs h = absurd h
 has_some zero (at_every fs ∷ ps) gs h = absurd h
 has_some zero (at_these ks fs ∷ ps) gs h = subst (λ hs. 1 ≤ kept_count hs) h.0 h.1

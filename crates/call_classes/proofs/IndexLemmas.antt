@@ -41,7 +41,7 @@ abbrev behind_first : List FrameField → List FrameField
 behind_first [] = []
 behind_first (f ∷ fs) = fs
 
-same_fields : (x : ℕ) (set other : List Bool) (types : List ValType) → length set ≡ length types → length other ≡ length types → fields_in x set types ≡ fields_in x other types → set ≡ other
+pub same_fields : (x : ℕ) (set other : List Bool) (types : List ValType) → length set ≡ length types → length other ≡ length types → fields_in x set types ≡ fields_in x other types → set ≡ other
 same_fields x [] [] types n m e = refl
 same_fields x [] (c ∷ cs) types n m e = absurd (omega (arith, n, m))
 same_fields x (b ∷ bs) [] types n m e = absurd (omega (arith, n, m))

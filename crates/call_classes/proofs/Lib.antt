@@ -2,3 +2,4 @@ pub mod ClassLemmas
 pub mod FoundClasses
 pub mod FramedSets
 pub mod IndexLemmas
+pub mod PartLemmas

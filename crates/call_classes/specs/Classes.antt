@@ -8,6 +8,7 @@ use Rattle.wa_types.specs.declared.values.ValType.{ValType}
 use Rattle.frame_laws.specs.Layout.{FrameField, kept_count}
 use Rattle.call_frames.specs.PlainFrames.{SavedPart, at_every, at_these, call_fields}
 use Rattle.call_frames.specs.PlainLaws.{NameCalls, named_calls, sizes_size, parts_size}
+use Rattle.call_classes.specs.CallParts.{joined}
 use Rattle.call_classes.specs.declared.frames.CallClass.{CallClass}
 use Rattle.call_classes.specs.Views.{fields_in, kept_total}
 
@@ -79,10 +80,11 @@ pub record IsIndex (types : List ValType) (found : BTreeMap (Bor (List Bool)) �
 abbrev pub KeepsMore : List ValType → (call : ℕ) → (set : List Bool) → (old new : List SavedPart) → Type 0
 KeepsMore types call set old new = (sets : List (List Bool)) → length sets ≡ call → KeepSets types sets old → KeepSets types (sets ++ set ∷ []) new
 
--- .. and are found
+-- .. and are found; the call has joined them
 pub record FindsMore (types : List ValType) (call : ℕ) (set : List Bool) (found_before found_now : BTreeMap (Bor (List Bool)) ℕ) (old new : List SavedPart) : Type 0 where
   pub index : IsIndex types found_now new
   pub keeps : KeepsMore types call set old new
+  pub joins : new ≡ joined call (fields_in 0 set types) old
 
 -- ---- sizes
 

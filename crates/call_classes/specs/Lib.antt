@@ -1,3 +1,4 @@
+pub mod CallParts
 pub mod Classes
 pub mod Framed
 pub mod Views

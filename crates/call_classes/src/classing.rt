@@ -3,6 +3,7 @@
 ghost use Rattle.std.specs.Prelude.{◌≡◌, ◌≤◌, ◌<◌, ◌^◌, ◌∷◌, [], All, List, length, IfOk, IsTrue, Vec, Bool};
 ghost use Rattle.std.specs.declared.alloc.Global.{Global as AGlobal};
 ghost use Rattle.call_frames.specs.PlainFrames.{at_every};
+ghost use Rattle.call_classes.specs.CallParts.{call_parts, kept_by_sets};
 ghost use Rattle.call_classes.specs.Classes.{AllAre, AreApart, KeepSets};
 ghost use Rattle.call_classes.specs.Classes.{FewFields};
 ghost use Rattle.call_classes.specs.Views.{class_parts, fields_in, parts_view, sets_of};
@@ -38,6 +39,7 @@ pub fn saved_parts(
     requires calls { length sets.now < 2 ^ 32 }
     ensures keep { IfOk result (λ p. KeepSets types.now (sets_of sets.now) (parts_view p)) }
     ensures alike { IfOk result (λ p. (set : List Bool) → 1 ≤ length sets.now → AllAre set (sets_of sets.now) → parts_view p ≡ at_every (fields_in 0 set types.now) ∷ []) }
+    ensures parts { IfOk result (λ p. parts_view p ≡ call_parts (kept_by_sets types.now (sets_of sets.now))) }
     ensures apart { IfOk result (λ p. AreApart (class_parts p.classes.items)) }
     ensures shared { IfOk result (λ p. length p.shared.items ≤ 50000) }
     ensures classes { IfOk result (λ p. FewFields p.classes.items) }

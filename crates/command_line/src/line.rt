@@ -63,14 +63,15 @@ fn with_gen<'w>(alloc: Global, line: Command<'w>) -> Result<Command<'w>, AllocEr
     line.subcommand(gen_line(alloc)?)
 }
 
-/// `transform [--imports LIST] [--ignore-imports] [--ignore-indirect] IN OUT`
+/// `transform [--imports LIST] [--ignore-imports] [--ignore-indirect] [--save all|live] IN OUT`
 fn transform_line<'w>(alloc: Global) -> Result<Command<'w>, AllocError>
     ensures shape { IfOk result (λ c. shape_of c ≡ command_shape transform_words) }
     ensures local { IfOk result (λ c. (out-Command c).has_globals ≡ false) }
 {
-    let line = Command::new(alloc, "transform").arg(option_arg(alloc, "imports"))?;
+    let line = with_option(alloc, Command::new(alloc, "transform"), "imports")?;
     let line = with_flag(alloc, line, "ignore-imports")?;
     let line = with_flag(alloc, line, "ignore-indirect")?;
+    let line = with_option(alloc, line, "save")?;
     with_places(alloc, line, "input", "output")
 }
 
@@ -88,6 +89,18 @@ fn gen_line<'w>(alloc: Global) -> Result<Command<'w>, AllocError>
     ensures local { IfOk result (λ c. (out-Command c).has_globals ≡ false) }
 {
     with_places(alloc, Command::new(alloc, "gen"), "number", "output")
+}
+
+/// A command with an option more that has a value.
+fn with_option<'w>(
+    alloc: Global,
+    line: Command<'w>,
+    name: &'w str,
+) -> Result<Command<'w>, AllocError>
+    ensures shape { IfOk result (λ c. app_of c ≡ with_rule (app_of line.entry) (option_rule name.now)) }
+    ensures local { IfOk result (λ c. (out-Command c).has_globals ≡ ((out-Command line.entry).has_globals || false)) }
+{
+    line.arg(option_arg(alloc, name))
 }
 
 fn with_flag<'w>(alloc: Global, line: Command<'w>, name: &'w str) -> Result<Command<'w>, AllocError>

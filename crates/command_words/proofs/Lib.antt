@@ -1,2 +1,3 @@
+mod CommandMet
 mod Failing
 mod WordCases

@@ -1,10 +1,12 @@
 -- Words of small commands that the definitions compute, wrong readings beside right ones.
-use Rattle.std.proofs.Common.{◌≡◌, [], ◌∷◌, Some, None, refl}
+use Rattle.std.proofs.Common.{◌≡◌, [], ◌∷◌, Some, None, false, refl}
 use Rattle.std.specs.Prelude.{codes}
 use Rattle.std.specs.Str.{is_utf8, chars}
 use Rattle.std.proofs.Math.Utf8.{encode}
 use Rattle.std.specs.Fmt.{digits}
-use Rattle.wa_model.specs.Spelled.{spelled, hosts, runs, generates}
+use Rattle.wa_types.specs.Pausing.{Policy, every, save_all, save_live}
+use Rattle.wa_model.specs.Command.{transform}
+use Rattle.wa_model.specs.Spelled.{Spelled, spelled, rewrites, hosts, runs, generates}
 
 -- ---- a script alone
 
@@ -60,3 +62,31 @@ no_output = refl
 no_command : (spelled [] ≡ None) × (spelled (codes "hosts" ∷ codes "s" ∷ []) ≡ None) × (spelled (codes "--" ∷ codes "host" ∷ codes "s" ∷ []) ≡ None)
 unfolding is_utf8 chars encode digits
 no_command = (refl, refl, refl)
+
+-- ---- what frames save
+
+abbrev a_to_b : Policy → Spelled
+a_to_b policy = rewrites (transform (record { choice = every; ignore_indirect = false; policy = policy }) (codes "a") (codes "b"))
+
+saves_live :
+    (spelled (codes "transform" ∷ codes "--save" ∷ codes "live" ∷ codes "a" ∷ codes "b" ∷ []) ≡ Some (a_to_b save_live))
+    × (spelled (codes "transform" ∷ codes "a" ∷ codes "--save=live" ∷ codes "b" ∷ []) ≡ Some (a_to_b save_live))
+unfolding is_utf8 chars encode digits
+saves_live = (refl, refl)
+
+saves_all :
+    (spelled (codes "transform" ∷ codes "a" ∷ codes "b" ∷ []) ≡ Some (a_to_b save_all))
+    × (spelled (codes "transform" ∷ codes "a" ∷ codes "b" ∷ codes "--save" ∷ codes "all" ∷ []) ≡ Some (a_to_b save_all))
+unfolding is_utf8 chars encode digits
+saves_all = (refl, refl)
+
+-- the option has one of the two values, and stands once
+no_policy :
+    (spelled (codes "transform" ∷ codes "--save" ∷ codes "some" ∷ codes "a" ∷ codes "b" ∷ []) ≡ None)
+    × (spelled (codes "transform" ∷ codes "--save=" ∷ codes "a" ∷ codes "b" ∷ []) ≡ None)
+    × (spelled (codes "transform" ∷ codes "a" ∷ codes "b" ∷ codes "--save" ∷ []) ≡ None)
+    × (spelled (codes "transform" ∷ codes "--save" ∷ codes "-" ∷ codes "a" ∷ codes "b" ∷ []) ≡ None)
+    × (spelled (codes "transform" ∷ codes "--save=all" ∷ codes "--save=all" ∷ codes "a" ∷ codes "b" ∷ []) ≡ None)
+    × (spelled (codes "run" ∷ codes "--save=live" ∷ codes "s" ∷ []) ≡ None)
+unfolding is_utf8 chars encode digits
+no_policy = (refl, refl, refl, refl, refl, refl)

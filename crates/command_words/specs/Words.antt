@@ -3,7 +3,6 @@ use Rattle.std.specs.Prelude.{◌≡◌, ◌≤◌, List, ℕ, Option, Some, Non
 use Rattle.std.specs.Option.{option_map}
 use denote.Ref.{Bor}
 use Rattle.call_graph.specs.Settings.{settings_of}
-use Rattle.call_graph.specs.declared.settings.Policy.TheVariants.{All}
 use Rattle.wa_model.specs.Command.{transform}
 use Rattle.wa_model.specs.Spelled.{Spelled, rewrites, hosts, runs, generates}
 use Rattle.command_words.specs.declared.words.Command.{Command as CommandValue}
@@ -16,11 +15,6 @@ spelled_of (Transform settings input output) = rewrites (transform (settings_of 
 spelled_of (Host script) = hosts script.now
 spelled_of (Run script) = runs script.now
 spelled_of (Gen number output) = generates number output.now
-
--- frames save all locals
-abbrev pub SavesAll : CommandValue → Type 0
-SavesAll (Transform settings input output) = settings.policy ≡ All
-SavesAll _ = Unit {0}
 
 -- a generated module has 1 to 4,000 functions
 abbrev pub HasFewFunctions : CommandValue → Type 0

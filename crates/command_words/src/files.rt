@@ -3,7 +3,7 @@ ghost use Rattle.std.specs.Prelude.{◌≡◌, Some, IfOk};
 ghost use Rattle.clap.specs.Words.{found_of, rows_of};
 ghost use Rattle.wa_model.specs.Spelled.{hosts, number_and_file, runs};
 ghost use Rattle.word_grammar.specs.Grammar.{gen_words, host_words, read_of, run_words};
-ghost use Rattle.command_words.specs.Words.{HasFewFunctions, Reads, SavesAll, spelled_of, text_of};
+ghost use Rattle.command_words.specs.Words.{HasFewFunctions, Reads, spelled_of, text_of};
 
 use crate::matches::text_at;
 use crate::words::{Command, WordsFault};
@@ -28,7 +28,6 @@ pub(crate) fn script_from<'w>(matches: &ArgMatches<'w>) -> Result<&'w str, Words
 pub(crate) fn generate_from<'w>(matches: &ArgMatches<'w>) -> Result<Command<'w>, WordsFault>
     ensures command { Reads spelled_of result (read_of gen_words (rows_of (found_of matches.now))) }
     ensures number { IfOk result HasFewFunctions }
-    ensures policy { IfOk result SavesAll }
 {
     number_and_file(text_at(matches, "number"), text_at(matches, "output"))
 }
@@ -39,7 +38,6 @@ fn number_and_file<'w>(
 ) -> Result<Command<'w>, WordsFault>
     ensures command { Reads spelled_of result (number_and_file (text_of number.entry) (text_of output.entry)) }
     ensures number { IfOk result HasFewFunctions }
-    ensures policy { IfOk result SavesAll }
 {
     let Some(number) = number else {
         return Err(WordsFault::Usage);
@@ -53,7 +51,6 @@ fn number_and_file<'w>(
 fn gen_of<'w>(number: &str, output: &'w str) -> Result<Command<'w>, WordsFault>
     ensures command { Reads spelled_of result (number_and_file (Some number.now) (Some output.now)) }
     ensures number { IfOk result HasFewFunctions }
-    ensures policy { IfOk result SavesAll }
 {
     match number_within(number, 1, MOST_FUNCTIONS) {
         None => Err(WordsFault::Usage),

@@ -2,11 +2,11 @@
 ghost use Rattle.std.specs.Prelude.{◌≡◌, None, Some, false, IfOk};
 ghost use Rattle.std.specs.Option.{option_map};
 ghost use Rattle.clap.specs.Words.{found_of, rows_of};
-ghost use Rattle.call_graph.specs.Settings.{choice_of};
-ghost use Rattle.wa_model.specs.Command.{choice_said, with_files};
+ghost use Rattle.call_graph.specs.Settings.{choice_of, policy_of};
+ghost use Rattle.wa_model.specs.Command.{choice_said, policy_said, with_files};
 ghost use Rattle.wa_model.specs.Spelled.{rewrites};
 ghost use Rattle.word_grammar.specs.Grammar.{TellsFlags, read_of, transform_words};
-ghost use Rattle.command_words.specs.Words.{HasFewFunctions, Reads, SavesAll, spelled_of, text_of};
+ghost use Rattle.command_words.specs.Words.{HasFewFunctions, Reads, spelled_of, text_of};
 
 use crate::matches::{flag_at, text_at};
 use crate::words::{Command, WordsFault};
@@ -20,16 +20,16 @@ pub(crate) fn transform_from<'w>(
     matches: &ArgMatches<'w>,
 ) -> Result<Command<'w>, WordsFault>
     ensures command { TellsFlags transform_words (rows_of (found_of matches.now)) → Reads spelled_of result (read_of transform_words (rows_of (found_of matches.now))) }
-    ensures policy { IfOk result SavesAll }
     ensures number { IfOk result HasFewFunctions }
 {
     let imports = text_at(matches, "imports");
     let ignore_imports = flag_at(matches, "ignore-imports");
     let ignore_indirect = flag_at(matches, "ignore-indirect");
+    let save = text_at(matches, "save");
     let input = text_at(matches, "input");
     let output = text_at(matches, "output");
     match choice_said(alloc, imports, ignore_imports) {
-        Ok(choice) => with_files(choice, ignore_indirect, input, output),
+        Ok(choice) => with_policy(choice, ignore_indirect, save, input, output),
         Err(fault) => Err(fault),
     }
 }
@@ -75,15 +75,52 @@ fn listed_choice(alloc: Global, text: &str) -> Result<Choice, WordsFault>
     }
 }
 
-/// A frame saves all locals.
-fn with_files<'w>(
+/// What frames save: all locals, where nothing is said.
+fn policy_said(save: Option<&str>) -> Result<Policy, WordsFault>
+    ensures { Reads policy_of result (policy_said (text_of save.entry)) }
+{
+    match save {
+        None => Ok(Policy::All),
+        Some(name) => named_policy(name),
+    }
+}
+
+fn named_policy(name: &str) -> Result<Policy, WordsFault>
+    ensures { Reads policy_of result (policy_said (Some name.now)) }
+{
+    if name == "all" {
+        return Ok(Policy::All);
+    }
+    if name == "live" {
+        return Ok(Policy::Live);
+    }
+    Err(WordsFault::Usage)
+}
+
+fn with_policy<'w>(
     choice: Choice,
     ignore_indirect: bool,
+    save: Option<&'w str>,
     input: Option<&'w str>,
     output: Option<&'w str>,
 ) -> Result<Command<'w>, WordsFault>
-    ensures command { Reads spelled_of result (option_map rewrites (with_files (Some (choice_of choice)) ignore_indirect (text_of input.entry) (text_of output.entry))) }
-    ensures policy { IfOk result SavesAll }
+    ensures command { Reads spelled_of result (option_map rewrites (with_files (Some (choice_of choice)) ignore_indirect (policy_said (text_of save.entry)) (text_of input.entry) (text_of output.entry))) }
+    ensures number { IfOk result HasFewFunctions }
+{
+    match policy_said(save) {
+        Ok(policy) => with_files(choice, ignore_indirect, policy, input, output),
+        Err(fault) => Err(fault),
+    }
+}
+
+fn with_files<'w>(
+    choice: Choice,
+    ignore_indirect: bool,
+    policy: Policy,
+    input: Option<&'w str>,
+    output: Option<&'w str>,
+) -> Result<Command<'w>, WordsFault>
+    ensures command { Reads spelled_of result (option_map rewrites (with_files (Some (choice_of choice)) ignore_indirect (Some (policy_of policy)) (text_of input.entry) (text_of output.entry))) }
     ensures number { IfOk result HasFewFunctions }
 {
     let Some(input) = input else {
@@ -95,7 +132,7 @@ fn with_files<'w>(
     let settings = Settings {
         choice,
         ignore_indirect,
-        policy: Policy::All,
+        policy,
     };
     Ok(Command::Transform {
         settings,

@@ -4,7 +4,7 @@ ghost use Rattle.std.specs.String.{string_bytes};
 ghost use Rattle.clap.specs.Words.{subcommand_rows_of};
 ghost use Rattle.wa_model.specs.Spelled.{Spelled, spelled};
 ghost use Rattle.word_grammar.specs.Grammar.{MatchesSpell};
-ghost use Rattle.command_words.specs.Words.{HasFewFunctions, Reads, SavesAll, spelled_of};
+ghost use Rattle.command_words.specs.Words.{HasFewFunctions, Reads, spelled_of};
 
 use crate::files::{generate_from, script_from};
 use crate::matches::parse_fault;
@@ -51,7 +51,6 @@ pub enum WordsFault {
 /// The command that the words spell, if they spell one.
 pub fn read_words<'w>(alloc: Global, words: &'w [String]) -> Result<Command<'w>, WordsFault>
     ensures command { Reads spelled_of result (spelled (map string_bytes words.now)) }
-    ensures policy { IfOk result SavesAll }
     ensures number { IfOk result HasFewFunctions }
 {
     match parse_line(alloc, words) {
@@ -63,7 +62,6 @@ pub fn read_words<'w>(alloc: Global, words: &'w [String]) -> Result<Command<'w>,
 /// The command that was met, with what the words say of it.
 fn command_from<'w>(alloc: Global, matches: &ArgMatches<'w>) -> Result<Command<'w>, WordsFault>
     ensures command { (spelling : Option Spelled) → MatchesSpell (subcommand_rows_of matches.now) spelling → Reads spelled_of result spelling }
-    ensures policy { IfOk result SavesAll }
     ensures number { IfOk result HasFewFunctions }
 {
     if let Some(matches) = matches.subcommand_matches("transform") {

@@ -37,7 +37,6 @@ use Rattle.run_laws.proofs.RuntimeTyped.{runtime_typed}
 use Rattle.run_laws.proofs.Stopping.{start_there}
 use Rattle.stack_laws.proofs.SpotRuns.{base_globals, listed_typed, start_takes_none}
 use Rattle.pause_laws.specs.RuntimeParts.{HasRuntime}
-use Rattle.flat_runs.specs.Beside.{Asked, Beside}
 use Rattle.headline_laws.specs.Emitted.{FirstStore, Whole}
 use Rattle.headline_laws.specs.LiveLaw.{LiveLaw}
 use Rattle.headline_laws.proofs.Headline.{headline}
@@ -47,11 +46,11 @@ use Rattle.flat_links.specs.Links.{GoodStore, L as Links, StandsLaw, W as WaitLi
 use Rattle.flat_links.proofs.Owed.{flat_law}
 use Rattle.flat_links.proofs.Spaces.{globals_same, sorts_same}
 use Rattle.flat_links.proofs.WrittenKnown.{Known, written_law}
-use Rattle.flat_guards.specs.CoreOf.{core_of}
-use Rattle.flat_guards.specs.Emitted.{Framing, Emitted}
-use Rattle.flat_guards.proofs.FlatSide.{beside_law}
+use Rattle.slim_links.proofs.SlimLinks.{law}
+use Rattle.flat_guards.specs.CoreOf.{RunsBeside, WaitsBeside, core_of, flat_core}
+use Rattle.flat_guards.specs.Emitted.{Framing, Emitted, slim_of, terms_of}
 use Rattle.flat_guards.proofs.NumberedStacks.{space_of}
-use Rattle.flat_guards.proofs.PairedFlat.{core_fits, flattened_so, paired}
+use Rattle.flat_guards.proofs.PairedFlat.{core_fits, flat_fits, paired, slim_beside}
 
 base_start : (m : Module) → (Base m).start ≡ m.start
 unfolding Base
@@ -84,11 +83,11 @@ module _ (m : Module) (s : Settings) (which : List Bool) (frames : (index : ℕ)
   abbrev b : Module
   b = Base m
 
-  abbrev B : Configuration → Configuration → Type 0
-  B = Beside (Base m) which
+  abbrev B : (spare : ℕ) → Configuration → Configuration → Type 0
+  B = RunsBeside m s which frames plan p
 
   abbrev A : ℕ → Configuration → Configuration → Type 0
-  A = Asked (Base m) which
+  A = WaitsBeside m s which frames plan p
 
   base_in : CodesIn (Base m)
   base_in = base_codes m codes_in
@@ -169,7 +168,8 @@ module _ (m : Module) (s : Settings) (which : List Bool) (frames : (index : ℕ)
       → PausesNumbered m s which (Blocking m plan os n).events → BehavesOn m s p plan os n which (expected_notes m s plan os n)
   says_with Live lives stands os n cmp pauses =
       headline (world_of k) whole (Known p written_valid plan written_fits area typed written_codes) (written_law (world_of k) written_valid written_fits area typed written_codes) (GoodStore k) first
-      (Links k B A) (WaitLinks k B A) Live lives (flat_law k fit Live B A (beside_law (Base m) which k.flat (flattened_so m s which frames plan p valid tells em plan_fits base_in))
+      (Links k B A) (WaitLinks k B A) Live lives (flat_law k fit Live B A (law (flat_core m s which frames plan p) (flat_fits m s which frames plan p valid tells em plan_fits base_in) (slim_of m s which frames) (terms_of m s which frames)
+      (slim_beside m s which frames plan p valid tells em plan_fits base_in))
       (paired m s which frames plan p valid tells em plan_fits base_in) stands) os n cmp pauses
 
   -- with nothing in between

@@ -9,6 +9,9 @@ use Rattle.flat_guards.proofs.NumberedStmts.{Kinds, place_told}
 use Rattle.guard_form.specs.Functions.{GuardedFunc}
 use Rattle.guard_form.specs.Grouping.{is_place}
 use Rattle.guard_form.specs.Pieces.{Units, no_unit, call_unit, nest_unit, if_unit, numbers_in, call_to, call_total, sole_callee, numbered, holds_call, first_piece, unit_call, units}
+use Rattle.slim_form.specs.Slim.{Free, Shape, Terms}
+use Rattle.slim_units.specs.SlimUnits.{SlimUnits, untouched, alone, before_call, before_block, before_loop, before_if}
+use Rattle.slim_units.proofs.UnitsAlike.{units_alike}
 use Rattle.guard_form.specs.Places.{Enclosing, BodyPlace, at_start, past_call, past_block, past_loop, past_if, in_block, in_loop, in_then, in_else}
 
 -- ---- a fact of each numbered call among units, by its number
@@ -30,6 +33,26 @@ at_place Q st f _ _ _ h (in_block {k = k} {first = first} {body = body} {behind 
 at_place Q st f _ _ _ h (in_loop {k = k} {first = first} {body = body} {behind = behind} {rest = rest} {xs = xs} hh pl) = (at_place Q st f k (nest_unit a_loop first body behind rest) xs h pl).0
 at_place Q st f _ _ _ h (in_then {k = k} {c = c} {fa = fa} {a = a} {fb = fb} {b = b} {behind = behind} {rest = rest} {xs = xs} hh pl) = (at_place Q st f k (if_unit c fa a fb b behind rest) xs h pl).0
 at_place Q st f _ _ _ h (in_else {k = k} {c = c} {fa = fa} {a = a} {fb = fb} {b = b} {behind = behind} {rest = rest} {xs = xs} hh pl) = (at_place Q st f k (if_unit c fa a fb b behind rest) xs h pl).1
+
+-- and of slim units
+pub each_slim : (Q : ℕ → List ℕ → Type 0) (t : Terms) (n : ℕ) (ts : List Free) (out f : Free) (sh : Shape) (first first' : Code) (us us' : Units) (k : ℕ) → SlimUnits t n ts out f sh first us first' us' → EachUnit Q k us → EachUnit Q k us'
+each_slim Q t n ts out _ _ first _ us _ k untouched h = h
+each_slim Q t n ts out f sh first first' _ _ k (alone sl) h = h
+each_slim Q t n ts out f sh first first' _ _ k (before_call {sh2 = sh2} {behind = behind} {behind' = behind'} {rest = rest} {rest' = rest'} slots x g h2 go sl hs hf re on) h =
+    (h.0, each_slim Q t n ts out h2 sh2 behind behind' rest rest' (suc k) on h.1)
+each_slim Q t n ts out f sh first first' _ _ k (before_block {inner = inner} {inner' = inner'} {behind = behind} {behind' = behind'} {body = body} {body' = body'} {rest = rest} {rest' = rest'} g h2 go sl ib on) h =
+    let e = (units_alike t _ (h2 ∷ ts) h2 g [] inner inner' body body' ib).numbers in
+    (each_slim Q t _ (h2 ∷ ts) h2 g [] inner inner' body body' k ib h.0, subst (λ i. EachUnit Q (k + i) rest') (sym e) (each_slim Q t n ts out h2 [] behind behind' rest rest' (k + numbers_in body) on h.1))
+each_slim Q t n ts out f sh first first' _ _ k (before_loop {inner = inner} {inner' = inner'} {behind = behind} {behind' = behind'} {body = body} {body' = body'} {rest = rest} {rest' = rest'} g head h2 go sl co ib on) h =
+    let e = (units_alike t _ (head ∷ ts) h2 head [] inner inner' body body' ib).numbers in
+    (each_slim Q t _ (head ∷ ts) h2 head [] inner inner' body body' k ib h.0, subst (λ i. EachUnit Q (k + i) rest') (sym e) (each_slim Q t n ts out h2 [] behind behind' rest rest' (k + numbers_in body) on h.1))
+each_slim Q t n ts out f sh first first' _ _ k (before_if {fa = fa} {fa' = fa'} {fb = fb} {fb' = fb'} {behind = behind} {behind' = behind'} {a = a} {a' = a'} {b = b} {b' = b'} {rest = rest} {rest' = rest'} o g l h2 go sl hc co ia ib on) h =
+    let e = (units_alike t _ (h2 ∷ ts) h2 l [] fa fa' a a' ia).numbers in
+    let e2 = (units_alike t _ (h2 ∷ ts) h2 l [] fb fb' b b' ib).numbers in (
+      each_slim Q t _ (h2 ∷ ts) h2 l [] fa fa' a a' k ia h.0,
+      subst (λ i. EachUnit Q (k + i) b') (sym e) (each_slim Q t _ (h2 ∷ ts) h2 l [] fb fb' b b' (k + numbers_in a) ib h.1),
+      subst (λ i. EachUnit Q (k + numbers_in a' + i) rest') (sym e2) (subst (λ i. EachUnit Q (k + i + numbers_in b) rest') (sym e) (each_slim Q t n ts out h2 [] behind behind' rest rest' (k + numbers_in a + numbers_in b) on h.2)),
+    )
 
 -- ---- the same of each call of statements, by its place
 

@@ -1,5 +1,5 @@
 -- An activation that waits at a numbered call: what its frame keeps of the flat locals, and which number the call has.
-use Rattle.std.proofs.Common.{◌≡◌, ℕ, zero, suc, ◌+◌, ◌<◌, List, [], ◌∷◌, ◌++◌, length, map, take, reverse, Option, Some, Bool, true, All, refl, sym, ap, ◌∙◌, subst, arith, length-append}
+use Rattle.std.proofs.Common.{◌≡◌, ℕ, zero, suc, ◌+◌, ◌<◌, List, [], ◌∷◌, ◌++◌, length, map, take, reverse, Option, Some, false, Bool, true, All, refl, sym, ap, ◌∙◌, subst, arith, length-append}
 use Rattle.std.specs.Prelude.{slice_get}
 use Rattle.std.specs.Option.{option_map}
 use Rattle.std.proofs.lemmas.List.{get_or_append_left, length-map, length-reverse, length-take-le}
@@ -32,13 +32,18 @@ use Rattle.flat_runs.proofs.Slots.{slots_got}
 use Rattle.frame_laws.specs.Stack.{AllKept, slot_values}
 use Rattle.guard_form.specs.Functions.{GuardedFunc}
 use Rattle.guard_form.specs.Numbers.{NumberedAt, calls_behind}
-use Rattle.guard_form.specs.Pieces.{Units, call_unit, flat_units}
+use Rattle.guard_form.specs.Pieces.{Units, call_unit, first_piece, flat_units, units}
 use Rattle.guard_form.specs.Places.{BodyPlace, Enclosing, flat_labels}
 use Rattle.guard_form.proofs.Counting.{numbers_law, units_law}
 use Rattle.guard_form.proofs.Grouped.{free_law, joins_law}
 use Rattle.guard_frames.specs.Levels.{FlatFieldsFit}
 use Rattle.headline_laws.specs.FlatLaw.{LocalsFit}
-use Rattle.flat_guards.specs.Emitted.{Emitted, Framing, fields_of, guarded_of}
+use Rattle.slim_form.specs.Slim.{Terms}
+use Rattle.slim_form.proofs.KeptSizes.{same_calls}
+use Rattle.slim_units.proofs.UnitsAlike.{pieces_call, units_alike}
+use Rattle.slim_units.proofs.UnitsSlim.{units_slim}
+use Rattle.slim_modules.specs.SlimModule.{SlimPieces, flat_terms}
+use Rattle.flat_guards.specs.Emitted.{Emitted, Framing, fields_of, guarded_of, pieces_in}
 use Rattle.flat_guards.proofs.KeptFields.{fields_fit, kept_reverse, kept_take, saved_each, saved_slot, slots_kept, taken_is, typed_at}
 use Rattle.flat_guards.proofs.NumberedCalls.{Took}
 use Rattle.flat_guards.proofs.NumberedStacks.{AtNumber}
@@ -158,14 +163,31 @@ module _ (m : Module) (s : Settings) (which : List Bool) (frames : (index : ℕ)
     abbrev ps : List ℕ
     ps = Numbered m s which num.func
 
+    -- its pieces are slim
+    sp : SlimPieces (Base m) (Numbered m s which num.func) a.func num.func (pieces_in m s which frames a.func)
+    sp = em.slim a.func num.func num.is pr.told
+
+    abbrev t : Terms
+    t = flat_terms b ps a.func num.func
+
+    abbrev first0 : Code
+    first0 = first_piece ps 0 (flattened b a.func num.func).body
+
+    abbrev units0 : Units
+    units0 = units ps 0 (flattened b a.func num.func).body
+
     calls_are : calls_of (followed_by gf.first (flat_units gf.body)) ≡ calls_in num.func
-    calls_are = ap calls_of (joins_law ps 0 (flattened b a.func num.func).body) ∙ calls_stay b a.func num.func
+    calls_are =
+        same_calls t 0 (sp.out ∷ []) sp.out sp.here [] (followed_by first0 (flat_units units0)) (followed_by gf.first (flat_units gf.body)) (units_slim t 0 (sp.out ∷ []) sp.out sp.here [] first0 gf.first units0 gf.body sp.slim)
+        ∙ ap calls_of (joins_law ps 0 (flattened b a.func num.func).body) ∙ calls_stay b a.func num.func
 
     at_place : NumberedAt test gf k x (length (calls_of (set_to to (followed_by behind (flat_units rest)))) + calls_behind (flat_labels gf xs))
     at_place =
         let told = flat_numbered b a.func num.func test in
-        let free = free_law test ps 0 (flattened b a.func num.func).body told in
-        numbers_law test st k gf call_slots x to behind rest xs free.0 free.1 (units_law test ps 0 (flattened b a.func num.func).body told) pl
+        let free0 = free_law test ps 0 (flattened b a.func num.func).body told in
+        let free = pieces_call t (λ c. test c ≡ false) 0 (sp.out ∷ []) sp.out sp.here [] first0 gf.first units0 gf.body sp.slim free0.0 free0.1 in
+        let alike = units_alike t 0 (sp.out ∷ []) sp.out sp.here [] first0 gf.first units0 gf.body sp.slim in
+        numbers_law test st k gf call_slots x to behind rest xs free.0 free.1 (alike.numbered test (units_law test ps 0 (flattened b a.func num.func).body told)) pl
 
     -- the number of the call is that of its place
     pub number : slice_get (Numbered m s which num.func) k ≡ Some (place_of (Some num.func) a.code a.labels)
@@ -178,7 +200,7 @@ module _ (m : Module) (s : Settings) (which : List Bool) (frames : (index : ℕ)
 
     slots_are : call_slots ≡ reverse (take (length a.taken) (slots (names (Base m) num.func) (types_of (a.taken ++ a.operands))))
     slots_are =
-        let e = slots_there m s which frames a.func num.func (body_typed b (base_valid m valid) a.func num.func num.is) st k
+        let e = slots_there m s which frames a.func num.func (body_typed b (base_valid m valid) a.func num.func num.is) sp st k
         (place_of (Some num.func) a.code a.labels) call_slots x to behind rest xs (types_of all) pl number num.call num.at num.points in
         let l = slots_long (names b num.func) (types_of all) in let l2 = length-map all type_of in let l3 = length-append a.taken a.operands in
         e ∙ ap (λ i. last_of i (reverse (slots (names b num.func) (types_of all)))) (sym took_args) ∙ last_reverse (length a.taken) (slots (names b num.func) (types_of all)) (omega arith)

@@ -2,9 +2,9 @@ pub mod Behaving
 pub mod CallPoints
 pub mod CallSlots
 pub mod CallWeights
-pub mod FlatSide
 pub mod FrameFacts
 pub mod KeptFields
+pub mod MovedStacks
 pub mod NumberedCalls
 pub mod NumberedStacks
 pub mod NumberedStmts
@@ -13,6 +13,7 @@ pub mod PairedStacks
 pub mod PauseCosts
 pub mod PlaceSlots
 pub mod StackAgain
+pub mod SlimStacks
 pub mod Standing
 pub mod StandingAgain
 pub mod Staying

@@ -132,17 +132,10 @@ module _ (m : Module) (s : Settings) (which : List Bool) (frames : (index : ℕ)
   goes_numbered g taken ops (indirect t) _ table lt has leads took (directly count) = let e = params_same g lt in absurd (omega arith)
   goes_numbered g taken ops (indirect t) _ table lt has leads took (by_table t2 n rest split count sort at same) = has
 
-  stack_numbered : (table : List (Option ℕ)) (g : ℕ) (us us' : List Activation) → g < func_space m → Callers (Base m) which g us us' → AllAtNumbers m s which valid table g us → AllNumbered v g us'
+  -- THE NUMBERS of a stack that waits
+  pub stack_numbered : (table : List (Option ℕ)) (g : ℕ) (us us' : List Activation) → g < func_space m → Callers (Base m) which g us us' → AllAtNumbers m s which valid table g us → AllNumbered v g us'
   stack_numbered table g _ _ lt host h = tt
   stack_numbered table g _ _ lt (above {fn = fn} {f = f} {under = us} {under' = us'} {ops = ops} {taken = taken} told is under ls spot) h =
       let h0 = h.0 in
       (λ c goes. goes_numbered g taken ops h0.call c table lt h0.has h0.leads h0.took goes, stack_numbered table fn us us' (space_below m valid fn f is) under h.1)
   stack_numbered table g _ _ lt (above_same {fn = fn} told is under act) h = let e = (h.0).told in let bad : true ≡ false = ap is_told (sym e) ∙ told in cc
-
-  -- THE NUMBERS of a stack that waits
-  pub numbers : (i : ℕ) (d f : Configuration) → LinkedWaits (core_of m s which frames plan p) (Beside (Base m) which) (Asked (Base m) which) i d f
-      → All (StandsNumbered m s which) (stack_of (Base m) d) → AllNumbered v i (f.here ∷ f.under)
-  numbers i d f l nums =
-      let few = Rattle.flat_links.proofs.Spaces.imports_few (core_of m s which frames plan p) fits in
-      let kn = l.known in
-      stack_numbered d.store.table i (d.here ∷ d.under) (f.here ∷ f.under) (omega arith) l.beside.waits (at_numbers m s which valid d.store.table l.root i (d.here ∷ d.under) l.spots.waits l.stands.stack nums)

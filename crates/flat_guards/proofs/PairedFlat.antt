@@ -38,8 +38,14 @@ use Rattle.guard_runs.proofs.PairedModules.{paired_law}
 use Rattle.headline_laws.specs.World.{setting}
 use Rattle.flat_links.specs.Core.{Core, CoreFits, table_in, world_of}
 use Rattle.flat_links.proofs.Spaces.{grown_func_type}
-use Rattle.flat_guards.specs.CoreOf.{core_of}
-use Rattle.flat_guards.specs.Emitted.{Framing, Emitted, Guarded, Stays, WrittenAs, guarded_of, role_at}
+use Rattle.slim_links.specs.SlimBeside.{SlimFits}
+use Rattle.slim_modules.specs.Laws.{SlimModuleFits}
+use Rattle.slim_modules.specs.SlimModule.{body_of_func, body_with, flat_terms, with_body}
+use Rattle.slim_modules.proofs.SlimModules.{fit_law, flat_size, mapped, slim_found}
+use Rattle.slim_units.proofs.UnitsAlike.{pieces_call}
+use Rattle.guard_form.specs.Pieces.{first_piece, units}
+use Rattle.flat_guards.specs.CoreOf.{core_of, flat_core}
+use Rattle.flat_guards.specs.Emitted.{Framing, Emitted, Guarded, Stays, WrittenAs, guarded_of, pieces_in, places_in, role_at, slim_of, terms_of}
 use Rattle.flat_guards.proofs.NumberedStmts.{flat_numbered, got_first, got_second}
 
 -- ---- lists
@@ -157,8 +163,12 @@ module _ (m : Module) (s : Settings) (which : List Bool) (frames : (index : ℕ)
   abbrev b : Module
   b = Base m
 
+  -- the flat module, and the one with slim pieces
+  abbrev flat_one : Module
+  flat_one = flat_module (Base m) which
+
   abbrev core : Module
-  core = flat_module (Base m) which
+  core = slim_of m s which frames
 
   abbrev test : Callee → Bool
   test = has_number m s which
@@ -169,11 +179,14 @@ module _ (m : Module) (s : Settings) (which : List Bool) (frames : (index : ℕ)
   pub flattened_so : Flattened (Base m) (flat_module (Base m) which) which
   flattened_so = valid_is_flattened (Base m) which (base_valid m valid)
 
+  pub slim_fits : SlimModuleFits (Base m) which (places_in m s which) (pieces_in m s which frames)
+  slim_fits = fit_law (Base m) which (places_in m s which) (pieces_in m s which frames) (base_valid m valid) em.slim
+
   core_sorts : map (λ (f : Func). f.sort) core.funcs ≡ map (λ (f : Func). f.sort) m.funcs
   core_sorts =
       let fs = map (λ (f : Func). f.sort) in
       sym (drop_front (imported imported_func b) (fs core.funcs))
-      ∙ ap (drop (length (imported imported_func b))) (sorts_stay b which)
+      ∙ ap (drop (length (imported imported_func b))) slim_fits.sorts
       ∙ drop_front (imported imported_func b) (fs b.funcs)
       ∙ ap fs (base_funcs m)
 
@@ -184,12 +197,26 @@ module _ (m : Module) (s : Settings) (which : List Bool) (frames : (index : ℕ)
   pub core_fits : CoreFits (core_of m s which frames plan p)
   core_fits = record {
     valid = valid;
+    flat_valid = slim_fits.valid;
+    codes = codes;
+    functions_alone = refl;
+    sorts = slim_fits.sorts;
+    plan = plan_fits;
+  }
+
+  -- and that of the flat module itself
+  pub flat_fits : CoreFits (flat_core m s which frames plan p)
+  flat_fits = record {
+    valid = valid;
     flat_valid = valid_stays b which (base_valid m valid);
     codes = codes;
     functions_alone = refl;
     sorts = sorts_stay b which;
     plan = plan_fits;
   }
+
+  pub slim_beside : SlimFits (flat_core m s which frames plan p) (slim_of m s which frames) (terms_of m s which frames)
+  slim_beside = record { flattened = flattened_so; together = slim_fits.together; behind = slim_fits.behind }
 
   -- ---- one function
 
@@ -199,32 +226,17 @@ module _ (m : Module) (s : Settings) (which : List Bool) (frames : (index : ℕ)
 
     -- its type
     type_there : (x : ℕ) (f : Func) → defined_at b x ≡ Some f → x < length (func_sorts b) → func_type_at core x ≡ type_at b f.sort
-    type_there x f e lt = flattened_so.func_type x lt ∙ defined_type b x f e
+    type_there x f e lt = (slim_fits.together).func_type x ∙ flattened_so.func_type x lt ∙ defined_type b x f e
 
-    flat_size : (x : ℕ) (f : Func) → length (flattened b x f).locals ≡ param_count (type_at b f.sort) + length (declared_locals f.locals ++ extra_types b f)
-    flat_size x f =
-        let ps = (type_at b f.sort).params in
-        let ds = declared_locals f.locals in
-        let a : List ValType = map (λ (q : Pair). q.ty) (SlotPairs b f) in
-        let c : List ValType = map (λ (q : Pair). q.ty) (ResultPairs b f) in
-        let l1 = length-append ((ps ++ ds) ++ a) c in
-        let l2 = length-append (ps ++ ds) a in
-        let l3 = length-append ps ds in
-        let l4 = length-append ds (a ++ c) in
-        let l5 = length-append a c in
-        omega arith
-
-    guarded_same : (x : ℕ) (f g g' : Func) → (g.body ≡ body_of (flattened b x f)) × (declared_locals g.locals ≡ declared_locals f.locals ++ extra_types b f) → func_type_at v.flat x ≡ type_at b f.sort
+    guarded_same : (x : ℕ) (f g g' : Func) → (g.body ≡ body_with (pieces_in m s which frames x) (flattened b x f).result) × (declared_locals g.locals ≡ declared_locals f.locals ++ extra_types b f) → func_type_at v.flat x ≡ type_at b f.sort
         → Guarded m s which frames x f g' → v.role x ≡ with_guards (guarded_of m s which frames x f) → SameFunction v x g g'
     guarded_same x f g g' h ty wr role =
         let ff = flattened b x f in
-        let ps = Rattle.wa_types.specs.Pausing.Numbered m s which f in
-        let joined : code_of ff.body ≡ followed_by (Rattle.guard_form.specs.Pieces.first_piece ps 0 ff.body) (Rattle.guard_form.specs.Pieces.flat_units (Rattle.guard_form.specs.Pieces.units ps 0 ff.body)) = sym (joins_law ps 0 ff.body) in
-        let n1 = flat_size x f in
+        let n1 = flat_size b x f in
         let n2 : length (declared_locals g.locals) ≡ length (declared_locals f.locals ++ extra_types b f) = ap length h.1 in
         let n3 : param_count (func_type_at v.flat x) ≡ param_count (type_at b f.sort) = ap param_count ty in
         record {
-          flat = h.0 ∙ ap (λ z. nest a_block None z (result_got ff.result)) joined ∙ ap flat_code (sym role);
+          flat = h.0 ∙ ap flat_code (sym role);
           written = wr.body ∙ ap (written_code (global_space m)) (sym role);
           locals = wr.locals ∙ ap (λ z. z ++ I32 ∷ I32 ∷ I64 ∷ []) ((is_flat b x f).1 ∙ sym h.1) ∙ ap (λ r. declared_locals g.locals ++ R.extra_types r) (sym role);
           size = sized n1 n2 n3 ∙ ap size_of (sym role);
@@ -250,12 +262,17 @@ module _ (m : Module) (s : Settings) (which : List Bool) (frames : (index : ℕ)
         sized : {q a t u u2 z : ℕ} → q ≡ t → z ≡ a → u2 ≡ u → t ≡ a + u → z + u2 ≡ q
         sized h1 h2 h3 h4 = omega arith
 
+    abbrev bodies : (index : ℕ) → Code
+    bodies x = body_of_func (Base m) which (places_in m s which) (pieces_in m s which frames) x (defined_at (Base m) x)
+
     -- by whether it is told
-    same_func : (told : Bool) (x : ℕ) (f g g' : Func) → IsPlaced told b x f (Some g) → func_type_at v.flat x ≡ type_at b f.sort → WrittenAs m s which frames told x f g'
-        → v.role x ≡ role_at m s which frames told x (Some f)
+    same_func : (told : Bool) (x : ℕ) (f g0 g g' : Func) → IsPlaced told b x f (Some g0) → with_body told (bodies x) g0 ≡ g → defined_at b x ≡ Some f → func_type_at v.flat x ≡ type_at b f.sort
+        → WrittenAs m s which frames told x f g' → v.role x ≡ role_at m s which frames told x (Some f)
         → SameFunction v x g g'
-    same_func true x f g g' h ty wr role = guarded_same x f g g' h ty wr role
-    same_func false x f g g' h ty wr role = stays_same x f g g' (the_same g f h) ty wr role
+    same_func true x f g0 g g' h eg db ty wr role =
+        guarded_same x f g g'
+        (ap (λ (z : Func). z.body) (sym eg) ∙ ap (body_of_func (Base m) which (places_in m s which) (pieces_in m s which frames) x) db, ap (λ (z : Func). declared_locals z.locals) (sym eg) ∙ h.1) ty wr role
+    same_func false x f g0 g g' h eg db ty wr role = stays_same x f g g' (sym eg ∙ the_same g0 f h) ty wr role
       where
         the_same : (g f : Func) → Some g ≡ Some f → g ≡ f
         the_same g f e = cc
@@ -275,8 +292,9 @@ module _ (m : Module) (s : Settings) (which : List Bool) (frames : (index : ℕ)
         let db : defined_at b x ≡ Some q.0 = base_defined m x ∙ dm in
         let dc : defined_at core x ≡ Some g = defined_by core j g own in
         let within : x < length (func_sorts b) = subst (λ z. x < z) (sym (base_space m)) lt in
-        let ty : func_type_at v.flat x ≡ type_at b (q.0).sort = grown_func_type w core_fits x (subst (λ ss. x < length ss) (sym (sorts_stay b which)) within) ∙ type_there x q.0 db within in
-        same_func (is_told (slice_get which x)) x q.0 g g' (subst (λ o. IsPlaced (is_told (slice_get which x)) b x q.0 o) dc (flattened_so.placed x q.0 db)) ty
+        let ty : func_type_at v.flat x ≡ type_at b (q.0).sort = grown_func_type w core_fits x (subst (λ ss. x < length ss) (sym slim_fits.sorts) within) ∙ type_there x q.0 db within in
+        let fg = mapped (with_body (is_told (slice_get which x)) (bodies x)) (defined_at flat_one x) g (sym (slim_found b which (places_in m s which) (pieces_in m s which frames) x) ∙ dc) in
+        same_func (is_told (slice_get which x)) x q.0 fg.0 g g' (subst (λ o. IsPlaced (is_told (slice_get which x)) b x q.0 o) fg.1 (flattened_so.placed x q.0 db)) fg.2 db ty
         (subst (λ z. WrittenAs m s which frames (is_told (slice_get which z)) z q.0 g') x_is (em.written j q.0 g' q.1 eg')) (ap (λ o. role_at m s which frames (is_told (slice_get which x)) x o) dm)
 
     -- ---- what functions call
@@ -285,7 +303,12 @@ module _ (m : Module) (s : Settings) (which : List Bool) (frames : (index : ℕ)
     unfolding pruned
     role_calls x true e None q = tt
     role_calls x false e None q = tt
-    role_calls x true e (Some f) q = free_law test (Rattle.wa_types.specs.Pausing.Numbered m s which f) 0 (flattened b x f).body (flat_numbered b x f test)
+    role_calls x true e (Some f) q =
+        let ps = Rattle.wa_types.specs.Pausing.Numbered m s which f in
+        let body = (flattened b x f).body in
+        let free = free_law test ps 0 body (flat_numbered b x f test) in
+        let sp = em.slim x f (base_defined m x ∙ q) e in
+        pieces_call (flat_terms b ps x f) (λ c. test c ≡ false) 0 (sp.out ∷ []) sp.out sp.here [] (first_piece ps 0 body) (frames x).pieces.first (units ps 0 body) (frames x).pieces.units sp.slim free.0 free.1
     role_calls x false e (Some f) q = calls_each (λ c. test c ≡ false) (pruned f.body) (λ i c at. not_numbered m s which x f i c tells q e at)
 
     -- what stands in the table is a function

@@ -19,10 +19,12 @@ use Rattle.guard_form.specs.Pieces.{first_piece, units}
 use Rattle.guard_sizes.specs.Rewritten.{KeepsFew}
 use Rattle.guard_sizes.proofs.Sizes.{small_law}
 use Rattle.range_laws.proofs.BlockingRuns.{base_codes, well_formed_in}
-use Rattle.flat_guards.specs.Emitted.{Emitted, fields_of, guarded_of, layout_of, AllKeepEnough, Framing, kept_frames, lay_at}
+use Rattle.slim_modules.specs.SlimModule.{AllSlimPieces, Pieces, flat_terms}
+use Rattle.slim_units.proofs.UnitsPassed.{passing_law}
+use Rattle.flat_guards.specs.Emitted.{places_in, Emitted, fields_of, guarded_of, layout_of, AllKeepEnough, Framing, kept_frames, lay_at}
 use Rattle.flat_guards.specs.Laws.{EmittedBehaves}
 use Rattle.flat_guards.proofs.Behaving.{says}
-use Rattle.flat_guards.proofs.PairedFlat.{base_locals}
+use Rattle.flat_guards.proofs.PairedFlat.{base_defined, base_locals}
 use Rattle.flat_guards.proofs.StackAgain.{stacks_stand}
 use Rattle.flat_guards.proofs.WrittenLocals.{index_of}
 use Rattle.slot_laws.proofs.Closed.{one_list}
@@ -49,9 +51,9 @@ slot_count : (x : ℕ) (ps : List Pair) → length (slot_places (λ p. true) x p
 slot_count x [] = refl
 slot_count x (p ∷ ps) = ap suc (slot_count (suc x) ps)
 
-module _ (m : Module) (s : Settings) (which : List Bool) (keep : (func local : ℕ) → Bool) (valid : Valid m) where
+module _ (m : Module) (s : Settings) (which : List Bool) (pieces : (index : ℕ) → Pieces) (keep : (func local : ℕ) → Bool) (valid : Valid m) (slim : AllSlimPieces (Base m) which (places_in m s which) pieces) where
   abbrev frames : (index : ℕ) → Framing
-  frames = kept_frames m s which keep
+  frames = kept_frames m s which pieces keep
 
   keeps_few : (x : ℕ) (f : Func) → defined_at m x ≡ Some f → KeepsFew m f (layout_of m s which keep x f)
   keeps_few x f is =
@@ -63,14 +65,17 @@ module _ (m : Module) (s : Settings) (which : List Bool) (keep : (func local : �
       let q = ap length (base_slots m valid x f is) in
       omega arith
 
-  costs : (x : ℕ) (f : Func) → defined_at m x ≡ Some f → pause_cost (global_space m) (guarded_of m s which frames x f) (one_frame (layout_of m s which keep x f)) ≤ 112 * (Weight m f + 4)
-  costs x f is =
+  costs : (x : ℕ) (f : Func) → defined_at m x ≡ Some f → is_told (slice_get which x) ≡ true → pause_cost (global_space m) (guarded_of m s which frames x f) (one_frame (layout_of m s which keep x f)) ≤ 112 * (Weight m f + 4)
+  costs x f is told =
       let q = index_of m x f is in
       let ps = Numbered m s which f in
       let small = small_law m q.0 x f (global_space m) ps (layout_of m s which keep x f) valid q.2 (keeps_few x f is) in
       let cost = small.cost in
       let same : passing (first_piece ps 0 (flattened (Base m) x f).body) (units ps 0 (flattened (Base m) x f).body) ≡ passing (first_piece ps 0 (flattened m x f).body) (units ps 0 (flattened m x f).body) =
       ap (λ (z : FlatFunc). passing (first_piece ps 0 z.body) (units ps 0 z.body)) (base_flattened m valid x f is) in
+      let body = (flattened (Base m) x f).body in
+      let sp = slim x f (base_defined m x ∙ is) told in
+      let less = passing_law (flat_terms (Base m) ps x f) 0 (sp.out ∷ []) sp.out sp.here (first_piece ps 0 body) (pieces x).first (units ps 0 body) (pieces x).units sp.slim in
       omega arith
 
   module _ (keeps : AllKeepEnough m s which keep) (policy : s.policy ≡ save_all) where
@@ -91,19 +96,19 @@ module _ (m : Module) (s : Settings) (which : List Bool) (keep : (func local : �
           fields = sym (ap (λ (z : Layout). z.fields) same) ∙ ap (λ z. fields_of (keep x) (Saved (Base m) z f place)) (sym policy);
           own = enough.own;
           stacked = λ ops points. enough.stacked place ops (k, slice_get_within (Numbered m s which f) k place number, get_or_from_slice_get (Numbered m s which f) k place place number) points;
-          cost = subst (λ (z : Layout). pause_cost (global_space m) (guarded_of m s which frames x f) (one_frame z) ≤ 112 * (Weight m f + 4)) same (costs x f is);
+          cost = subst (λ (z : Layout). pause_cost (global_space m) (guarded_of m s which frames x f) (one_frame z) ≤ 112 * (Weight m f + 4)) same (costs x f is told);
         }
 
     -- each call's frame is what is asked
-    pub kept_framed : FramedCalls m s which (kept_frames m s which keep)
+    pub kept_framed : FramedCalls m s which (kept_frames m s which pieces keep)
     kept_framed = one
 
 -- THE EMITTED MODULE BEHAVES like its original
 pub emitted_behave : EmittedBehaves
-emitted_behave m s told keep p valid written_valid written_codes policy tells0 em0 keeps0 wf which tells plan os n cmp pauses =
+emitted_behave m s told pieces keep p valid written_valid written_codes policy tells0 em0 keeps0 wf which tells plan os n cmp pauses =
     let same = one_list m s told which tells0 tells in
-    let em = subst (λ w. Emitted m s w (kept_frames m s w keep) p) same em0 in
+    let em = subst (λ w. Emitted m s w (kept_frames m s w pieces keep) p) same em0 in
     let keeps = subst (λ w. AllKeepEnough m s w keep) same keeps0 in
     let codes = well_formed_in m wf in
-    says m s which (kept_frames m s which keep) p valid written_valid codes written_codes tells em plan cmp.fits
-    (stacks_stand m s which keep plan p valid tells em cmp.fits (base_codes m codes) keeps (kept_framed m s which keep valid keeps policy)) os n cmp pauses
+    says m s which (kept_frames m s which pieces keep) p valid written_valid codes written_codes tells em plan cmp.fits
+    (stacks_stand m s which pieces keep plan p valid tells em cmp.fits (base_codes m codes) keeps (kept_framed m s which pieces keep valid em.slim keeps policy)) os n cmp pauses

@@ -18,10 +18,11 @@ use Rattle.flat_laws.specs.Flatten.{Names, names, slots, top, carry_to, carry_al
 use Rattle.flat_laws.proofs.Sizes.{stacks_are_slots}
 use Rattle.wa_model.specs.declared.flat.Operand.TheVariants.{Local}
 use Rattle.guard_form.specs.Grouping.{is_place}
-use Rattle.guard_form.specs.Pieces.{Units, call_unit}
+use Rattle.guard_form.specs.Pieces.{Units, call_unit, first_piece, units}
+use Rattle.slim_modules.specs.SlimModule.{SlimPieces, flat_terms}
 use Rattle.guard_form.specs.Places.{Enclosing, BodyPlace}
-use Rattle.flat_guards.specs.Emitted.{Framing, guarded_of}
-use Rattle.flat_guards.proofs.CallSlots.{EachUnit, all_calls, args_in, at_place, call_slots, each_unit, kinds_one, next_told, told_at, told_before, zip_got, zipped}
+use Rattle.flat_guards.specs.Emitted.{Framing, guarded_of, pieces_in}
+use Rattle.flat_guards.proofs.CallSlots.{EachUnit, all_calls, args_in, at_place, call_slots, each_slim, each_unit, kinds_one, next_told, told_at, told_before, zip_got, zipped}
 use Rattle.flat_guards.proofs.NumberedStmts.{kinds_flat}
 
 -- so many operands a call takes
@@ -120,15 +121,18 @@ module _ (m : Module) (s : Settings) (which : List Bool) (frames : (index : ℕ)
       let z : 0 + n ≡ n = omega arith in
       let same : n ≡ place = the_number n place (sym (told_at test 0 (calls_in f) n (ap (is_place ps) z ∙ is) ∙ ap (λ i. Some i) z) ∙ at) in ap (slice_get rows) (sym same) ∙ e
 
-  each : EachUnit AtRank 0 (guarded_of m s which frames x f).body
-  each = each_unit ps rank next (λ n xs. slice_get rows n ≡ Some xs) AtRank counts 0 body (kinds_one body (kinds_flat (names b f) (around b f) ((around b f).result ∷ []) f.body [])) (all_calls rows body refl)
+  each_plain : EachUnit AtRank 0 (units ps 0 (flattened (Base m) x f).body)
+  each_plain = each_unit ps rank next (λ n xs. slice_get rows n ≡ Some xs) AtRank counts 0 body (kinds_one body (kinds_flat (names b f) (around b f) ((around b f).result ∷ []) f.body [])) (all_calls rows body refl)
+
+  each : (sp : SlimPieces (Base m) (Numbered m s which f) x f (pieces_in m s which frames x)) → EachUnit AtRank 0 (guarded_of m s which frames x f).body
+  each sp = each_slim AtRank (flat_terms b ps x f) 0 (sp.out ∷ []) sp.out sp.here [] (first_piece ps 0 body) (pieces_in m s which frames x).first (units ps 0 body) (pieces_in m s which frames x).units 0 sp.slim each_plain
 
   -- the slots of the call of this number
-  pub slots_there : (st k place : ℕ) (xs : List ℕ) (c : Callee) (to : Option ℕ) (behind : Code) (rest : Units) (en : List Enclosing) (ops : List ValType)
+  pub slots_there : (sp : SlimPieces (Base m) (Numbered m s which f) x f (pieces_in m s which frames x)) (st k place : ℕ) (xs : List ℕ) (c : Callee) (to : Option ℕ) (behind : Code) (rest : Units) (en : List Enclosing) (ops : List ValType)
       → BodyPlace st (guarded_of m s which frames x f) k (call_unit xs c to behind rest) en → slice_get ps k ≡ Some place → (cal : Callee) → slice_get (calls_in f) place ≡ Some cal
       → slice_get (func_call_points b f) place ≡ Some ops → xs ≡ last_of (args_of (around b f) cal) (reverse (slots (names b f) ops))
-  slots_there st k place xs c to behind rest en ops pl number cal at points =
-      let here = (at_place AtRank st (guarded_of m s which frames x f) k (call_unit xs c to behind rest) en each pl).0 in
+  slots_there sp st k place xs c to behind rest en ops pl number cal at points =
+      let here = (at_place AtRank st (guarded_of m s which frames x f) k (call_unit xs c to behind rest) en (each sp) pl).0 in
       let got : slice_get rows place ≡ Some xs = here place number in
       let args : slice_get (args_in body) place ≡ Some (args_of (around b f) cal) =
       ap (λ z. slice_get z place) (args_flat (names b f) (around b f) ((around b f).result ∷ []) f.body []) ∙ slice_get-map (args_of (around b f)) (calls_in f) place ∙ ap (option_map (args_of (around b f))) at in

@@ -1,6 +1,6 @@
 -- For the policy that saves all, suspended stacks of numbered calls stand as frames, and what came back of them stands beside the same
 -- stack.
-use Rattle.std.proofs.Common.{◌≡◌, ℕ, ◌+◌, List, [], ◌∷◌, ◌++◌, Option, Some, Bool, true, All, refl, sym, ap, ◌∙◌, subst}
+use Rattle.std.proofs.Common.{◌≡◌, ℕ, ◌+◌, List, [], ◌∷◌, ◌++◌, length, Option, Some, Bool, true, All, refl, sym, ap, ◌∙◌, subst}
 use Rattle.wa_types.specs.Base.{Base}
 use Rattle.wa_types.specs.Frames.{Saved}
 use Rattle.wa_types.specs.Modules.{defined_at}
@@ -18,82 +18,104 @@ use Rattle.wa_model.specs.Step.{result_count}
 use Rattle.wa_model.specs.Store.{value_at}
 use Rattle.range_laws.specs.Ranges.{CodesIn}
 use Rattle.flat_laws.specs.Flatten.{names, top_of}
-use Rattle.flat_runs.specs.Beside.{Asked, Beside, Callers, Locals, above, above_same, host}
+use Rattle.flat_runs.specs.Beside.{Locals}
+use Rattle.slim_runs.specs.Beside.{moved}
+use Rattle.slim_modules.specs.SlimModule.{Pieces}
+use Rattle.flat_laws.specs.FlatModule.{flat_module}
 use Rattle.frame_laws.specs.FrameMemory.{IsKept}
-use Rattle.guard_frames.specs.Returned.{AllSameFlat}
+use Rattle.guard_frames.specs.Returned.{AllSameFlat, SameFlat}
 use Rattle.guard_runs.specs.Stopped.{Stopped}
 use Rattle.headline_laws.specs.FlatLaw.{AllLocalsFit, FlatAgain}
 use Rattle.headline_laws.specs.World.{setting}
 use Rattle.flat_links.specs.Core.{Core, world_of}
 use Rattle.flat_links.specs.Links.{GoodStore, LinkedWaits, StandsLaw}
 use Rattle.flat_links.specs.Links as N
-use Rattle.flat_guards.specs.CoreOf.{core_of}
+use Rattle.flat_guards.specs.CoreOf.{RunsBeside, WaitsBeside, core_of}
 use Rattle.flat_guards.specs.Emitted.{Emitted, fields_of, lay_at, layout_of, AllKeepEnough, Framing, kept_frames}
-use Rattle.flat_guards.proofs.NumberedStacks.{AllAtNumbers, numbers}
+use Rattle.flat_guards.proofs.NumberedStacks.{AllAtNumbers, AtNumber}
+use Rattle.flat_guards.proofs.MovedStacks.{AgainAt, AllAgain, callers_moved, fits_moved, moved_all, unders_moved}
+use Rattle.flat_guards.proofs.PairedStacks.{AllPairs, PairAt}
 use Rattle.flat_guards.proofs.PairedFlat.{base_defined}
-use Rattle.flat_guards.proofs.StandingAgain.{held_again, split}
+use Rattle.flat_guards.proofs.StandingAgain.{extra2, held_again, split}
 use Rattle.flat_guards.specs.Framed.{FramedCalls}
-use Rattle.flat_guards.proofs.WaitsAgain.{flat_again, numbers_at, stands}
+use Rattle.flat_guards.proofs.WaitsAgain.{all_told, flat_again, numbers, numbers_at, pairs_at, stands}
 
-act_is : (c : Activation) (fn : ℕ) (ls ops taken : List Value) (code : Code) (labels : List Label) → c.func ≡ fn → c.locals ≡ ls → c.operands ≡ ops → c.taken ≡ taken → c.code ≡ code → c.labels ≡ labels → waiting fn ls ops taken code labels ≡ c
-act_is c fn ls ops taken code labels e1 e2 e3 e4 e5 e6 =
-    ap (λ z. waiting z ls ops taken code labels) (sym e1) ∙ ap (λ z. waiting c.func z ops taken code labels) (sym e2) ∙ ap (λ z. waiting c.func c.locals z taken code labels) (sym e3)
-    ∙ ap (λ z. waiting c.func c.locals c.operands z code labels) (sym e4) ∙ ap (λ z. waiting c.func c.locals c.operands c.taken z labels) (sym e5) ∙ ap (λ z. waiting c.func c.locals c.operands c.taken c.code z) (sym e6)
-
-module _ (m : Module) (s : Settings) (which : List Bool) (keep : (func local : ℕ) → Bool) (plan : Plan) (p : Module) (valid : Valid m) (tells : TellsMayPause m s which)
-    (em : Emitted m s which (kept_frames m s which keep) p) (plan_fits : P.Fits m plan) (codes : CodesIn (Base m)) (keeps : AllKeepEnough m s which keep)
-    (framed : FramedCalls m s which (kept_frames m s which keep)) where
+module _ (m : Module) (s : Settings) (which : List Bool) (pieces : (index : ℕ) → Pieces) (keep : (func local : ℕ) → Bool) (plan : Plan) (p : Module) (valid : Valid m) (tells : TellsMayPause m s which)
+    (em : Emitted m s which (kept_frames m s which pieces keep) p) (plan_fits : P.Fits m plan) (codes : CodesIn (Base m)) (keeps : AllKeepEnough m s which keep)
+    (framed : FramedCalls m s which (kept_frames m s which pieces keep)) where
   abbrev frames : (index : ℕ) → Framing
-  frames = kept_frames m s which keep
+  frames = kept_frames m s which pieces keep
 
   abbrev k : Core
-  k = core_of m s which (kept_frames m s which keep) plan p
+  k = core_of m s which (kept_frames m s which pieces keep) plan p
 
   the_func : (x y : Func) → Some x ≡ Some y → x ≡ y
   the_func x y e = cc
 
-  abbrev B : Configuration → Configuration → Type 0
-  B = Beside (Base m) which
+  abbrev B : (spare : ℕ) → Configuration → Configuration → Type 0
+  B = RunsBeside m s which (kept_frames m s which pieces keep) plan p
 
   abbrev A : ℕ → Configuration → Configuration → Type 0
-  A = Asked (Base m) which
+  A = WaitsBeside m s which (kept_frames m s which pieces keep) plan p
 
-  -- ---- beside the same original
+  -- ---- what came back
 
-  callers_again : (table : List (Option ℕ)) (g : ℕ) (us vs cs : List Activation) → Callers (Base m) which g us vs → AllAtNumbers m s which valid table g us → AllSameFlat k.lay vs cs → Callers (Base m) which g us cs
-  callers_again table g _ _ [] host nums same = host
-  callers_again table g _ _ (c ∷ cs) host nums same = absurd same
-  callers_again table g _ _ [] (above told is under l sp) nums same = absurd same
-  callers_again table _ _ _ (c ∷ cs) (above {g = g} {fn = fn} {f = f} {under = under} {under' = under'} {ls = ls} {extra = extra} {ops = ops} {taken = taken} {code = code} {labels = labels} {labels' = labels'} {stmts = stmts} told is us l sp) nums same =
-      let a = waiting fn ls ops taken code labels in
-      let code' = set_to (top_of (names (Base m) f) (result_count (Base m) g) (results_of (Base m) g ++ types_of ops)) (code_of stmts) in
-      let num = nums.0 in
-      let sm = same.0 in
-      let same_f : f ≡ num.func = the_func f num.func (sym is ∙ num.is) in
-      let defined : defined_at m fn ≡ Some num.func = sym (base_defined m fn) ∙ num.is in
-      let lay_is : layout_of m s which keep fn num.func ≡ lay_at m s which keep fn (defined_at m fn) = sym (ap (λ o. lay_at m s which keep fn o) defined) in
-      let kept : (y : ℕ) → IsKept y (fields_of (keep fn) (Saved (Base m) save_all num.func 0)) → value_at c.locals y ≡ value_at (ls ++ extra) y = λ y h. sm.kept_same y (subst (λ z. IsKept y z.fields) lay_is h) in
-      let held0 = subst (λ (z : Func). Locals (Base m) z ls extra (taken ++ ops)) same_f l in
-      let sp2 = split m s which keep valid keeps a table g num told extra held0 c.locals sm.size kept in
-      let held2 = held_again m s which keep valid keeps a table g num told extra held0 c.locals sm.size kept in
-      subst (λ z. Callers (Base m) which g (a ∷ under) (z ∷ cs))
-      (act_is c fn (ls ++ Rattle.flat_guards.proofs.StandingAgain.extra2 m s which keep valid keeps a table g num told extra held0 c.locals sm.size kept)
-      [] taken code' labels' sm.func sp2 sm.operands sm.taken sm.code sm.labels)
-      (above told is (callers_again table fn under under' cs us nums.1 same.1) (subst (λ (z : Func). Locals (Base m) z ls
-      (Rattle.flat_guards.proofs.StandingAgain.extra2 m s which keep valid keeps a table g num told extra held0 c.locals sm.size kept) (taken ++ ops)) (sym same_f) held2) sp)
-  callers_again table g _ _ cs (above_same told is under act) nums same = let e = (nums.0).told in let bad : true ≡ Rattle.std.proofs.Common.false = ap is_told (sym e) ∙ told in cc
+  again_at : (a v c : Activation) (table : List (Option ℕ)) (g : ℕ) → PairAt (Base m) which a v → AtNumber m s which valid table g a → SameFlat (k.lay v).layout v c → AgainAt (Base m) which a c
+  again_at a v c table g pr num sm = record {
+    func = num.func;
+    is = num.is;
+    extra = extra2 m s which keep valid keeps a table g num pr.told pr.extra held0 c.locals size kept;
+    locals = split m s which keep valid keeps a table g num pr.told pr.extra held0 c.locals size kept;
+    held = held_again m s which keep valid keeps a table g num pr.told pr.extra held0 c.locals size kept;
+  }
+    where
+      same_f : pr.func ≡ num.func
+      same_f = the_func pr.func num.func (sym pr.is ∙ num.is)
+
+      held0 : Locals (Base m) num.func a.locals pr.extra (a.taken ++ a.operands)
+      held0 = subst (λ (z : Func). Locals (Base m) z a.locals pr.extra (a.taken ++ a.operands)) same_f pr.held
+
+      size : length c.locals ≡ length (a.locals ++ pr.extra)
+      size = sm.size ∙ ap length pr.locals
+
+      defined : defined_at m a.func ≡ Some num.func
+      defined = sym (base_defined m a.func) ∙ num.is
+
+      lay_is : layout_of m s which keep a.func num.func ≡ (k.lay v).layout
+      lay_is = sym (ap (λ x. lay_at m s which keep x (defined_at m x)) pr.same_func ∙ ap (λ o. lay_at m s which keep a.func o) defined)
+
+      kept : (y : ℕ) → IsKept y (fields_of (keep a.func) (Saved (Base m) save_all num.func 0)) → value_at c.locals y ≡ value_at (a.locals ++ pr.extra) y
+      kept y h = sm.kept_same y (subst (λ z. IsKept y z.fields) lay_is h) ∙ ap (λ zs. value_at zs y) pr.locals
+
+  all_again : (table : List (Option ℕ)) (g : ℕ) (us vs cs : List Activation) → AllPairs (Base m) which us vs → AllAtNumbers m s which valid table g us → AllSameFlat k.lay vs cs → AllAgain (Base m) which us cs
+  all_again table g [] [] [] ps nums same = tt
+  all_again table g [] [] (c ∷ cs) ps nums same = absurd same
+  all_again table g [] (v ∷ vs) cs ps nums same = absurd ps
+  all_again table g (a ∷ us) [] cs ps nums same = absurd ps
+  all_again table g (a ∷ us) (v ∷ vs) [] ps nums same = absurd same
+  all_again table g (a ∷ us) (v ∷ vs) (c ∷ cs) ps nums same = (again_at a v c table g ps.0 nums.0 same.0, all_again table a.func us vs cs ps.1 nums.1 same.1)
 
   again : (top i : ℕ) (d f : Configuration) (a : Activation) (us : List Activation) → LinkedWaits k B A i d f → All (StandsNumbered m s which) (stack_of (Base m) d) → AllSameFlat k.lay (f.here ∷ f.under) (a ∷ us)
       → (us' : List Activation) → Stopped (setting (world_of k) top) i (a ∷ us) us' → AllLocalsFit p us' → FlatAgain (world_of k) (λ c d. c ≡ d) (N.L k B A) (N.W k B A) (GoodStore k) top i d f a us
   again top i d f a us l nums same us' st fit =
       let be = l.beside in
+      let v = be.between in
       let fl = flat_again m s which frames plan p valid tells em plan_fits codes top i d f a us l nums same us' st fit in
       let at = numbers_at m s which frames plan p valid tells em plan_fits codes i d f l nums in
+      let ps = pairs_at m s which frames plan p valid tells em plan_fits codes i d f l nums in
+      let told = all_told m s which frames plan p valid tells em plan_fits codes d.store.table i (d.here ∷ d.under) at in
+      let back = all_again d.store.table i (d.here ∷ d.under) (f.here ∷ f.under) (a ∷ us) ps at same in
       record {
         chosen = d;
         live = refl;
         waits = record {
-          beside = record { same_store = be.same_store; store = be.store; waits = callers_again d.store.table i (d.here ∷ d.under) (f.here ∷ f.under) (a ∷ us) be.waits at same };
+          beside = record {
+            between = record { store = v.store; here = moved v.here a.locals; under = moved_all v.under us };
+            asked = record { same_store = (be.asked).same_store; store = (be.asked).store; waits = callers_moved (Base m) which i (d.here ∷ d.under) (v.here ∷ v.under) (a ∷ us) (be.asked).waits told back };
+            outs = be.outs;
+            fits = record { store = (be.fits).store; waits = fits_moved m s which frames plan p k.lay be.outs (results_of (flat_module (Base m) which) i) l.flat_outs (results_of k.flat i) (v.here ∷ v.under) (f.here ∷ f.under) (a ∷ us) (be.slim_asked).stack same (be.fits).waits (fl.0).waits };
+            slim_asked = record { store = (be.slim_asked).store; stack = unders_moved m s which frames plan p k.lay (d.here ∷ d.under) (v.here ∷ v.under) (f.here ∷ f.under) (a ∷ us) (be.slim_asked).stack ps same };
+          };
           known = l.known;
           outs = l.outs;
           fits = l.fits;
@@ -108,7 +130,7 @@ module _ (m : Module) (s : Settings) (which : List Bool) (keep : (func local : �
       }
 
   -- STACKS STAND AS FRAMES, and come back
-  pub stacks_stand : StandsLaw (core_of m s which (kept_frames m s which keep) plan p) (Beside (Base m) which) (Asked (Base m) which) (λ c d. c ≡ d)
+  pub stacks_stand : StandsLaw (core_of m s which (kept_frames m s which pieces keep) plan p) (RunsBeside m s which (kept_frames m s which pieces keep) plan p) (WaitsBeside m s which (kept_frames m s which pieces keep) plan p) (λ c d. c ≡ d)
   stacks_stand = record {
     numbers = λ top i d f l nums. numbers m s which frames plan p valid tells em plan_fits codes top i d f l nums;
     stands = λ top i d f us' st l nums fit. stands m s which frames plan p valid tells em plan_fits codes (λ c d. c ≡ d) framed top i d f us' st l nums fit;

@@ -25,7 +25,9 @@ use Rattle.frame_laws.specs.Suspended.{AllStandFor, Lays, StandsFor}
 use Rattle.guard_form.specs.Bounds.{passing}
 use Rattle.guard_form.specs.Functions.{ArmsHold, GuardedFunc, with_guards}
 use Rattle.guard_form.specs.Numbers.{calls_behind}
-use Rattle.guard_form.specs.Pieces.{Units, call_unit, flat_units}
+use Rattle.guard_form.specs.Pieces.{Units, call_unit, first_piece, flat_units, units}
+use Rattle.slim_units.proofs.UnitsAlike.{units_alike}
+use Rattle.slim_modules.specs.SlimModule.{flat_terms}
 use Rattle.guard_form.specs.Places.{BodyPlace, Enclosing, flat_labels, in_a_block, in_a_loop}
 use Rattle.guard_form.proofs.Grouped.{arms_law}
 use Rattle.guard_frames.specs.Joined.{CallFrame, Uses, site_of, written_of}
@@ -131,7 +133,12 @@ module _ (m : Module) (s : Settings) (which : List Bool) (frames : (index : ℕ)
             address = fr.address;
             scratch = fr.scratch;
             below = none;
-            arms = arms_law (Numbered m s which num.func) 0 (flat_of m s which frames a.func num.func).body;
+            arms =
+                let ps = Numbered m s which num.func in
+                let body = (flat_of m s which frames a.func num.func).body in
+                let sp = em.slim a.func num.func num.is pr.told in
+                (units_alike (flat_terms (Base m) ps a.func num.func) 0 (sp.out ∷ []) sp.out sp.here [] (first_piece ps 0 body) (frames a.func).pieces.first (units ps 0 body) (frames a.func).pieces.units sp.slim).arms
+                (arms_law ps 0 body);
             fields = subst (FlatFieldsFit (a.locals ++ pr.extra)) (sym fr.fields) (F.fields m s which frames p valid em a a' pr table g num more fit fr.keep);
             small = omega arith;
             kept = subst (AllKept slots) (sym fr.fields) (F.kept_slots m s which frames p valid em a a' pr table g num more fit st n slots x to behind rest xs pl left fr.keep stacked);

@@ -27,18 +27,18 @@ use Rattle.flat_guards.proofs.PairedFlat.{base_defined, base_locals}
 
 -- ---- lists
 
-same_front : (xs zs : List Value) → length xs ≤ length zs → ((y : ℕ) → y < length xs → value_at zs y ≡ value_at xs y) → zs ≡ xs ++ drop (length xs) zs
+pub same_front : (xs zs : List Value) → length xs ≤ length zs → ((y : ℕ) → y < length xs → value_at zs y ≡ value_at xs y) → zs ≡ xs ++ drop (length xs) zs
 same_front [] zs le h = refl
 same_front (x ∷ xs) [] le h = absurd (omega arith)
 same_front (x ∷ xs) (z ∷ zs) le h = ap (λ w. w ∷ zs) (h 0 (omega arith)) ∙ ap (λ ws. x ∷ ws) (same_front xs zs (omega arith) (λ y lt. h (suc y) (omega arith)))
 
-there_is : (ps : List Pair) (i : ℕ) → i < length ps → (p : Pair) × (slice_get ps i ≡ Some p)
+pub there_is : (ps : List Pair) (i : ℕ) → i < length ps → (p : Pair) × (slice_get ps i ≡ Some p)
 there_is [] i lt = absurd (omega arith)
 there_is (p ∷ ps) zero lt = (p, refl)
 there_is (p ∷ ps) (suc i) lt = there_is ps i (omega arith)
 
 -- slots that are kept hold the same operands
-holds_over : (n : Names) (extra extra2 : List Value) (keep : ℕ → Bool) (ops : List Value) → Holds n extra ops → All (λ y. keep y ≡ true) (slots n (types_of ops))
+pub holds_over : (n : Names) (extra extra2 : List Value) (keep : ℕ → Bool) (ops : List Value) → Holds n extra ops → All (λ y. keep y ≡ true) (slots n (types_of ops))
     → ((k : ℕ) (p : Pair) → slice_get n.slots k ≡ Some p → keep (n.first + k) ≡ true → value_at extra2 k ≡ value_at extra k) → Holds n extra2 ops
 holds_over n extra extra2 keep [] holds ks each = tt
 holds_over n extra extra2 keep (w ∷ ops) holds ks each =

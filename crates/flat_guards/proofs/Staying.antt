@@ -9,9 +9,8 @@ use Rattle.wa_model.specs.Behaves.{StandsNumbered}
 use Rattle.wa_model.specs.Configuration.{Configuration, stack_of, suspended}
 use Rattle.wa_model.specs.Plan.{Plan}
 use Rattle.range_laws.proofs.BlockingRuns.{well_formed_in}
-use Rattle.flat_runs.specs.Beside.{Asked, Beside}
 use Rattle.flat_links.specs.Links.{StandsLaw}
-use Rattle.flat_guards.specs.CoreOf.{core_of}
+use Rattle.flat_guards.specs.CoreOf.{RunsBeside, WaitsBeside, core_of}
 use Rattle.flat_guards.specs.Emitted.{Framing}
 use Rattle.flat_guards.specs.Laws.{StayingBehave}
 use Rattle.flat_guards.proofs.Behaving.{says}
@@ -23,7 +22,7 @@ module _ (m : Module) (s : Settings) (which : List Bool) (frames : (index : ℕ)
       let bad : true ≡ false = ap is_told (sym told) ∙ stay d.here.func in
       cc
 
-  pub none_stand : StandsLaw (core_of m s which frames plan p) (Beside (Base m) which) (Asked (Base m) which) (λ c d. c ≡ d)
+  pub none_stand : StandsLaw (core_of m s which frames plan p) (RunsBeside m s which frames plan p) (WaitsBeside m s which frames plan p) (λ c d. c ≡ d)
   none_stand = record {
     numbers = λ top i d f l nums. absurd (never d nums);
     stands = λ top i d f us' st l nums fit. absurd (never d nums);

@@ -19,7 +19,6 @@ use Rattle.wa_model.specs.Plan as P
 use Rattle.wa_model.proofs.FittingNames.{defined_type}
 use Rattle.wa_model.proofs.GrownSteps.{defined_below}
 use Rattle.range_laws.specs.Ranges.{CodesIn}
-use Rattle.flat_runs.specs.Beside.{Asked, Beside}
 use Rattle.guard_frames.specs.Joined.{CallFrame}
 use Rattle.guard_frames.specs.Returned.{AllSameFlat}
 use Rattle.guard_runs.specs.Alike.{Paired, Setting, sides_of}
@@ -31,10 +30,12 @@ use Rattle.headline_laws.specs.World.{setting}
 use Rattle.flat_links.specs.Core.{Core, CoreFits, world_of}
 use Rattle.flat_links.specs.Links.{GoodStore, LinkedWaits}
 use Rattle.flat_links.specs.Links as N
-use Rattle.flat_links.proofs.Spaces.{funcs_are, grown_defined, grown_func_type, names_there}
-use Rattle.flat_guards.specs.CoreOf.{core_of}
+use Rattle.flat_links.proofs.Spaces.{imports_few, funcs_are, grown_defined, grown_func_type, names_there}
+use Rattle.guard_runs.specs.Stopped.{AllNumbered}
+use Rattle.flat_guards.proofs.SlimStacks.{numbered_too, pairs_too}
+use Rattle.flat_guards.specs.CoreOf.{RunsBeside, WaitsBeside, core_of}
 use Rattle.flat_guards.specs.Emitted.{Emitted, Framing}
-use Rattle.flat_guards.proofs.NumberedStacks.{AllAtNumbers, at_numbers}
+use Rattle.flat_guards.proofs.NumberedStacks.{AllAtNumbers, at_numbers, stack_numbered}
 use Rattle.flat_guards.proofs.PairedFlat.{core_fits, paired}
 use Rattle.flat_guards.proofs.PairedStacks.{AllPairs, AllTold, pairs}
 use Rattle.flat_guards.proofs.Standing.{stands_so}
@@ -141,11 +142,11 @@ module _ (m : Module) (s : Settings) (which : List Bool) (frames : (index : ℕ)
 
   -- ---- at numbered calls
 
-  abbrev B : Configuration → Configuration → Type 0
-  B = Beside (Base m) which
+  abbrev B : (spare : ℕ) → Configuration → Configuration → Type 0
+  B = RunsBeside m s which frames plan p
 
   abbrev A : ℕ → Configuration → Configuration → Type 0
-  A = Asked (Base m) which
+  A = WaitsBeside m s which frames plan p
 
   pub all_told : (table : List (Option ℕ)) (g : ℕ) (us : List Activation) → AllAtNumbers m s which valid table g us → AllTold (Base m) which us
   all_told table g [] h = tt
@@ -156,7 +157,22 @@ module _ (m : Module) (s : Settings) (which : List Bool) (frames : (index : ℕ)
   numbers_at i d f l nums = at_numbers m s which valid d.store.table l.root i (d.here ∷ d.under) l.spots.waits l.stands.stack nums
 
   pub pairs_at : (i : ℕ) (d f : Configuration) → (l : LinkedWaits k B A i d f) → All (StandsNumbered m s which) (stack_of (Base m) d) → AllPairs (Base m) which (d.here ∷ d.under) (f.here ∷ f.under)
-  pairs_at i d f l nums = pairs (Base m) which i (d.here ∷ d.under) (f.here ∷ f.under) l.beside.waits (all_told d.store.table i (d.here ∷ d.under) (numbers_at i d f l nums))
+  pairs_at i d f l nums =
+      let be = l.beside in
+      let v = be.between in
+      let at = numbers_at i d f l nums in
+      pairs_too m s which frames plan p valid d.store.table i (d.here ∷ d.under) (v.here ∷ v.under) (f.here ∷ f.under) at
+      (pairs (Base m) which i (d.here ∷ d.under) (v.here ∷ v.under) (be.asked).waits (all_told d.store.table i (d.here ∷ d.under) at)) (be.slim_asked).stack
+
+  -- whatever its activations called has a number
+  pub numbers : (top i : ℕ) (d f : Configuration) → (l : LinkedWaits k B A i d f) → All (StandsNumbered m s which) (stack_of (Base m) d) → AllNumbered (setting (world_of k) top) i (f.here ∷ f.under)
+  numbers top i d f l nums =
+      let be = l.beside in
+      let v = be.between in
+      let few = imports_few k fits in
+      let kn = l.known in
+      numbered_too m s which frames plan p valid (setting (world_of k) top) i (v.here ∷ v.under) (f.here ∷ f.under) (be.slim_asked).stack
+      (stack_numbered m s which frames plan p valid tells em plan_fits codes top d.store.table i (d.here ∷ d.under) (v.here ∷ v.under) (omega arith) (be.asked).waits (numbers_at i d f l nums))
 
   -- a flat stack that came back fits its module again, and names what is there
   pub flat_again : (top i : ℕ) (d f : Configuration) (a : Activation) (us : List Activation) → (l : LinkedWaits k B A i d f) → All (StandsNumbered m s which) (stack_of (Base m) d)

@@ -1,5 +1,5 @@
 -- The written module of one whose functions may pause: each function that may pause is its flat function with guards and frames,
--- every other one stays, and the runtime's parts stand behind. How frames are written is given for each function.
+-- every other one stays, and the runtime's parts stand behind. How pieces and frames are written is given for each function.
 use Rattle.std.specs.Prelude.{◌≡◌, ℕ, suc, ◌+◌, ◌^◌, ◌<◌, ◌++◌, List, [], ◌∷◌, length, map, drop, Option, Some, None, Bool, true, false, All, Contains, slice_get, if◌then◌else◌}
 use Rattle.wa_types.specs.Base.{Base}
 use Rattle.wa_types.specs.Frames.{Place, Saved}
@@ -13,16 +13,24 @@ use Rattle.wa_types.specs.declared.values.ValType.TheVariants.{I32, I64}
 use Rattle.wa_model.specs.Flat.{FlatFunc}
 use Rattle.flat_laws.specs.FlatModule.{flat_func}
 use Rattle.flat_laws.specs.Flatten.{flattened, names, slots}
+use Rattle.slim_modules.specs.SlimModule.{AllSlimPieces, Pieces, module_terms, plain_pieces, slim_module}
+use Rattle.slim_form.specs.Slim.{Terms}
 use Rattle.frame_laws.specs.Layout.{FrameField, kept, gap, Layout, save_code, restore_code}
 use Rattle.guard_form.specs.Functions.{GuardedFunc, Role, as_is, with_guards, written_code}
-use Rattle.guard_form.specs.Pieces.{first_piece, units}
+use Rattle.guard_form.specs.Pieces.{no_unit}
 use Rattle.guard_frames.specs.Joined.{CallFrame, one_frame}
 
--- How the frames of a function are written: the codes that restore and that save them, and the frame of the call at each place.
+-- How a function is written: its pieces between its units, the codes that restore and that save its frames, and the frame of the call at
+-- each place.
 pub record Framing : Type 0 where
+  pub pieces : Pieces
   pub restoring : Code
   pub saving : Code
   pub frame_at : (place : ℕ) → CallFrame
+
+-- the places of a function's numbered calls
+abbrev pub places_in : Module → Settings → (which : List Bool) → (index : ℕ) → Func → List ℕ
+places_in m s which x f = Numbered m s which f
 
 module _ (m : Module) (s : Settings) (which : List Bool) (frames : (index : ℕ) → Framing) where
   -- the flat function of this index
@@ -36,9 +44,20 @@ module _ (m : Module) (s : Settings) (which : List Bool) (frames : (index : ℕ)
     restoring = (frames x).restoring;
     saving = (frames x).saving;
     result = (flat_of x f).result;
-    first = first_piece (Numbered m s which f) 0 (flat_of x f).body;
-    body = units (Numbered m s which f) 0 (flat_of x f).body;
+    first = (frames x).pieces.first;
+    body = (frames x).pieces.units;
   }
+
+  -- the pieces of each function
+  abbrev pub pieces_in : (index : ℕ) → Pieces
+  pieces_in x = (frames x).pieces
+
+  -- the flat module with these pieces, and the terms of its code
+  abbrev pub slim_of : Module
+  slim_of = slim_module (Base m) which (places_in m s which) pieces_in
+
+  abbrev pub terms_of : (index : ℕ) → Terms
+  terms_of = module_terms (Base m) which (places_in m s which) pieces_in
 
   -- the function of an index: guarded where it is told, else as it is
   abbrev pub role_at : Bool → ℕ → Option Func → Role
@@ -76,6 +95,8 @@ module _ (m : Module) (s : Settings) (which : List Bool) (frames : (index : ℕ)
     pub runtime : drop (length m.funcs) p.funcs ≡ drop (length m.funcs) (with_runtime m).funcs
     pub sorts : map (λ (f : Func). f.sort) p.funcs ≡ map (λ (f : Func). f.sort) (with_runtime m).funcs
     pub written : (j : ℕ) (f g : Func) → slice_get m.funcs j ≡ Some f → slice_get p.funcs j ≡ Some g → WrittenAs (is_told (slice_get which (func_imports m + j))) (func_imports m + j) f g
+    -- pieces are those of the flat function, or slim
+    pub slim : AllSlimPieces (Base m) which (places_in m s which) pieces_in
     -- numbers are written as an i32
     pub few : (x : ℕ) (f : Func) → defined_at m x ≡ Some f → is_told (slice_get which x) ≡ true → length (Numbered m s which f) < 2 ^ 32
 
@@ -87,8 +108,8 @@ fields_of keep [] = []
 fields_of keep (p ∷ ps) = (if keep p.local then kept p.local p.ty else gap p.ty) ∷ fields_of keep ps
 
 -- one layout for all calls
-abbrev pub one_framing : Layout → Framing
-one_framing l = record { restoring = restore_code l done; saving = save_code l done; frame_at = λ place. one_frame l }
+abbrev pub one_framing : Pieces → Layout → Framing
+one_framing pieces l = record { pieces = pieces; restoring = restore_code l done; saving = save_code l done; frame_at = λ place. one_frame l }
 
 -- Frames for the policy that saves all, where each function keeps these of its saved locals.
 module _ (m : Module) (s : Settings) (which : List Bool) (keep : (func local : ℕ) → Bool) where
@@ -105,9 +126,6 @@ module _ (m : Module) (s : Settings) (which : List Bool) (keep : (func local : �
   lay_at x None = record { address = 0; index = 0; scratch = 0; fields = [] }
   lay_at x (Some f) = layout_of x f
 
-  abbrev pub kept_frames : (index : ℕ) → Framing
-  kept_frames x = one_framing (lay_at x (defined_at m x))
-
   -- They keep each parameter and declared local, and each slot of an operand that stands at a numbered call.
   pub record KeepsEnough (x : ℕ) (f : Func) : Type 0 where
     pub own : (y : ℕ) → y < length (locals_of m f) → keep x y ≡ true
@@ -116,3 +134,16 @@ module _ (m : Module) (s : Settings) (which : List Bool) (keep : (func local : �
 
   abbrev pub AllKeepEnough : Type 0
   AllKeepEnough = (x : ℕ) (f : Func) → defined_at m x ≡ Some f → is_told (slice_get which x) ≡ true → KeepsEnough x f
+
+-- with these pieces
+abbrev pub kept_frames : (m : Module) (s : Settings) (which : List Bool) (pieces : (index : ℕ) → Pieces) (keep : (func local : ℕ) → Bool) → (index : ℕ) → Framing
+kept_frames m s which pieces keep x = one_framing (pieces x) (lay_at m s which keep x (defined_at m x))
+
+-- ---- pieces as flattening gives them
+
+abbrev pub plain_where : Module → Settings → (which : List Bool) → (index : ℕ) → Option Func → Pieces
+plain_where m s which x None = record { first = done; units = no_unit }
+plain_where m s which x (Some f) = plain_pieces (Numbered m s which f) (flattened (Base m) x f)
+
+abbrev pub plain_at : Module → Settings → (which : List Bool) → (index : ℕ) → Pieces
+plain_at m s which x = plain_where m s which x (defined_at m x)

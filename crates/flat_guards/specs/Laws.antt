@@ -8,6 +8,7 @@ use Rattle.wa_model.specs.Behaves.{Behaves, BehavesOn, Compared, PausesNumbered,
 use Rattle.wa_model.specs.Blocking.{Blocking}
 use Rattle.wa_model.specs.Plan.{Outcome, Plan}
 use Rattle.range_laws.specs.Ranges.{CodesIn}
+use Rattle.slim_modules.specs.SlimModule.{Pieces}
 use Rattle.flat_guards.specs.Emitted.{AllKeepEnough, Emitted, Framing, kept_frames}
 
 -- A module with the runtime's parts whose functions all stay behaves like its original, on runs whose pauses find numbered calls
@@ -18,8 +19,8 @@ StayingBehave =
     → ((x : ℕ) → is_told (slice_get which x) ≡ false) → Emitted m s which frames p → (plan : Plan) (os : List Outcome) (n : ℕ)
     → Compared m s plan os n → PausesNumbered m s which (Blocking m plan os n).events → BehavesOn m s p plan os n which (expected_notes m s plan os n)
 
--- For the policy that saves all: a valid emitted module behaves like its original, pauses included.
+-- For the policy that saves all: a valid emitted module behaves like its original, pauses included, whatever slim pieces it has.
 abbrev pub EmittedBehaves : Type 0
 EmittedBehaves =
-    (m : Module) (s : Settings) (which : List Bool) (keep : (func local : ℕ) → Bool) (p : Module) → Valid m → Valid p → CodesIn p → s.policy ≡ save_all → TellsMayPause m s which
-    → Emitted m s which (kept_frames m s which keep) p → AllKeepEnough m s which keep → Behaves m s p
+    (m : Module) (s : Settings) (which : List Bool) (pieces : (index : ℕ) → Pieces) (keep : (func local : ℕ) → Bool) (p : Module) → Valid m → Valid p → CodesIn p → s.policy ≡ save_all
+    → TellsMayPause m s which → Emitted m s which (kept_frames m s which pieces keep) p → AllKeepEnough m s which keep → Behaves m s p

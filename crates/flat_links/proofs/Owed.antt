@@ -39,8 +39,8 @@ use Rattle.flat_links.specs.Links.{GoodStore, L, Linked, LinkedWaits, StandsLaw,
 use Rattle.flat_links.proofs.Spaces.{based_valid, funcs_are, func_type_same, grown_defined, grown_func_type, imports_few, names_there, results_same, steps_same, globals_same, sorts_same}
 use Rattle.flat_links.proofs.ProperFlat.{FlatOk, ok_on, proper_here, quiet_keeps, quiet_ok, still_of}
 
-module _ (k : Core) (fit : CoreFits k) (Live B : Configuration → Configuration → Type 0) (A : ℕ → Configuration → Configuration → Type 0) (law : BesideLaw (based k) k.flat B A) where
-  abbrev LL : ℕ → Configuration → Configuration → Type 0
+module _ (k : Core) (fit : CoreFits k) (Live : Configuration → Configuration → Type 0) (B : (spare : ℕ) → Configuration → Configuration → Type 0) (A : ℕ → Configuration → Configuration → Type 0) (law : BesideLaw (based k) k.flat B A) where
+  abbrev LL : (top spare : ℕ) → Configuration → Configuration → Type 0
   LL = L k B A
 
   abbrev WW : (top i : ℕ) → Configuration → Configuration → Type 0
@@ -53,25 +53,25 @@ module _ (k : Core) (fit : CoreFits k) (Live B : Configuration → Configuration
     table = subst (λ ss. Rattle.wa_model.specs.Growth.Each (Rattle.wa_model.specs.Growth.EntryNamed (length ss)) s.table) (sym (sorts_same k fit)) h.table;
   }
 
-  ok_of : (c f : Configuration) → (l : Linked k B A c f) → FlatOk k fit 0 l.flat_outs f
-  ok_of c f l = record { fits = l.flat_fits; named = l.named }
+  ok_of : (spare : ℕ) (c f : Configuration) → (l : Linked k B A spare c f) → FlatOk k fit 0 l.flat_outs f
+  ok_of spare c f l = record { fits = l.flat_fits; named = l.named }
 
   -- ---- one reduction
 
-  module _ (top : ℕ) (c f : Configuration) (l : Linked k B A c f) (off : StaysOff k.plan.area (length c.store.memory) (next_access c)) where
+  module _ (top spare : ℕ) (c f : Configuration) (l : Linked k B A spare c f) (off : StaysOff k.plan.area (length c.store.memory) (next_access c)) where
     abbrev ok : FlatOk k fit top l.flat_outs f
     ok = record { fits = l.flat_fits; named = l.named }
 
     -- where the flat side acts it is proper
     acts_properly : (mid : Configuration) → FlatOk k fit top l.flat_outs mid → mid.store ≡ f.store → SameAccess c mid → StaysOff k.plan.area (length mid.store.memory) (next_access mid)
     acts_properly mid mid_ok keep access =
-        let st : c.store ≡ mid.store = sym (keep ∙ law.store c f l.beside) in
+        let st : c.store ≡ mid.store = sym (keep ∙ law.store spare c f l.beside) in
         ⊎_elim
         (λ none. subst (StaysOff k.plan.area (length mid.store.memory)) (sym none) tt)
         (λ same. subst (StaysOff k.plan.area (length mid.store.memory)) (sym same) (subst (λ (s : Store). StaysOff k.plan.area (length s.memory) (next_access c)) st off))
         access
 
-    by_next : (o : Next) → NextBeside (based k) k.flat B A c f o → NextFits (based k) l.outs o → NextIn 0 o → NextAtSpots (based k) o → NextAt (based k) c.store.table l.root o → FlatNext (world_of k) Live LL WW (GoodStore k) top o f
+    by_next : (o : Next) → NextBeside (based k) k.flat B A spare c f o → NextFits (based k) l.outs o → NextIn 0 o → NextAtSpots (based k) o → NextAt (based k) c.store.table l.root o → FlatNext (world_of k) Live LL WW (GoodStore k) top spare o f
     by_next (steps j0 d) sb nf ni ns na =
         let ok1 = quiet_ok k fit top l.flat_outs f sb.mid sb.n1 ok sb.before in
         let keep = quiet_keeps k fit top f sb.mid sb.n1 sb.before in
@@ -90,6 +90,7 @@ module _ (k : Core) (fit : CoreFits k) (Live B : Configuration → Configuration
           to = sb.to;
           behind = still_of k fit top l.flat_outs sb.after sb.to sb.n2 ok2 sb.behind;
           least = sb.least;
+          left = sb.left;
           most = sb.most;
           link = record { beside = sb.both; outs = l.outs; fits = nf; flat_outs = l.flat_outs; flat_fits = ok3.fits; named = ok3.named; ranges = ni; spots = ns; root = l.root; stands = subst (λ t. ConfigurationAt (based k) t l.root d) (sym na.same) na };
         }
@@ -141,8 +142,8 @@ module _ (k : Core) (fit : CoreFits k) (Live B : Configuration → Configuration
         }
     by_next stuck nb nf ni ns na = nf
 
-    reduces : FlatNext (world_of k) Live LL WW (GoodStore k) top (step (based k) c) f
-    reduces = by_next (step (based k) c) (law.reduces c f l.beside) (steps_fit (based k) l.outs c (based_valid k fit) l.fits) (step_in 0 (based k) fit.codes c l.ranges)
+    reduces : FlatNext (world_of k) Live LL WW (GoodStore k) top spare (step (based k) c) f
+    reduces = by_next (step (based k) c) (law.reduces spare c f l.beside) (steps_fit (based k) l.outs c (based_valid k fit) l.fits) (step_in 0 (based k) fit.codes c l.ranges)
         (steps_spot (based k) c (based_valid k fit) l.spots) (step_stands (based k) c.store.table l.root c l.stands)
 
   -- ---- an answer, and a call of the host
@@ -155,6 +156,7 @@ module _ (k : Core) (fit : CoreFits k) (Live B : Configuration → Configuration
       let ok2 = quiet_ok k fit top flat_outs f cb.to cb.n ok cb.goes in
       record {
         n = cb.n;
+        left = cb.left;
         few = cb.few;
         to = cb.to;
         goes = still_of k fit top flat_outs f cb.to cb.n ok cb.goes;
@@ -251,13 +253,13 @@ module _ (k : Core) (fit : CoreFits k) (Live B : Configuration → Configuration
     -- ALL THAT FLATTENING OWES
     pub flat_law : StandsLaw k B A Live → FlatLaw (world_of k) Live LL WW (GoodStore k)
     flat_law st = record {
-      store = λ top c f l. law.store c f l.beside;
-      good = λ top c f l. record { fits = l.fits.store; named = subst (λ s. StoreNamed (spaces_of k.flat) s) (law.store c f l.beside) l.named.store; ranges = l.ranges.store };
+      store = λ top spare c f l. law.store spare c f l.beside;
+      good = λ top spare c f l. record { fits = l.fits.store; named = subst (λ s. StoreNamed (spaces_of k.flat) s) (law.store spare c f l.beside) l.named.store; ranges = l.ranges.store };
       waits_store = λ top i d f l. law.waits_store i d f l.beside;
       waits_good = λ top i d f l. record { fits = l.fits.store; named = subst (λ s. StoreNamed (spaces_of k.flat) s) (law.waits_store i d f l.beside) l.named.store; ranges = l.ranges.store };
       waits_known = λ top i d f l. (l.known, let z = l.known in let few = imports_few k fit in omega arith);
       small = memory_small;
-      reduces = λ top c f l off. reduces top c f l off;
+      reduces = λ top spare c f l off. reduces top spare c f l off;
       answered = answered;
       enters = enters;
       poked_good = good_poked;

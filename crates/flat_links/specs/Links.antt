@@ -23,10 +23,10 @@ pub record GoodStore (k : Core) (s : Store) : Type 0 where
   pub named : StoreNamed (spaces_of k.flat) s
   pub ranges : StoreIn 0 s
 
-module _ (k : Core) (B : Configuration → Configuration → Type 0) (A : ℕ → Configuration → Configuration → Type 0) where
-  -- both run
-  pub record Linked (c f : Configuration) : Type 0 where
-    pub beside : B c f
+module _ (k : Core) (B : (spare : ℕ) → Configuration → Configuration → Type 0) (A : ℕ → Configuration → Configuration → Type 0) where
+  -- both run, with so much to spare
+  pub record Linked (spare : ℕ) (c f : Configuration) : Type 0 where
+    pub beside : B spare c f
     pub outs : List ValType
     pub fits : Fits (based k) outs c
     pub flat_outs : List ValType
@@ -51,8 +51,8 @@ module _ (k : Core) (B : Configuration → Configuration → Type 0) (A : ℕ �
     pub root : ℕ
     pub stands : WaitingAt (based k) d.store.table root i d
 
-  abbrev pub L : ℕ → Configuration → Configuration → Type 0
-  L top c f = Linked c f
+  abbrev pub L : (top spare : ℕ) → Configuration → Configuration → Type 0
+  L top spare c f = Linked spare c f
 
   abbrev pub W : (top i : ℕ) → Configuration → Configuration → Type 0
   W top i d f = LinkedWaits i d f

@@ -10,7 +10,7 @@ use Rattle.wa_types.specs.Typing.{Around, gets, sets, gets_global, jump, may_jum
 use Rattle.wa_model.specs.Flat.{followed_by, got, set_to, slots_got, result_got}
 use Rattle.guard_form.specs.Guarded.{raise, raised_plain, raised, GuardIndices, by_state, index_with, guarded, noted, choice, arm, front}
 use Rattle.guard_form.specs.Pieces.{Units, no_unit, call_unit, nest_unit, if_unit, numbers_in, call_to}
-use Rattle.guard_form.specs.Typed.{UnitsTyped, an_i32, FrontTyped, BodyTyped}
+use Rattle.guard_form.specs.Typed.{UnitsTyped, UnitsTypedFrom, an_i32, FrontTyped, FrontTypedFrom, BodyTyped, BodyTypedFrom}
 use Rattle.guard_form.proofs.PieceTypes.{types_then}
 use Rattle.guard_form.proofs.CodeLemmas.{raise_out, raise_in, raise_on}
 
@@ -75,8 +75,8 @@ module _ (c : Around) where
       (h.0, h.1, types_raised (r ∷ inner) more ls a (listed r) [] h.2, types_raised (r ∷ inner) more ls b (listed r) [] h.3, types_raised inner more ls rest outs (listed r ++ h.0) h.4)
 
   -- a piece below one label more, and below two
-  below_one : (ls : Labels) (code : Code) → Types c ls code [] [] → Types c (None ∷ ls) (raised 0 1 code) [] []
-  below_one ls code h = types_raised [] (None ∷ []) ls code [] [] h
+  below_one : (ls : Labels) (code : Code) (ins : List ValType) → Types c ls code [] ins → Types c (None ∷ ls) (raised 0 1 code) [] ins
+  below_one ls code ins h = types_raised [] (None ∷ []) ls code [] ins h
 
   below_two : (ls : Labels) (code : Code) → Types c ls code [] [] → Types c (None ∷ None ∷ ls) (raised 0 2 code) [] []
   below_two ls code h = types_raised [] (None ∷ None ∷ []) ls code [] [] h
@@ -99,9 +99,9 @@ module _ (c : Around) where
     guards : (ls : Labels) (first next : Code) → Types c ls first [] [] → Types c ls next [] [] → Types c ls (guarded i first next) [] []
     unfolding Types
     guards ls done next h g = g
-    guards ls (plain p r) next h g = tests ls done (raised 0 1 (plain p r)) next [] refl (below_one ls (plain p r) h) g
-    guards ls (nest s t b r) next h g = tests ls done (raised 0 1 (nest s t b r)) next [] refl (below_one ls (nest s t b r) h) g
-    guards ls (branch t a b r) next h g = tests ls done (raised 0 1 (branch t a b r)) next [] refl (below_one ls (branch t a b r) h) g
+    guards ls (plain p r) next h g = tests ls done (raised 0 1 (plain p r)) next [] refl (below_one ls (plain p r) [] h) g
+    guards ls (nest s t b r) next h g = tests ls done (raised 0 1 (nest s t b r)) next [] refl (below_one ls (nest s t b r) [] h) g
+    guards ls (branch t a b r) next h g = tests ls done (raised 0 1 (branch t a b r)) next [] refl (below_one ls (branch t a b r) [] h) g
 
     -- the index against a constant, and out of a call's block
     leaves_block : (ls : Labels) (k : ℕ) → Types c (None ∷ None ∷ ls) (index_with i (basic (num I32Ne)) k (plain (br_if 1) done)) [] []
@@ -131,31 +131,31 @@ module _ (c : Around) where
     chooses ls k (if_unit _ _ _ _ _ _ _) (if_unit _ _ _ _ _ _ _) = (I32 ∷ [], gets_index ls [], (I32 ∷ I32 ∷ [], (I32 ∷ [], refl, refl), (I32 ∷ [], ([], refl, refl), refl)))
 
     -- arguments under other labels, before other code
-    slots_too : (ls ls2 : Labels) (xs : List ℕ) (a b : Code) (outs ins : List ValType) → ((mids : List ValType) → Types c ls a outs mids → Types c ls2 b outs mids)
-        → Types c ls (slots_got xs a) outs ins → Types c ls2 (slots_got xs b) outs ins
+    slots_too : (ls ls2 : Labels) (xs : List ℕ) (a b : Code) (outs outs2 ins : List ValType) → ((mids : List ValType) → Types c ls a outs mids → Types c ls2 b outs2 mids)
+        → Types c ls (slots_got xs a) outs ins → Types c ls2 (slots_got xs b) outs2 ins
     unfolding Types
-    slots_too ls ls2 [] a b outs ins go h = go ins h
-    slots_too ls ls2 (x ∷ xs) a b outs ins go h = (h.0, h.1, slots_too ls ls2 xs a b outs h.0 go h.2)
+    slots_too ls ls2 [] a b outs outs2 ins go h = go ins h
+    slots_too ls ls2 (x ∷ xs) a b outs outs2 ins go h = (h.0, h.1, slots_too ls ls2 xs a b outs outs2 h.0 go h.2)
 
     call_sig : (ls ls2 : Labels) (x : Callee) → sig c ls (call_to x) ≡ sig c ls2 (call_to x)
     call_sig ls ls2 (direct y) = refl
     call_sig ls ls2 (indirect t) = refl
 
     -- behind a call: with the call's result below, the state may leave the function's block
-    results_too : (ls : Labels) (to : Option ℕ) (behind : Code) (mids : List ValType) → Types c ls (set_to to done) [] mids → Types c (None ∷ ls) behind [] []
+    results_too : (ls : Labels) (to : Option ℕ) (behind : Code) (outs mids : List ValType) → Types c ls (set_to to done) outs mids → Types c (None ∷ ls) behind [] outs
         → Types c (None ∷ ls) (set_to to behind) [] mids
     unfolding Types
-    results_too ls None behind mids h g = subst (λ ms. Types c (None ∷ ls) behind [] ms) (sym h) g
-    results_too ls (Some x) behind mids h g = (h.0, h.1, subst (λ ms. Types c (None ∷ ls) behind [] ms) (sym h.2) g)
+    results_too ls None behind outs mids h g = subst (λ ms. Types c (None ∷ ls) behind [] ms) (sym h) g
+    results_too ls (Some x) behind outs mids h g = (h.0, h.1, subst (λ ms. Types c (None ∷ ls) behind [] ms) (sym h.2) g)
 
     may_leave : (ls : Labels) (d : ℕ) (ins : List ValType) → slice_get ls d ≡ Some None → Takes (sig c (None ∷ ls) (br_if (suc d))) (I32 ∷ ins) ins
     may_leave ls d ins e = subst (λ o. Takes (may_jump o) (I32 ∷ ins) ins) (sym e) (ins, refl, refl)
 
-    calls_too : (ls : Labels) (d k : ℕ) (x : Callee) (to : Option ℕ) (behind : Code) (mids : List ValType) → slice_get ls d ≡ Some None → Types c ls behind [] []
-        → Types c ls (plain (call_to x) (set_to to done)) [] mids
+    calls_too : (ls : Labels) (d k : ℕ) (x : Callee) (to : Option ℕ) (behind : Code) (outs mids : List ValType) → slice_get ls d ≡ Some None → Types c ls behind [] outs
+        → Types c ls (plain (call_to x) (set_to to done)) outs mids
         → Types c (None ∷ ls) (plain (call_to x) (noted i d k (set_to to (raised 0 1 behind)))) [] mids
     unfolding Types
-    calls_too ls d k x to behind mids e hb h =
+    calls_too ls d k x to behind outs mids e hb h =
         let ms = h.0 in (
           ms,
           subst (λ g. Takes g mids ms) (call_sig ls (None ∷ ls) x) h.1,
@@ -168,25 +168,25 @@ module _ (c : Around) where
               (
                 I32 ∷ ms,
                 gets_state (None ∷ ls) ms,
-                (ms, may_leave ls d ms e, results_too ls to (raised 0 1 behind) ms h.2 (below_one ls behind hb)),
+                (ms, may_leave ls d ms e, results_too ls to (raised 0 1 behind) outs ms h.2 (below_one ls behind outs hb)),
               ),
             ),
           ),
         )
 
-    first_typed : (ls : Labels) (first : Code) (us : Units) → UnitsTyped c ls first us → Types c ls first [] []
-    first_typed ls first no_unit h = h
-    first_typed ls first (call_unit slots x to behind rest) h = h.0
-    first_typed ls first (nest_unit s inner body behind rest) h = h.0
-    first_typed ls first (if_unit o fa a fb b behind rest) h = h.0
+    first_typed : (ls : Labels) (ins : List ValType) (first : Code) (us : Units) → UnitsTypedFrom c ls ins first us → Types c ls first [] ins
+    first_typed ls ins first no_unit h = h
+    first_typed ls ins first (call_unit slots x to behind rest) h = h.1
+    first_typed ls ins first (nest_unit s inner body behind rest) h = h.0
+    first_typed ls ins first (if_unit o fa a fb b behind rest) h = h.0
 
     -- with the piece in front passed
-    done_typed : (ls : Labels) (first : Code) (us : Units) → UnitsTyped c ls first us → UnitsTyped c ls done us
+    done_typed : (ls : Labels) (ins : List ValType) (first : Code) (us : Units) → UnitsTypedFrom c ls ins first us → UnitsTypedFrom c ls [] done us
     unfolding Types
-    done_typed ls first no_unit h = refl
-    done_typed ls first (call_unit slots x to behind rest) h = (refl, h.1, h.2)
-    done_typed ls first (nest_unit s inner body behind rest) h = (refl, h.1, h.2)
-    done_typed ls first (if_unit o fa a fb b behind rest) h = (refl, h.1, h.2, h.3, h.4)
+    done_typed ls ins first no_unit h = refl
+    done_typed ls ins first (call_unit slots x to behind rest) h = (h.0, refl, h.2, h.3)
+    done_typed ls ins first (nest_unit s inner body behind rest) h = (refl, h.1, h.2)
+    done_typed ls ins first (if_unit o fa a fb b behind rest) h = (refl, h.1, h.2, h.3, h.4)
 
     arm_typed : (ls : Labels) (us : Units) (first code : Code) → Types c ls first [] [] → Types c ls code [] [] → Types c ls (arm us first code) [] []
     arm_typed ls no_unit first code h g = h
@@ -194,15 +194,15 @@ module _ (c : Around) where
     arm_typed ls (nest_unit _ _ _ _ _) first code h g = g
     arm_typed ls (if_unit _ _ _ _ _ _ _) first code h g = g
 
-    front_typed : (ls : Labels) (d k : ℕ) (us : Units) (first : Code) → slice_get ls d ≡ Some None → UnitsTyped c ls first us → Types c ls (front i d k first us) [] []
+    front_typed : (ls : Labels) (d k : ℕ) (us : Units) (first : Code) → slice_get ls d ≡ Some None → UnitsTypedFrom c ls [] first us → Types c ls (front i d k first us) [] []
     unfolding Types
     front_typed ls d k no_unit first e h = guards ls first done h refl
     front_typed ls d k (call_unit slots x to behind rest) first e h =
-        let hb = first_typed ls behind rest h.2 in (
-          tests (None ∷ ls) (index_with i (basic (num I32Ne)) k (plain (br_if 1) done)) (raised 0 2 first) _ [] (leaves_block ls k) (below_two ls first h.0)
-              (slots_too ls (None ∷ ls) slots (plain (call_to x) (set_to to done)) (plain (call_to x) (noted i d k (set_to to (raised 0 1 behind)))) [] []
-              (λ mids t. calls_too ls d k x to behind mids e hb t) h.1),
-          front_typed ls d (suc k) rest done e (done_typed ls behind rest h.2),
+        let hb = first_typed ls h.0 behind rest h.3 in (
+          tests (None ∷ ls) (index_with i (basic (num I32Ne)) k (plain (br_if 1) done)) (raised 0 2 first) _ [] (leaves_block ls k) (below_two ls first h.1)
+              (slots_too ls (None ∷ ls) slots (plain (call_to x) (set_to to done)) (plain (call_to x) (noted i d k (set_to to (raised 0 1 behind)))) h.0 [] []
+              (λ mids t. calls_too ls d k x to behind h.0 mids e hb t) h.2),
+          front_typed ls d (suc k) rest done e (done_typed ls h.0 behind rest h.3),
         )
     front_typed ls d k (nest_unit a_block inner body behind rest) first e h =
         guards ls first (nest a_block None (front i (suc d) k inner body) (front i d (k + numbers_in body) behind rest)) h.0
@@ -211,17 +211,30 @@ module _ (c : Around) where
         guards ls first (nest a_loop None (front i (suc d) k inner body) (front i d (k + numbers_in body) behind rest)) h.0
         (front_typed (None ∷ ls) (suc d) k body inner e h.1, front_typed ls d (k + numbers_in body) rest behind e h.2)
     front_typed ls d k (if_unit o fa a fb b behind rest) first e h =
-        let ta = arm_typed (None ∷ ls) a fa (front i (suc d) k fa a) (first_typed (None ∷ ls) fa a h.2) (front_typed (None ∷ ls) (suc d) k a fa e h.2) in
-        let tb = arm_typed (None ∷ ls) b fb (front i (suc d) (k + numbers_in a) fb b) (first_typed (None ∷ ls) fb b h.3) (front_typed (None ∷ ls) (suc d) (k + numbers_in a) b fb e h.3) in
+        let ta = arm_typed (None ∷ ls) a fa (front i (suc d) k fa a) (first_typed (None ∷ ls) [] fa a h.2) (front_typed (None ∷ ls) (suc d) k a fa e h.2) in
+        let tb = arm_typed (None ∷ ls) b fb (front i (suc d) (k + numbers_in a) fb b) (first_typed (None ∷ ls) [] fb b h.3) (front_typed (None ∷ ls) (suc d) (k + numbers_in a) b fb e h.3) in
         let condition = types_then c ls first (got o done) (I32 ∷ []) [] [] h.0 h.1 in
         let raised_too = types_raised [] (Some I32 ∷ []) ls (followed_by first (got o done)) (I32 ∷ []) [] condition in
         (I32 ∷ [], gets_state ls [], ([], refl, chooses (Some I32 ∷ ls) k a b, raised_too, ([], refl, ta, tb, front_typed ls d (k + numbers_in a + numbers_in b) rest behind e h.4)))
 
-pub front_law : FrontTyped
-front_law c i d k ls first us state index e h = front_typed c i state index ls d k us first e h
+  -- where no call leaves an operand
+  pub from_none : (ls : Labels) (first : Code) (us : Units) → UnitsTyped c ls first us → UnitsTypedFrom c ls [] first us
+  from_none ls first no_unit h = h
+  from_none ls first (call_unit slots x to behind rest) h = ([], h.0, h.1, from_none ls behind rest h.2)
+  from_none ls first (nest_unit s inner body behind rest) h = (h.0, from_none (None ∷ ls) inner body h.1, from_none ls behind rest h.2)
+  from_none ls first (if_unit o fa a fb b behind rest) h = (h.0, h.1, from_none (None ∷ ls) fa a h.2, from_none (None ∷ ls) fb b h.3, from_none ls behind rest h.4)
 
-pub body_law : BodyTyped
+pub front_from_law : FrontTypedFrom
+front_from_law c i d k ls first us state index e h = front_typed c i state index ls d k us first e h
+
+pub front_law : FrontTyped
+front_law c i d k ls first us state index e h = front_from_law c i d k ls first us state index e (from_none c ls first us h)
+
+pub body_from_law : BodyTypedFrom
 unfolding Types
-body_law c i restoring saving result first us state index hr hs hg h =
+body_from_law c i restoring saving result first us state index hr hs hg h =
     tests c i state index (c.result ∷ []) restoring done (nest a_block None (front i 0 0 first us) (by_state i.state saving done (result_got result))) (listed c.result) hr refl
     (front_typed c i state index (None ∷ c.result ∷ []) 0 0 us first refl h, tests c i state index (c.result ∷ []) saving done (result_got result) (listed c.result) hs refl hg)
+
+pub body_law : BodyTyped
+body_law c i restoring saving result first us state index hr hs hg h = body_from_law c i restoring saving result first us state index hr hs hg (from_none c (None ∷ c.result ∷ []) first us h)

@@ -18,6 +18,15 @@ UnitsTyped c ls first (nest_unit s inner body behind rest) = Types c ls first []
 UnitsTyped c ls first (if_unit o fa a fb b behind rest) = Types c ls first [] [] × Types c ls (got o done) (I32 ∷ []) [] × UnitsTyped c (None ∷ ls) fa a
     × UnitsTyped c (None ∷ ls) fb b × UnitsTyped c ls behind rest
 
+-- The same where the piece in front takes these operands, and a call may leave operands to the piece behind it.
+abbrev pub UnitsTypedFrom : Around → List (Option ValType) → (ins : List ValType) → (first : Code) → Units → Type 0
+UnitsTypedFrom c ls ins first no_unit = Types c ls first [] ins
+UnitsTypedFrom c ls ins first (call_unit slots x to behind rest) = (outs : List ValType) × Types c ls first [] ins × Types c ls (slots_got slots (plain (call_to x) (set_to to done))) outs []
+    × UnitsTypedFrom c ls outs behind rest
+UnitsTypedFrom c ls ins first (nest_unit s inner body behind rest) = Types c ls first [] ins × UnitsTypedFrom c (None ∷ ls) [] inner body × UnitsTypedFrom c ls [] behind rest
+UnitsTypedFrom c ls ins first (if_unit o fa a fb b behind rest) = Types c ls first [] ins × Types c ls (got o done) (I32 ∷ []) [] × UnitsTypedFrom c (None ∷ ls) [] fa a
+    × UnitsTypedFrom c (None ∷ ls) [] fb b × UnitsTypedFrom c ls [] behind rest
+
 -- the type of the state's global
 abbrev pub an_i32 : GlobalType
 an_i32 = record { ty = I32; mutable = true }
@@ -43,3 +52,18 @@ BodyTyped =
     → slice_get c.globals i.state ≡ Some an_i32 → slice_get c.locals i.index ≡ Some I32
     → Types c (None ∷ c.result ∷ []) restoring [] [] → Types c (None ∷ c.result ∷ []) saving [] [] → Types c (c.result ∷ []) (result_got result) (listed c.result) []
     → UnitsTyped c (None ∷ c.result ∷ []) first us → Typed c (written_body i restoring saving (result_got result) first us)
+
+-- ---- the same, where calls leave operands
+
+abbrev pub FrontTypedFrom : Type 0
+FrontTypedFrom =
+    (c : Around) (i : GuardIndices) (d k : ℕ) (ls : List (Option ValType)) (first : Code) (us : Units)
+    → slice_get c.globals i.state ≡ Some an_i32 → slice_get c.locals i.index ≡ Some I32 → slice_get ls d ≡ Some None
+    → UnitsTypedFrom c ls [] first us → Types c ls (front i d k first us) [] []
+
+abbrev pub BodyTypedFrom : Type 0
+BodyTypedFrom =
+    (c : Around) (i : GuardIndices) (restoring saving : Code) (result : Option ℕ) (first : Code) (us : Units)
+    → slice_get c.globals i.state ≡ Some an_i32 → slice_get c.locals i.index ≡ Some I32
+    → Types c (None ∷ c.result ∷ []) restoring [] [] → Types c (None ∷ c.result ∷ []) saving [] [] → Types c (c.result ∷ []) (result_got result) (listed c.result) []
+    → UnitsTypedFrom c (None ∷ c.result ∷ []) [] first us → Typed c (written_body i restoring saving (result_got result) first us)

@@ -3,7 +3,7 @@
 ghost use Rattle.guard_form.specs.Bounds.{DepthBound, GuardedReadsFew, PassingBound, PassingSmall, ReadsBound, SizeBound, UnitsCounted, WrittenReadsFew};
 ghost use Rattle.guard_form.specs.Grouping.{PiecesAreFree, PiecesJoin, UnitsHold};
 ghost use Rattle.guard_form.specs.Numbers.{NumbersArePlaces, PlacesCount, PlacesNumber, UnitsAreNumbered};
-ghost use Rattle.guard_form.specs.Typed.{BodyTyped, FrontTyped, PiecesTyped};
+ghost use Rattle.guard_form.specs.Typed.{BodyTyped, BodyTypedFrom, FrontTyped, FrontTypedFrom, PiecesTyped};
 
 /// Pieces and units together stand for the flat code. Each `if` among the units has an arm with a unit. Where the places of
 /// the numbered calls are those of the calls that pass a test, no call of a piece passes it, and each call of a unit does.
@@ -37,9 +37,12 @@ pub fn guards_are_few()
     ensures written_reads { WrittenReadsFew }
 {}
 
-/// Where each flat statement takes no operands to none, so does guarded code, and the written body has the function's type.
+/// Where each flat statement takes no operands to none, so does guarded code, and the written body has the function's type. Both hold
+/// too where calls leave operands to the pieces behind them.
 pub fn guarded_code_is_typed()
     ensures pieces { PiecesTyped }
     ensures front { FrontTyped }
     ensures body { BodyTyped }
+    ensures front_from { FrontTypedFrom }
+    ensures body_from { BodyTypedFrom }
 {}

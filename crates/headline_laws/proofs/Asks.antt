@@ -53,13 +53,13 @@ no_pause_in_start types size plan i a h =
     by_ticks zero e = refl
     by_ticks (suc t) e = cc
 
-module _ (w : World) (ft : WorldFits w) (sl : StoreLaws w) (L : ℕ → Configuration → Configuration → Type 0) (W : ℕ → ℕ → Configuration → Configuration → Type 0) (G : Store → Type 0) (law : FlatLaw w (λ c d. c ≡ d) L W G) where
+module _ (w : World) (ft : WorldFits w) (sl : StoreLaws w) (L : (top spare : ℕ) → Configuration → Configuration → Type 0) (W : ℕ → ℕ → Configuration → Configuration → Type 0) (G : Store → Type 0) (law : FlatLaw w (λ c d. c ≡ d) L W G) where
   -- where the written side calls the import
-  pub record Called (top : ℕ) (task : Task) (l : Left) (seen : Store) (b : Configuration) (k i : ℕ) (args : List Value) (d : Configuration) : Type 0 where
+  pub record Called (top spare : ℕ) (task : Task) (l : Left) (seen : Store) (b : Configuration) (k i : ℕ) (args : List Value) (d : Configuration) : Type 0 where
     pub cost : ℕ
     pub j : ℕ
     pub least : suc k ≤ cost + suc j
-    pub few : cost + suc j ≤ 160 * suc k + 9
+    pub few : cost + suc j ≤ 160 * suc k + 9 + spare
     pub mid : Configuration
     pub silent : Sil w seen (busy (is_running task) b l) cost (busy (is_running task) mid l)
     pub flat_at : Configuration
@@ -69,7 +69,7 @@ module _ (w : World) (ft : WorldFits w) (sl : StoreLaws w) (L : ℕ → Configur
     pub alike : Alike (setting w top) d.store at.store
     pub stack : Callers (sides w top) i (flat_at.here ∷ flat_at.under) (at.here ∷ at.under)
 
-  module _ (n top : ℕ) (task : Task) (c b : Configuration) (l : Left) (is_top : TopOf w task top) (lk : Link w ft sl L W G law top c b) (lf : LeftFits w l) (al : Allowed w n (runs task c l)) where
+  module _ (n spare top x : ℕ) (within : 10 * x ≤ spare) (task : Task) (c b : Configuration) (l : Left) (is_top : TopOf w task top) (lk : Link w ft sl L W G law top x c b) (lf : LeftFits w l) (al : Allowed w n (runs task c l)) where
     abbrev pub a0 : State
     a0 = runs task c l
 
@@ -77,14 +77,14 @@ module _ (w : World) (ft : WorldFits w) (sl : StoreLaws w) (L : ℕ → Configur
     b0 = busy (is_running task) b l
 
     abbrev pub O : Turn State Note → Type 0
-    O = Owes w ft sl L W G law n (runs task c l) (busy (is_running task) b l)
+    O = Owes w ft sl L W G law n spare (runs task c l) (busy (is_running task) b l)
 
-    pub to_call : (k i : ℕ) (args : List Value) (d : Configuration) → FlatAsks w (λ c d. c ≡ d) L W G top k i args d lk.flat_at → Called top task l c.store b k i args d
+    pub to_call : (k i : ℕ) (args : List Value) (d : Configuration) → FlatAsks w (λ c d. c ≡ d) L W G top x k i args d lk.flat_at → Called top spare task l c.store b k i args d
     to_call k i args d fs =
-        let u1 = along w ft sl top task l c.store lk.flat_at fs.at b fs.n fs.before lk.near (seen0 w ft sl L W G law n top task c b l is_top lk lf al) in
+        let u1 = along w ft sl top task l c.store lk.flat_at fs.at b fs.n fs.before lk.near (seen0 w ft sl L W G law n spare top x within task c b l is_top lk lf al) in
         let u2 = up_to w ft sl top task l c.store fs.at u1.to u1.near fs.proper u1.flat_store in
         let t = then_asks (setting w top) (step w.flat fs.at) (step w.written u2.mid) fs.j i args fs.to u2.same fs.asks_there in
-        let a9 = u1.least in let a4 = fs.least in let a1 = u1.most in let a2 = u2.short in let a3 = fs.most in
+        let a9 = u1.least in let a4 = fs.least in let a1 = u1.most in let a2 = u2.short in let a3 = fs.most in let a5 = within in
         let ask = t.2 in
         record {
           cost = u1.cost + u2.cost;
@@ -101,14 +101,14 @@ module _ (w : World) (ft : WorldFits w) (sl : StoreLaws w) (L : ℕ → Configur
           stack = ask.stack;
         }
 
-    module _ (k i : ℕ) (args : List Value) (d : Configuration) (is : step (base w) c ≡ asks k i args d) (cd : Called top task l c.store b k i args d) where
+    module _ (k i : ℕ) (args : List Value) (d : Configuration) (is : step (base w) c ≡ asks k i args d) (cd : Called top spare task l c.store b k i args d) where
       abbrev pub b1 : Held
       b1 = busy (is_running task) cd.mid l
 
       pub same_d : Sm w d.store (cd.at).store
       same_d = sl.same_end top d.store (cd.at).store cd.alike
 
-      paid : (suc k ≤ cd.cost + suc cd.j) × (cd.cost + suc cd.j ≤ 256 * suc k)
+      paid : (suc k ≤ cd.cost + suc cd.j) × (cd.cost + suc cd.j ≤ 256 * suc k + spare)
       paid = let a1 = cd.few in (cd.least, omega arith)
 
       pub now : pr w b1 ≡ held_asked w.written (xp w) w.plan cd.j i args (inside task cd.at) l l.outcomes
@@ -130,7 +130,7 @@ module _ (w : World) (ft : WorldFits w) (sl : StoreLaws w) (L : ℕ → Configur
       -- the run ends at the call
       ends_there : (e : End) → pr w b1 ≡ held_ends cd.j (call_note i args (cd.at).store (stack_of w.written cd.at) None) e → O (sh w (ends_at_call k (call_note i args d.store (stack_of (base w) d) None) e))
       ends_there e mv =
-          last_move w ft sl L W G law n k cd.j cd.cost a0 (halts d.store) b0 b1 (over (cd.at).store) (call_note i args d.store (stack_of (base w) d) None ∷ [])
+          last_move w ft sl L W G law n spare k cd.j cd.cost a0 (halts d.store) b0 b1 (over (cd.at).store) (call_note i args d.store (stack_of (base w) d) None ∷ [])
           (call_note i args (cd.at).store (stack_of w.written cd.at) None ∷ note (ended e) (cd.at).store ∷ []) (note (ended e) d.store) cd.silent mv
           (same_note w _ _ refl same_d tt refl, (same_note w _ _ refl same_d tt refl, tt)) same_d paid (λ enough. r_halts same_d)
 
@@ -151,10 +151,11 @@ module _ (w : World) (ft : WorldFits w) (sl : StoreLaws w) (L : ℕ → Configur
       -- the answer is given on both sides, from a suspended stack that the original's belongs to
       pub record Given_on (lo : Left) (seen : Store) (c2 : Configuration) (from : Configuration) : Type 0 where
         pub cost : ℕ
-        pub few : cost ≤ 40
+        pub left : ℕ
+        pub few : cost + 10 * left ≤ 40
         pub to : Configuration
         pub silent : Sil w seen (busy (is_running task) from lo) cost (busy (is_running task) to lo)
-        pub link : Link w ft sl L W G law top c2 to
+        pub link : Link w ft sl L W G law top left c2 to
 
       pub give : (lo : Left) (a : Answer) (f bw : Configuration) → W top i d f → Alike (setting w top) d.store bw.store → Callers (sides w top) i (f.here ∷ f.under) (bw.here ∷ bw.under) → AnswerFits a → fault a ≡ None
           → Given_on lo (poked d.store a.pokes) (resumed d (poked d.store a.pokes) (option_to_list a.value)) (resumed bw (poked bw.store a.pokes) (option_to_list a.value))
@@ -164,7 +165,7 @@ module _ (w : World) (ft : WorldFits w) (sl : StoreLaws w) (L : ℕ → Configur
           let fo = law.answered top i d f (is_start task) a wt fits ef in
           let u = along w ft sl top task lo (poked d.store a.pokes) (resumed f (poked d.store a.pokes) (option_to_list a.value)) fo.to (resumed bw (poked bw.store a.pokes) (option_to_list a.value)) fo.n fo.goes nr (same_refl (gl w) w.plan.area (poked d.store a.pokes)) in
           let a1 = fo.few in let a2 = u.most in
-          record { cost = u.cost; few = omega arith; to = u.to; silent = u.silent; link = record { flat_at = fo.to; link = fo.link; near = u.near } }
+          record { cost = u.cost; left = fo.left; few = omega arith; to = u.to; silent = u.silent; link = record { flat_at = fo.to; link = fo.link; near = u.near } }
 
       at_once : (a : Answer) (os : List Outcome) → l.outcomes ≡ given a ∷ os → fault a ≡ None → pause_of a.ticks ≡ None → O (sh w (tested (base w) k i args (inside task d) (with_outcomes l os) a None))
       at_once a os eo ef et =
@@ -176,10 +177,10 @@ module _ (w : World) (ft : WorldFits w) (sl : StoreLaws w) (L : ℕ → Configur
           let a1 = cd.few in let a2 = gv.few in
           let was2 = went_on a os eo ef ∙ ap (λ z. go_on k (call_note i args d.store (stack_of (base w) d) z) a (poked d.store a.pokes) lo (inside task d)) et in
           let owes : O (goes k (call_note i args d.store (stack_of (base w) d) None ∷ note (answered a.value) (poked d.store a.pokes) ∷ []) (runs task (resumed d (poked d.store a.pokes) (option_to_list a.value)) lo)) =
-          tell_move w ft sl L W G law n k cd.j cd.cost gv.cost a0 (runs task (resumed d (poked d.store a.pokes) (option_to_list a.value)) lo) b0 b1 (busy (is_running task) (resumed cd.at (poked (cd.at).store a.pokes) (option_to_list a.value)) lo) (busy (is_running task) gv.to lo)
+          tell_move w ft sl L W G law n spare k cd.j cd.cost gv.cost (10 * gv.left) a0 (runs task (resumed d (poked d.store a.pokes) (option_to_list a.value)) lo) b0 b1 (busy (is_running task) (resumed cd.at (poked (cd.at).store a.pokes) (option_to_list a.value)) lo) (busy (is_running task) gv.to lo)
           (call_note i args d.store (stack_of (base w) d) None ∷ []) (call_note i args (cd.at).store (stack_of w.written cd.at) None ∷ note (answered a.value) (poked (cd.at).store a.pokes) ∷ []) (note (answered a.value) (poked d.store a.pokes)) cd.silent mv
           (same_note w _ _ refl same_d tt refl, (same_note w _ _ refl same2 tt refl, tt)) gv.silent cd.least (omega arith)
-          (λ enough. r_runs top is_top gv.link (left_fits a os eo) (allowed_on w n k _ a0 _ was2 al)) in
+          (λ enough. r_runs top gv.left (omega arith) is_top gv.link (left_fits a os eo) (allowed_on w n k _ a0 _ was2 al)) in
           subst (λ z. O (sh w (go_on k (call_note i args d.store (stack_of (base w) d) z) a (poked d.store a.pokes) lo (inside task d)))) (sym et) owes
 
       -- a pause is left to its own file
@@ -200,7 +201,7 @@ module _ (w : World) (ft : WorldFits w) (sl : StoreLaws w) (L : ℕ → Configur
           by_outcomes : (os : List Outcome) → l.outcomes ≡ os → O (sh w (asked (base w) w.plan k i args (inside task d) l l.outcomes))
           by_outcomes [] eo =
               subst (λ z. O (sh w (asked (base w) w.plan k i args (inside task d) l z))) (sym eo)
-              (last_move w ft sl L W G law n k cd.j cd.cost a0 (halts d.store) b0 b1 (over (cd.at).store) [] (call_note i args (cd.at).store (stack_of w.written cd.at) None ∷ []) (call_note i args d.store (stack_of (base w) d) None) cd.silent
+              (last_move w ft sl L W G law n spare k cd.j cd.cost a0 (halts d.store) b0 b1 (over (cd.at).store) [] (call_note i args (cd.at).store (stack_of w.written cd.at) None ∷ []) (call_note i args d.store (stack_of (base w) d) None) cd.silent
               (now ∙ ap (held_asked w.written (xp w) w.plan cd.j i args (inside task cd.at) l) eo) (same_note w _ _ refl same_d tt refl, tt) same_d paid (λ enough. r_halts same_d))
           by_outcomes (refused e ∷ os) eo =
               subst (λ z. O (sh w (asked (base w) w.plan k i args (inside task d) l z))) (sym eo)

@@ -44,10 +44,10 @@ part_of P (x ∷ xs) ys h =
     let r = part_of P xs ys (All-tail P x (xs ++ ys) h) in
     (All-cons P x xs (All-head P x (xs ++ ys) h) r.0, r.1)
 
-module _ (w : World) (ft : WorldFits w) (sl : StoreLaws w) (L : ℕ → Configuration → Configuration → Type 0) (W : ℕ → ℕ → Configuration → Configuration → Type 0) (G : Store → Type 0) (law : FlatLaw w (λ c d. c ≡ d) L W G)
+module _ (w : World) (ft : WorldFits w) (sl : StoreLaws w) (L : (top spare : ℕ) → Configuration → Configuration → Type 0) (W : ℕ → ℕ → Configuration → Configuration → Type 0) (G : Store → Type 0) (law : FlatLaw w (λ c d. c ≡ d) L W G)
     (Known : Held → Type 0) (wl : WrittenLaw w Known) (sf : StartFits w G) (os : List Outcome) (n : ℕ)
     (cmp : Compared w.original w.settings w.plan os n) (pauses : PausesNumbered w.original w.settings w.which (Blocking w.original w.plan os n).events) where
-  abbrev Rel : ℕ → State → Held → Type 0
+  abbrev Rel : (n spare : ℕ) → State → Held → Type 0
   Rel = R w ft sl L W G law
 
   abbrev a0 : State
@@ -77,11 +77,11 @@ module _ (w : World) (ft : WorldFits w) (sl : StoreLaws w) (L : ℕ → Configur
   begin = by_opening (opening (base w) w.plan.globals) refl (opening w.written w.plan.globals) refl sf.opened
     where
       -- by the parts, whatever they are
-      from : (r : Ran State Note) (r' : Ran Held Note) → start_of w.original w.plan os ≡ r → held_start_of w.written w.plan os ≡ r' → AllAlike (SameNote w.original w.settings w.which w.plan.area) r.events r'.events → Rel n r.last r'.last → OpensHonestly (opening (base w) w.plan.globals)
+      from : (r : Ran State Note) (r' : Ran Held Note) → start_of w.original w.plan os ≡ r → held_start_of w.written w.plan os ≡ r' → AllAlike (SameNote w.original w.settings w.which w.plan.area) r.events r'.events → Rel n 0 r.last r'.last → OpensHonestly (opening (base w) w.plan.globals)
           → Begin w.original w.settings w.which w.written w.plan Rel os n
       from r r' e e' al rel honest = record {
         alike = subst (λ q. AllAlike (SameNote w.original w.settings w.which w.plan.area) q.events (held_start_of w.written w.plan os).events) (sym e) (subst (λ q. AllAlike (SameNote w.original w.settings w.which w.plan.area) r.events q.events) (sym e') al);
-        rel = subst (λ q. Rel n q.last (held_start_of w.written w.plan os).last) (sym e) (subst (λ q. Rel n r.last q.last) (sym e') rel);
+        rel = subst (λ q. Rel n 0 q.last (held_start_of w.written w.plan os).last) (sym e) (subst (λ q. Rel n 0 r.last q.last) (sym e') rel);
         honest = honest;
       }
 

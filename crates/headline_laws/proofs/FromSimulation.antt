@@ -131,16 +131,16 @@ module _ (m : Module) (s : Settings) (which : List Bool) (p : Module) (plan : Pl
   abbrev Q : Note → Note → Type 0
   Q = SameNote m s which plan.area
 
-  abbrev pub Simulates : (R : ℕ → State → Held → Type 0) → Type 0
-  Simulates R = Follows State Held Note Note na pr (λ n spare. R n) Q (dear_of m) (Sees m s which p (exports_of p) plan) (Sees_at m s which p (exports_of p) plan)
+  abbrev pub Simulates : (R : (n spare : ℕ) → State → Held → Type 0) → Type 0
+  Simulates R = Follows State Held Note Note na pr R Q (dear_of m) (Sees m s which p (exports_of p) plan) (Sees_at m s which p (exports_of p) plan)
 
   -- both runs begin related
-  pub record Begin (R : ℕ → State → Held → Type 0) (os : List Outcome) (n : ℕ) : Type 0 where
+  pub record Begin (R : (n spare : ℕ) → State → Held → Type 0) (os : List Outcome) (n : ℕ) : Type 0 where
     pub alike : Alike Q (start_of m plan os).events (held_start_of p plan os).events
-    pub rel : R n (start_of m plan os).last (held_start_of p plan os).last
+    pub rel : R n 0 (start_of m plan os).last (held_start_of p plan os).last
     pub honest : OpensHonestly (opening (Base m) plan.globals)
 
-  module _ (R : ℕ → State → Held → Type 0) (sim : Simulates R) (os : List Outcome) (n : ℕ) (outcomes : All OutcomeFits os) (bg : Begin R os n) where
+  module _ (R : (n spare : ℕ) → State → Held → Type 0) (sim : Simulates R) (os : List Outcome) (n : ℕ) (outcomes : All OutcomeFits os) (bg : Begin R os n) where
     abbrev e0 : List Note
     e0 = (start_of m plan os).events
 
@@ -169,7 +169,7 @@ module _ (m : Module) (s : Settings) (which : List Bool) (p : Module) (plan : Pl
         ∙ ap (λ zs. e0 ++ zs) (sym (shown_run room fit plan.area.len (Base m) plan n n a0 (omega arith)))
 
     begun_so : Begins Q (e0 ++ shown_now) (h0 ++ made)
-    begun_so = begins_on Q e0 shown_now h0 made bg.alike (back State Held Note Note na pr (λ n spare. R n) Q (dear_of m) (Sees m s which p (exports_of p) plan) (Sees_at m s which p (exports_of p) plan) sim (dear_on m) refl n n n 0 a0 b0 bg.rel (omega arith) (omega arith))
+    begun_so = begins_on Q e0 shown_now h0 made bg.alike (back State Held Note Note na pr R Q (dear_of m) (Sees m s which p (exports_of p) plan) (Sees_at m s which p (exports_of p) plan) sim (dear_on m) refl n n n 0 a0 b0 bg.rel (omega arith) (omega arith))
 
     begins_expected : Begins Q (expected_notes m s plan os n) (protocol_notes p plan os n)
     begins_expected = subst (λ zs. Begins Q zs (h0 ++ made)) (sym expected_are) begun_so
@@ -182,7 +182,7 @@ module _ (m : Module) (s : Settings) (which : List Bool) (p : Module) (plan : Pl
 
     reaches : IsPrefix (events_of (expected_notes m s plan os n)) (events_of (protocol_notes p plan os (Bound m n (pause_stacks (Blocking m plan os n).events))))
     reaches =
-        let f = forth State Held Note Note na pr (λ n spare. R n) Q (dear_of m) (Sees m s which p (exports_of p) plan) (Sees_at m s which p (exports_of p) plan) sim (dear_on m) refl n n 0 a0 b0 bg.rel (omega arith) in
+        let f = forth State Held Note Note na pr R Q (dear_of m) (Sees m s which p (exports_of p) plan) (Sees_at m s which p (exports_of p) plan) sim (dear_on m) refl n n 0 a0 b0 bg.rel (omega arith) in
         let bound : ℕ = Bound m n (pause_stacks (Blocking m plan os n).events) in
         let blocked : List Note = (run (blocking (Base m) plan) n a0).events in
         let d1 : dear_of m shown_now ≤ dear_of m blocked = subst (λ zs. dear_of m zs ≤ dear_of m blocked) (sym (shown_run room fit plan.area.len (Base m) plan n n a0 (omega arith))) (dear_shown m room fit plan.area.len blocked) in
@@ -200,7 +200,7 @@ module _ (m : Module) (s : Settings) (which : List Bool) (p : Module) (plan : Pl
         prefix_front (w ∷ xs) ys zs h = let r = prefix_front xs ys zs h in (r.0, ap (λ es. w ∷ es) r.1)
 
     moments : (events : List Event) × (at : Store) × IsMoment m plan os n events at × (events ≡ without_pauses (events_of (protocol_notes p plan os n))) × SameEnd (global_space m) plan.area at (store_held (Protocol p plan os n).last)
-    moments = by_moment (moment State Held Note Note na pr (λ n spare. R n) Q (dear_of m) (Sees m s which p (exports_of p) plan) (Sees_at m s which p (exports_of p) plan) sim n n 0 a0 b0 bg.rel (omega arith))
+    moments = by_moment (moment State Held Note Note na pr R Q (dear_of m) (Sees m s which p (exports_of p) plan) (Sees_at m s which p (exports_of p) plan) sim n n 0 a0 b0 bg.rel (omega arith))
       where
         told : (es : List Note) → Alike Q es made → events_of e0 ++ without_pauses (events_of es) ≡ without_pauses (events_of (h0 ++ made))
         told es al =
@@ -208,7 +208,7 @@ module _ (m : Module) (s : Settings) (which : List Bool) (p : Module) (plan : Pl
             sym (honest_on e0 es o.honest)
             ∙ ap without_pauses (events_of_alike Q same_event (e0 ++ es) (h0 ++ made) (alike_on Q e0 es h0 made bg.alike al))
 
-        by_moment : Moment State Held Note Note na pr (λ n spare. R n) Q (dear_of m) (Sees m s which p (exports_of p) plan) (Sees_at m s which p (exports_of p) plan) n a0 (run pr n b0)
+        by_moment : Moment State Held Note Note na pr R Q (dear_of m) (Sees m s which p (exports_of p) plan) (Sees_at m s which p (exports_of p) plan) n a0 (run pr n b0)
             → (events : List Event) × (at : Store) × IsMoment m plan os n events at × (events ≡ without_pauses (events_of (protocol_notes p plan os n))) × SameEnd (global_space m) plan.area at (store_held (Protocol p plan os n).last)
         by_moment (at_state cost es at l le al sees) =
             let o = opened in

@@ -34,13 +34,13 @@ equal_lives w W = record {
     self (traps k t s) = live_traps
     self stuck = live_stuck
 
-module _ (w : World) (Live : Configuration → Configuration → Type 0) (L : (top : ℕ) → Configuration → Configuration → Type 0) (W : (top import : ℕ) → Configuration → Configuration → Type 0) (G : Store → Type 0) where
+module _ (w : World) (Live : Configuration → Configuration → Type 0) (L : (top spare : ℕ) → Configuration → Configuration → Type 0) (W : (top import : ℕ) → Configuration → Configuration → Type 0) (G : Store → Type 0) where
   abbrev pub Eq : Configuration → Configuration → Type 0
   Eq c d = c ≡ d
 
   module _ (lv : LiveLaw w Live W) (law : FlatLaw w Live L W G) where
-    next_too : (top : ℕ) (o o' : Next) (f : Configuration) → LiveNext Live o o' → FlatNext w Live L W G top o' f → FlatNext w Eq (L2 Live L W) (W2 Live L W) G top o f
-    next_too top _ _ f (live_steps {c = c} {d = d} live) fs = record {
+    next_too : (top spare : ℕ) (o o' : Next) (f : Configuration) → LiveNext Live o o' → FlatNext w Live L W G top spare o' f → FlatNext w Eq (L2 Live L W) (W2 Live L W) G top spare o f
+    next_too top spare _ _ f (live_steps {c = c} {d = d} live) fs = record {
       n1 = fs.n1;
       mid = fs.mid;
       before = fs.before;
@@ -53,10 +53,11 @@ module _ (w : World) (Live : Configuration → Configuration → Type 0) (L : (t
       to = fs.to;
       behind = fs.behind;
       least = fs.least;
+      left = fs.left;
       most = fs.most;
       link = record { chosen = d; live = live; link = fs.link };
     }
-    next_too top _ _ f (live_asks {c = c} {d = d} live) fs = record {
+    next_too top spare _ _ f (live_asks {c = c} {d = d} live) fs = record {
       n = fs.n;
       at = fs.at;
       before = fs.before;
@@ -68,32 +69,32 @@ module _ (w : World) (Live : Configuration → Configuration → Type 0) (L : (t
       asks_there = fs.asks_there;
       waits = record { chosen = d; live = live; waits = fs.waits };
     }
-    next_too top _ _ f live_returns fs = record { n = fs.n; at = fs.at; before = fs.before; j = fs.j; least = fs.least; most = fs.most; proper = fs.proper; returns_there = fs.returns_there; good = fs.good }
-    next_too top _ _ f live_traps fs = record { n = fs.n; at = fs.at; before = fs.before; j = fs.j; least = fs.least; most = fs.most; proper = fs.proper; traps_there = fs.traps_there }
-    next_too top _ _ f live_stuck fs = fs
+    next_too top spare _ _ f live_returns fs = record { n = fs.n; at = fs.at; before = fs.before; j = fs.j; least = fs.least; most = fs.most; proper = fs.proper; returns_there = fs.returns_there; good = fs.good }
+    next_too top spare _ _ f live_traps fs = record { n = fs.n; at = fs.at; before = fs.before; j = fs.j; least = fs.least; most = fs.most; proper = fs.proper; traps_there = fs.traps_there }
+    next_too top spare _ _ f live_stuck fs = fs
 
     -- So what flattening owes with such a step in between it owes without one.
     pub both : FlatLaw w Eq (L2 Live L W) (W2 Live L W) G
     both = record {
-      store = λ top c f h. law.store top h.chosen f h.link ∙ lv.store c h.chosen h.live;
-      good = λ top c f h. subst G (lv.store c h.chosen h.live) (law.good top h.chosen f h.link);
+      store = λ top spare c f h. law.store top spare h.chosen f h.link ∙ lv.store c h.chosen h.live;
+      good = λ top spare c f h. subst G (lv.store c h.chosen h.live) (law.good top spare h.chosen f h.link);
       waits_store = λ top i d f h. law.waits_store top i h.chosen f h.waits ∙ lv.store d h.chosen h.live;
       waits_good = λ top i d f h. subst G (lv.store d h.chosen h.live) (law.waits_good top i h.chosen f h.waits);
       waits_known = λ top i d f h. law.waits_known top i h.chosen f h.waits;
       small = law.small;
-      reduces = λ top c f h off.
+      reduces = λ top spare c f h off.
           let st = lv.store c h.chosen h.live in
           let off2 : StaysOff w.plan.area (length (h.chosen).store.memory) (next_access h.chosen) = subst (λ o. StaysOff w.plan.area (length (h.chosen).store.memory) o) (sym (lv.access c h.chosen h.live)) (subst (λ (s : Store). StaysOff w.plan.area (length s.memory) (next_access c)) (sym st) off) in
-          next_too top (step (base w) c) (step (base w) h.chosen) f (lv.steps_keep c h.chosen h.live) (law.reduces top h.chosen f h.link off2);
+          next_too top spare (step (base w) c) (step (base w) h.chosen) f (lv.steps_keep c h.chosen h.live) (law.reduces top spare h.chosen f h.link off2);
       answered = λ top i d f start a h fits none.
           let st = lv.store d h.chosen h.live in
           let none2 = subst (λ (s : Store). fault_of (func_type_at (base w) i).results (length s.memory) w.plan start i a ≡ None) (sym st) none in
           let fo = subst (λ (s : Store). FlatOn w Live L W G top 4 (resumed h.chosen (poked s a.pokes) (option_to_list a.value)) (resumed f (poked s a.pokes) (option_to_list a.value))) st (law.answered top i h.chosen f start a h.waits fits none2) in
-          record { n = fo.n; few = fo.few; to = fo.to; goes = fo.goes; link = record { chosen = resumed h.chosen (poked d.store a.pokes) (option_to_list a.value); live = lv.resumes d h.chosen (poked d.store a.pokes) (option_to_list a.value) h.live; link = fo.link } };
+          record { n = fo.n; left = fo.left; few = fo.few; to = fo.to; goes = fo.goes; link = record { chosen = resumed h.chosen (poked d.store a.pokes) (option_to_list a.value); live = lv.resumes d h.chosen (poked d.store a.pokes) (option_to_list a.value) h.live; link = fo.link } };
       enters = λ x args f s lw good there.
           let fe = law.enters x args f s lw good there in
           let on = fe.on in
-          record { func = fe.func; defined = fe.defined; func' = fe.func'; defined' = fe.defined'; known = fe.known; count = fe.count; on = record { n = on.n; few = on.few; to = on.to; goes = on.goes; link = record { chosen = entered s [] args x f; live = lv.same (entered s [] args x f); link = on.link } } };
+          record { func = fe.func; defined = fe.defined; func' = fe.func'; defined' = fe.defined'; known = fe.known; count = fe.count; on = record { n = on.n; left = on.left; few = on.few; to = on.to; goes = on.goes; link = record { chosen = entered s [] args x f; live = lv.same (entered s [] args x f); link = on.link } } };
       poked_good = law.poked_good;
       numbers = λ top i d f h nums. law.numbers top i h.chosen f h.waits (lv.numbered d h.chosen h.live nums);
       stands = λ top i d f us' st h nums fit.

@@ -53,9 +53,9 @@ ticks_are : (t ticks : ℕ) → pause_of t ≡ Some ticks → t ≡ ticks
 ticks_are zero ticks e = cc
 ticks_are (suc t) ticks e = cc
 
-pause_bound : (c1 k pc ac gc un args sl rw most dear rest n : ℕ) → c1 ≤ 160 * suc k + 9 → pc ≤ 28 + un → ac ≤ 29 + args + 2 * sl + rw → gc ≤ 40 → un + n + 2 * sl + rw ≤ most → args ≡ n → dear ≡ 256 + most + rest
-    → c1 + (pc + 1 + (ac + 1 + gc)) ≤ 256 * suc k + dear
-pause_bound c1 k pc ac gc un args sl rw most dear rest n h1 h2 h3 h4 h5 h6 h7 = omega arith
+pause_bound : (c1 k spare pc ac gc left un args sl rw most dear rest n : ℕ) → c1 ≤ 160 * suc k + 9 + spare → pc ≤ 28 + un → ac ≤ 29 + args + 2 * sl + rw → gc + 10 * left ≤ 40 → un + n + 2 * sl + rw ≤ most → args ≡ n → dear ≡ 256 + most + rest
+    → c1 + (pc + 1 + (ac + 1 + gc)) + 10 * left ≤ 256 * suc k + dear + spare
+pause_bound c1 k spare pc ac gc left un args sl rw most dear rest n h1 h2 h3 h4 h5 h6 h7 = omega arith
 
 paid_enough : (c1 k more : ℕ) → suc k ≤ c1 → suc k ≤ c1 + more
 paid_enough c1 k more h = omega arith
@@ -113,10 +113,10 @@ levels_are w top S here under ws acts fit chain stand weigh = record {
     r : SomeLevel here under ws
     r = some_level here under ws acts
 
-module _ (w : World) (ft : WorldFits w) (sl : StoreLaws w) (L : ℕ → Configuration → Configuration → Type 0) (W : ℕ → ℕ → Configuration → Configuration → Type 0) (G : Store → Type 0) (law : FlatLaw w (λ c d. c ≡ d) L W G)
-    (n top : ℕ) (e : Entry) (c b : Configuration) (l : Left) (is_top : TopOf w (an_entry e) top) (lk : Link w ft sl L W G law top c b) (lf : LeftFits w l) (al : Allowed w n (runs (an_entry e) c l))
-    (k i : ℕ) (args : List Value) (d : Configuration) (is : step (base w) c ≡ asks k i args d) (cd : Called w ft sl L W G law top (an_entry e) l c.store b k i args d)
-    (a : Answer) (os : List Outcome) (ticks : ℕ) (eo : l.outcomes ≡ given a ∷ os) (ef : Rattle.headline_laws.proofs.Asks.fault w ft sl L W G law n top (an_entry e) c b l is_top lk lf al k i args d is cd a ≡ None) (et : pause_of a.ticks ≡ Some ticks)
+module _ (w : World) (ft : WorldFits w) (sl : StoreLaws w) (L : (top spare : ℕ) → Configuration → Configuration → Type 0) (W : ℕ → ℕ → Configuration → Configuration → Type 0) (G : Store → Type 0) (law : FlatLaw w (λ c d. c ≡ d) L W G)
+    (n spare top x : ℕ) (within : 10 * x ≤ spare) (e : Entry) (c b : Configuration) (l : Left) (is_top : TopOf w (an_entry e) top) (lk : Link w ft sl L W G law top x c b) (lf : LeftFits w l) (al : Allowed w n (runs (an_entry e) c l))
+    (k i : ℕ) (args : List Value) (d : Configuration) (is : step (base w) c ≡ asks k i args d) (cd : Called w ft sl L W G law top spare (an_entry e) l c.store b k i args d)
+    (a : Answer) (os : List Outcome) (ticks : ℕ) (eo : l.outcomes ≡ given a ∷ os) (ef : Rattle.headline_laws.proofs.Asks.fault w ft sl L W G law n spare top x within (an_entry e) c b l is_top lk lf al k i args d is cd a ≡ None) (et : pause_of a.ticks ≡ Some ticks)
     (came : (c2 : Configuration) (l2 : Left) (cost : ℕ) (es : List Note) → Leads (pr w) (busy (is_running (an_entry e)) b l) cost es (busy (is_running (an_entry e)) c2 l2) → AllLocalsFit w.written (c2.here ∷ c2.under))
     (unwinds_so : (s2 : Store) (x2 : ℕ) (args2 : List Value) (c2 : Configuration) (l2 : Left) (cost : ℕ) (es : List Note)
     → Leads (pr w) (busy (is_running (an_entry e)) b l) cost es (calling (unwinds e i a) s2 x2 args2 (give_zero c2) l2) → AllLocalsFit w.written (c2.here ∷ c2.under)) where
@@ -152,16 +152,16 @@ module _ (w : World) (ft : WorldFits w) (sl : StoreLaws w) (L : ℕ → Configur
 
   mv : pr w b1 ≡ goes cd.j (y1 ∷ []) b2
   mv =
-      tested_now w ft sl L W G law n top (an_entry e) c b l is_top lk lf al k i args d is cd a os None eo ef
+      tested_now w ft sl L W G law n spare top x within (an_entry e) c b l is_top lk lf al k i args d is cd a os None eo ef
       ∙ ap (Rattle.wa_model.specs.Protocol.held_tested w.written (xp w) w.plan cd.j i args (inside (an_entry e) cd.at) lo a None) et
 
   was : nb w a0 ≡ goes k (x1 ∷ note (answered a.value) (poked d.store a.pokes) ∷ []) a2
   was =
-      went_on w ft sl L W G law n top (an_entry e) c b l is_top lk lf al k i args d is cd a os eo ef
+      went_on w ft sl L W G law n spare top x within (an_entry e) c b l is_top lk lf al k i args d is cd a os eo ef
       ∙ ap (λ z. go_on k (call_note i args d.store S z) a (poked d.store a.pokes) lo (inside (an_entry e) d)) et
 
   same1 : Sm w d.store s1
-  same1 = same_d w ft sl L W G law n top (an_entry e) c b l is_top lk lf al k i args d is cd
+  same1 = same_d w ft sl L W G law n spare top x within (an_entry e) c b l is_top lk lf al k i args d is cd
 
   small : length d.store.memory < 2 ^ 32
   small = law.small d.store (law.waits_good top i d cd.flat_at cd.waits)
@@ -240,7 +240,7 @@ module _ (w : World) (ft : WorldFits w) (sl : StoreLaws w) (L : ℕ → Configur
 
   -- ---- the frames don't fit
 
-  overrun : (enough : suc k ≤ n) → w.plan.area.len < Room w.original w.settings.policy S → Rattle.headline_laws.proofs.Reductions.M w ft sl L W G law n k (x1 ∷ trap_note (Fit w.original w.settings.policy S w.plan.area.len) w.plan.area.len d.store ∷ []) a0 (halts d.store) b0
+  overrun : (enough : suc k ≤ n) → w.plan.area.len < Room w.original w.settings.policy S → Rattle.headline_laws.proofs.Reductions.M w ft sl L W G law n spare k (x1 ∷ trap_note (Fit w.original w.settings.policy S w.plan.area.len) w.plan.area.len d.store ∷ []) a0 (halts d.store) b0
   overrun enough over_len =
       let z = standing enough in
       let hd = z.held in
@@ -265,7 +265,7 @@ module _ (w : World) (ft : WorldFits w) (sl : StoreLaws w) (L : ℕ → Configur
       let w0 = cd.least in let w1 = cd.few in let w2 = ov.within in
       let w3 = weigh_all w.original (param_count (func_type_at w.flat top)) z.v z.vs S z.weigh in
       let dear : dear_of w.original (x1 ∷ x2 ∷ []) ≡ 256 + sum_by (activation_bound w.original) S + dear_of w.original (x2 ∷ []) = dear_cons w.original x1 (x2 ∷ []) in
-      by_told w.original w.settings w.which w.written (xp w) w.plan (nn w) (R w ft sl L W G law) n k (cd.cost + suc cd.j + (ov.cost + 1 + 0)) (x1 ∷ x2 ∷ []) (y1 ∷ y2 ∷ []) a0 (halts d.store) b0 (over ov.store) t1 (omega arith) (omega arith) (omega arith) (r_halts seen_end)
+      by_told w.original w.settings w.which w.written (xp w) w.plan (nn w) (R w ft sl L W G law) n spare k (cd.cost + suc cd.j + (ov.cost + 1 + 0)) 0 (x1 ∷ x2 ∷ []) (y1 ∷ y2 ∷ []) a0 (halts d.store) b0 (over ov.store) t1 (omega arith) (omega arith) (omega arith) (r_halts seen_end)
 
   -- ---- the frames fit: paused, and answered
 
@@ -405,38 +405,38 @@ module _ (w : World) (ft : WorldFits w) (sl : StoreLaws w) (L : ℕ → Configur
 
   -- the answer is given to a stack that came back: the flat one is chosen anew
   anew : (enough : suc k ≤ n) → (new : List Activation) (wt : Configuration) (s : Store) → AllLocalsFit w.written (wt.here ∷ wt.under) → AllSameFlat w.lay ((cd.flat_at).here ∷ (cd.flat_at).under) new → Stopped (setting w top) i new (wt.here ∷ wt.under) → Alike (setting w top) d.store s
-      → Given_on w ft sl L W G law n top (an_entry e) c b l is_top lk lf al k i args d is cd lo (poked d.store a.pokes) (resumed d (poked d.store a.pokes) (option_to_list a.value)) (resumed wt (poked s a.pokes) (option_to_list a.value))
+      → Given_on w ft sl L W G law n spare top x within (an_entry e) c b l is_top lk lf al k i args d is cd lo (poked d.store a.pokes) (resumed d (poked d.store a.pokes) (option_to_list a.value)) (resumed wt (poked s a.pokes) (option_to_list a.value))
   anew enough [] wt s fit same st like = absurd same
   anew enough (f2 ∷ us2) wt s fit same st like =
       let ag = law.again top i d cd.flat_at f2 us2 cd.waits (numbered_now enough) same (wt.here ∷ wt.under) st fit in
       let wt2 = subst (λ q. W top i q (record { store = (cd.flat_at).store; here = f2; under = us2 })) (sym ag.live) ag.waits in
-      give w ft sl L W G law n top (an_entry e) c b l is_top lk lf al k i args d is cd lo a (record { store = (cd.flat_at).store; here = f2; under = us2 }) (record { store = s; here = wt.here; under = wt.under }) wt2 like
-      (waits_law (setting w top) i _ _ st) (answer_fits w ft sl L W G law n top (an_entry e) c b l is_top lk lf al k i args d is cd a os eo) ef
+      give w ft sl L W G law n spare top x within (an_entry e) c b l is_top lk lf al k i args d is cd lo a (record { store = (cd.flat_at).store; here = f2; under = us2 }) (record { store = s; here = wt.here; under = wt.under }) wt2 like
+      (waits_law (setting w top) i _ _ st) (answer_fits w ft sl L W G law n spare top x within (an_entry e) c b l is_top lk lf al k i args d is cd a os eo) ef
 
   abbrev Given : Configuration → Store → Type 0
-  Given wt s = Given_on w ft sl L W G law n top (an_entry e) c b l is_top lk lf al k i args d is cd lo (poked d.store a.pokes) (resumed d (poked d.store a.pokes) (option_to_list a.value)) (resumed wt (poked s a.pokes) (option_to_list a.value))
+  Given wt s = Given_on w ft sl L W G law n spare top x within (an_entry e) c b l is_top lk lf al k i args d is cd lo (poked d.store a.pokes) (resumed d (poked d.store a.pokes) (option_to_list a.value)) (resumed wt (poked s a.pokes) (option_to_list a.value))
 
-  matched : (r : Returned) → Given r.wt r.s5 → Rattle.headline_laws.proofs.Reductions.M w ft sl L W G law n k (x1 ∷ x2 ∷ x3 ∷ []) a0 a2 b0
+  matched : (r : Returned) → Given r.wt r.s5 → Rattle.headline_laws.proofs.Reductions.M w ft sl L W G law n spare k (x1 ∷ x2 ∷ x3 ∷ []) a0 a2 b0
   unfolding three
   matched r gv =
       let to : Held = busy (is_running (an_entry e)) gv.to lo in
       let dear : dear_of w.original (x1 ∷ x2 ∷ x3 ∷ []) ≡ 256 + sum_by (activation_bound w.original) S + dear_of w.original (x2 ∷ x3 ∷ []) = dear_cons w.original x1 (x2 ∷ x3 ∷ []) in
-      by_told w.original w.settings w.which w.written (xp w) w.plan (nn w) (R w ft sl L W G law) n k (cd.cost + suc cd.j + (r.pc + 1 + (r.ac + 1 + gv.cost))) (x1 ∷ x2 ∷ x3 ∷ []) (y1 ∷ r.y2 ∷ r.y3 ∷ []) a0 a2 b0 to
+      by_told w.original w.settings w.which w.written (xp w) w.plan (nn w) (R w ft sl L W G law) n spare k (cd.cost + suc cd.j + (r.pc + 1 + (r.ac + 1 + gv.cost))) (10 * gv.left) (x1 ∷ x2 ∷ x3 ∷ []) (y1 ∷ r.y2 ∷ r.y3 ∷ []) a0 a2 b0 to
       (three r to gv.cost gv.silent) cd.least (paid_enough (cd.cost + suc cd.j) k (r.pc + 1 + (r.ac + 1 + gv.cost)) cd.least)
-      (pause_bound (cd.cost + suc cd.j) k r.pc r.ac gv.cost r.un (length e.args) r.sl2 r.rw2 (sum_by (activation_bound w.original) S) (dear_of w.original (x1 ∷ x2 ∷ x3 ∷ [])) (dear_of w.original (x2 ∷ x3 ∷ []))
+      (pause_bound (cd.cost + suc cd.j) k spare r.pc r.ac gv.cost gv.left r.un (length e.args) r.sl2 r.rw2 (sum_by (activation_bound w.original) S) (dear_of w.original (x1 ∷ x2 ∷ x3 ∷ [])) (dear_of w.original (x2 ∷ x3 ∷ []))
       (param_count (func_type_at w.flat top)) cd.few r.unwound_in r.rewound_in gv.few r.weighs is_top.2 dear)
-      (r_runs top is_top gv.link (left_fits w ft sl L W G law n top (an_entry e) c b l is_top lk lf al k i args d is cd a os eo) (allowed_on w n k _ a0 a2 was al))
+      (r_runs top gv.left (omega arith) is_top gv.link (left_fits w ft sl L W G law n spare top x within (an_entry e) c b l is_top lk lf al k i args d is cd a os eo) (allowed_on w n k _ a0 a2 was al))
 
-  pause_at : suc k ≤ n → Room w.original w.settings.policy S ≤ w.plan.area.len → Rattle.headline_laws.proofs.Reductions.M w ft sl L W G law n k (x1 ∷ x2 ∷ x3 ∷ []) a0 a2 b0
+  pause_at : suc k ≤ n → Room w.original w.settings.policy S ≤ w.plan.area.len → Rattle.headline_laws.proofs.Reductions.M w ft sl L W G law n spare k (x1 ∷ x2 ∷ x3 ∷ []) a0 a2 b0
   pause_at enough fits_len =
       let r = returned_so enough fits_len in
       matched r (anew enough r.new r.wt r.s5 (known_there r) r.same_flat r.stopped r.like)
 
   -- both, by the room
-  pub pausing : Owes w ft sl L W G law n a0 b0 (sh w (tested (base w) k i args (inside (an_entry e) d) lo a None))
-  pausing = subst (λ q. Owes w ft sl L W G law n a0 b0 (sh w (go_on k (call_note i args d.store S q) a (poked d.store a.pokes) lo (inside (an_entry e) d)))) (sym et) (by_room (nat_lt w.plan.area.len (Room w.original w.settings.policy S)) refl)
+  pub pausing : Owes w ft sl L W G law n spare a0 b0 (sh w (tested (base w) k i args (inside (an_entry e) d) lo a None))
+  pausing = subst (λ q. Owes w ft sl L W G law n spare a0 b0 (sh w (go_on k (call_note i args d.store S q) a (poked d.store a.pokes) lo (inside (an_entry e) d)))) (sym et) (by_room (nat_lt w.plan.area.len (Room w.original w.settings.policy S)) refl)
     where
       by_room : (t : Bool) → nat_lt w.plan.area.len (Room w.original w.settings.policy S) ≡ t
-          → Owes w ft sl L W G law n a0 b0 (if t then goes k (x1 ∷ trap_note (Fit w.original w.settings.policy S w.plan.area.len) w.plan.area.len d.store ∷ []) (halts d.store) else goes k (x1 ∷ pause_note ticks (Room w.original w.settings.policy S) d.store S ∷ note (answered a.value) (poked d.store a.pokes) ∷ []) a2)
+          → Owes w ft sl L W G law n spare a0 b0 (if t then goes k (x1 ∷ trap_note (Fit w.original w.settings.policy S w.plan.area.len) w.plan.area.len d.store ∷ []) (halts d.store) else goes k (x1 ∷ pause_note ticks (Room w.original w.settings.policy S) d.store S ∷ note (answered a.value) (poked d.store a.pokes) ∷ []) a2)
       by_room true q = (before, λ enough. overrun enough (ltb-true w.plan.area.len (Room w.original w.settings.policy S) q))
       by_room false q = (before, λ enough. pause_at enough (ltb-false w.plan.area.len (Room w.original w.settings.policy S) q))

@@ -166,15 +166,15 @@ module _ (m : Module) (s : Settings) (which : List Bool) (p : Module) (x : Expor
   told_alike seen es fs b to n (told {b2 = b2} {n2 = n2} {es2 = es2} {gs = gs} {fs2 = fs2} es1 y q e al rest ee en ef) =
       subst (Alike Q es) (sym ef) (subst (λ zs. Alike Q zs (gs ++ fs2)) (sym (ee ∙ split_on es1 es2 y)) (alike_on Q (es1 ++ y ∷ []) es2 gs fs2 al (told_alike y.store es2 fs2 b2 to n2 rest)))
 
-  module _ (na : State → Turn State Note) (R : ℕ → State → Held → Type 0) where
-    abbrev pub M : (n k : ℕ) (es : List Note) (a a' : State) (b : Held) → Type 0
-    M n k es a a' b = Match State Held Note Note na pr (λ n spare. R n) Q (dear_of m) Sees Sees_at n 0 k es a a' b
+  module _ (na : State → Turn State Note) (R : (n spare : ℕ) → State → Held → Type 0) where
+    abbrev pub M : (n spare k : ℕ) (es : List Note) (a a' : State) (b : Held) → Type 0
+    M n spare k es a a' b = Match State Held Note Note na pr R Q (dear_of m) Sees Sees_at n spare k es a a' b
 
     -- a move that is matched by moves that tell its notes
-    pub by_told : (n k cost : ℕ) (es fs : List Note) (a a' : State) (b to : Held) → (t : Told (store_of a) es b cost fs to) → Late k t → suc k ≤ cost → cost ≤ 256 * suc k + dear_of m es → R (n - suc k) a' to → M n k es a a' b
-    by_told n k cost es fs a a' b to t late least most r = record {
+    pub by_told : (n spare k cost left : ℕ) (es fs : List Note) (a a' : State) (b to : Held) → (t : Told (store_of a) es b cost fs to) → Late k t → suc k ≤ cost → cost + left ≤ 256 * suc k + dear_of m es + spare → R (n - suc k) left a' to → M n spare k es a a' b
+    by_told n spare k cost left es fs a a' b to t late least most r = record {
       cost = cost;
-      left = 0;
+      left = left;
       events = fs;
       to = to;
       leads = told_leads (store_of a) es fs b to cost t;
@@ -185,15 +185,15 @@ module _ (m : Module) (s : Settings) (which : List Bool) (p : Module) (x : Expor
       on_way = λ j lt. way j (run pr j b) (here (store_of a) es fs b to cost t k late j (omega arith));
     }
       where
-        way : (j : ℕ) (r : Ran Held Note) → Here (store_of a) es k j r → On_way State Held Note Note na pr (λ n spare. R n) Q (dear_of m) Sees Sees_at k es a a' j r
+        way : (j : ℕ) (r : Ran Held Note) → Here (store_of a) es k j r → On_way State Held Note Note na pr R Q (dear_of m) Sees Sees_at k es a a' j r
         way j r (nothing h) = not_yet h.0 h.1
         way j r (so_far es1 es2 y ge split al h) = up_to es1 es2 y ge split al h
 
     -- a move without notes: a stretch with the old store, one move, and a stretch with the new store
-    pub by_silence : (n k n1 k1 n2 : ℕ) (a a' : State) (b b1 b2 to : Held) → Silent (store_of a) b n1 b1 → pr b1 ≡ goes k1 [] b2 → Silent (store_of a') b2 n2 to → suc k ≤ n1 + suc k1 → n1 + suc k1 + n2 ≤ 256 * suc k → R (n - suc k) a' to → M n k [] a a' b
-    by_silence n k n1 k1 n2 a a' b b1 b2 to q1 e q2 least most r = record {
+    pub by_silence : (n spare k n1 k1 n2 left : ℕ) (a a' : State) (b b1 b2 to : Held) → Silent (store_of a) b n1 b1 → pr b1 ≡ goes k1 [] b2 → Silent (store_of a') b2 n2 to → suc k ≤ n1 + suc k1 → n1 + suc k1 + n2 + left ≤ 256 * suc k + spare → R (n - suc k) left a' to → M n spare k [] a a' b
+    by_silence n spare k n1 k1 n2 left a a' b b1 b2 to q1 e q2 least most r = record {
       cost = n1 + suc k1 + n2;
-      left = 0;
+      left = left;
       events = [];
       to = to;
       leads = whole;
@@ -210,7 +210,7 @@ module _ (m : Module) (s : Settings) (which : List Bool) (p : Module) (x : Expor
             let z : n1 + suc k1 + n2 ≡ n1 + (suc k1 + n2) = omega arith in
             subst (λ i. Leads pr b i [] to) (sym z) l2
 
-        way : (j : ℕ) → j < n1 + suc k1 + n2 → On_way State Held Note Note na pr (λ n spare. R n) Q (dear_of m) Sees Sees_at k [] a a' j (run pr j b)
+        way : (j : ℕ) → j < n1 + suc k1 + n2 → On_way State Held Note Note na pr R Q (dear_of m) Sees Sees_at k [] a a' j (run pr j b)
         way j lt =
             ⊎_elim
             (λ few. let w = q1.each j (omega arith) in not_yet w.0 w.1)

@@ -53,9 +53,10 @@ abbrev pub AllLocalsFit : Module → List Activation → Type 0
 AllLocalsFit p [] = Unit {0}
 AllLocalsFit p (a ∷ us) = LocalsFit p a.func a.locals × AllLocalsFit p us
 
-module _ (w : World) (Live : Configuration → Configuration → Type 0) (L : (top : ℕ) → Configuration → Configuration → Type 0) (W : (top import : ℕ) → Configuration → Configuration → Type 0) (G : Store → Type 0) where
-  -- a reduction: quiet as to the store, one that does what the original's does, and quiet again
-  pub record FlatSteps (top k : ℕ) (d f : Configuration) : Type 0 where
+module _ (w : World) (Live : Configuration → Configuration → Type 0) (L : (top spare : ℕ) → Configuration → Configuration → Type 0) (W : (top import : ℕ) → Configuration → Configuration → Type 0) (G : Store → Type 0) where
+  -- A reduction: quiet as to the store, one that does what the original's does, and quiet again. What is to spare from earlier ones may
+  -- be spent, and something be left.
+  pub record FlatSteps (top spare k : ℕ) (d f : Configuration) : Type 0 where
     pub n1 : ℕ
     pub mid : Configuration
     pub before : Still (setting w top) f n1 mid
@@ -68,56 +69,58 @@ module _ (w : World) (Live : Configuration → Configuration → Type 0) (L : (t
     pub to : Configuration
     pub behind : Still (setting w top) after n2 to
     pub least : suc k ≤ n1 + suc j
-    pub most : n1 + suc j + n2 ≤ 16 * suc k
-    pub link : L top d to
+    pub left : ℕ
+    pub most : n1 + suc j + n2 + left ≤ 16 * suc k + spare
+    pub link : L top left d to
 
-  pub record FlatAsks (top k i : ℕ) (args : List Value) (d f : Configuration) : Type 0 where
+  pub record FlatAsks (top spare k i : ℕ) (args : List Value) (d f : Configuration) : Type 0 where
     pub n : ℕ
     pub at : Configuration
     pub before : Still (setting w top) f n at
     pub j : ℕ
     pub least : suc k ≤ n + suc j
-    pub most : n + suc j ≤ 16 * suc k
+    pub most : n + suc j ≤ 16 * suc k + spare
     pub proper : Proper (sides_of (setting w top)) at
     pub to : Configuration
     pub asks_there : step w.flat at ≡ asks j i args to
     pub waits : W top i d to
 
-  pub record FlatReturns (top k : ℕ) (vs : List Value) (s : Store) (f : Configuration) : Type 0 where
+  pub record FlatReturns (top spare k : ℕ) (vs : List Value) (s : Store) (f : Configuration) : Type 0 where
     pub n : ℕ
     pub at : Configuration
     pub before : Still (setting w top) f n at
     pub j : ℕ
     pub least : suc k ≤ n + suc j
-    pub most : n + suc j ≤ 16 * suc k
+    pub most : n + suc j ≤ 16 * suc k + spare
     pub proper : Proper (sides_of (setting w top)) at
     pub returns_there : step w.flat at ≡ returns j vs s
     pub good : G s
 
-  pub record FlatTraps (top k : ℕ) (t : Trap) (s : Store) (f : Configuration) : Type 0 where
+  pub record FlatTraps (top spare k : ℕ) (t : Trap) (s : Store) (f : Configuration) : Type 0 where
     pub n : ℕ
     pub at : Configuration
     pub before : Still (setting w top) f n at
     pub j : ℕ
     pub least : suc k ≤ n + suc j
-    pub most : n + suc j ≤ 16 * suc k
+    pub most : n + suc j ≤ 16 * suc k + spare
     pub proper : Proper (sides_of (setting w top)) at
     pub traps_there : step w.flat at ≡ traps j t s
 
-  abbrev pub FlatNext : (top : ℕ) → Next → Configuration → Type 0
-  FlatNext top (steps k d) f = FlatSteps top k d f
-  FlatNext top (asks k i args d) f = FlatAsks top k i args d f
-  FlatNext top (returns k vs s) f = FlatReturns top k vs s f
-  FlatNext top (traps k t s) f = FlatTraps top k t s f
-  FlatNext top stuck f = ⊥
+  abbrev pub FlatNext : (top spare : ℕ) → Next → Configuration → Type 0
+  FlatNext top spare (steps k d) f = FlatSteps top spare k d f
+  FlatNext top spare (asks k i args d) f = FlatAsks top spare k i args d f
+  FlatNext top spare (returns k vs s) f = FlatReturns top spare k vs s f
+  FlatNext top spare (traps k t s) f = FlatTraps top spare k t s f
+  FlatNext top spare stuck f = ⊥
 
-  -- the flat side goes on, and both are linked
+  -- the flat side goes on, and both are linked, with something to spare
   pub record FlatOn (top most : ℕ) (c f : Configuration) : Type 0 where
     pub n : ℕ
-    pub few : n ≤ most
+    pub left : ℕ
+    pub few : n + left ≤ most
     pub to : Configuration
     pub goes : Still (setting w top) f n to
-    pub link : L top c to
+    pub link : L top left c to
 
   -- the host's call of a function
   pub record FlatEnters (x : ℕ) (args : List Value) (f : Func) (s : Store) : Type 0 where
@@ -141,16 +144,16 @@ module _ (w : World) (Live : Configuration → Configuration → Type 0) (L : (t
     pub live : Live d chosen
     pub waits : W top i chosen (record { store = f.store; here = a; under = us })
 
-  -- WHAT FLATTENING OWES. `L` links a configuration of the original that runs with a flat one, `W` one that waits for an
-  -- import's answer; `G` says that a store's values are in range.
+  -- WHAT FLATTENING OWES. `L` links a configuration of the original that runs with a flat one, with so much to spare, `W` one that
+  -- waits for an import's answer; `G` says that a store's values are in range.
   pub record FlatLaw : Type 0 where
-    pub store : (top : ℕ) (c f : Configuration) → L top c f → f.store ≡ c.store
-    pub good : (top : ℕ) (c f : Configuration) → L top c f → G c.store
+    pub store : (top spare : ℕ) (c f : Configuration) → L top spare c f → f.store ≡ c.store
+    pub good : (top spare : ℕ) (c f : Configuration) → L top spare c f → G c.store
     pub waits_store : (top i : ℕ) (d f : Configuration) → W top i d f → f.store ≡ d.store
     pub waits_good : (top i : ℕ) (d f : Configuration) → W top i d f → G d.store
     pub waits_known : (top i : ℕ) (d f : Configuration) → W top i d f → (i < func_imports (base w)) × (i < w.funcs)
     pub small : (s : Store) → G s → length s.memory < 2 ^ 32
-    pub reduces : (top : ℕ) (c f : Configuration) → L top c f → StaysOff w.plan.area (length c.store.memory) (next_access c) → FlatNext top (step (base w) c) f
+    pub reduces : (top spare : ℕ) (c f : Configuration) → L top spare c f → StaysOff w.plan.area (length c.store.memory) (next_access c) → FlatNext top spare (step (base w) c) f
     pub answered : (top i : ℕ) (d f : Configuration) (start : Bool) (a : Answer) → W top i d f → AnswerFits a → fault_of (func_type_at (base w) i).results (length d.store.memory) w.plan start i a ≡ None
         → FlatOn top 4 (resumed d (poked d.store a.pokes) (option_to_list a.value)) (resumed f (poked d.store a.pokes) (option_to_list a.value))
     pub enters : (x : ℕ) (args : List Value) (f : Func) (s : Store) → AreLawful (func_type_at (base w) x).params args → G s → defined_at (base w) x ≡ Some f → FlatEnters x args f s

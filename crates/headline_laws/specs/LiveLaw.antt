@@ -35,11 +35,11 @@ pub record LiveLaw (w : World) (Live : Configuration → Configuration → Type 
 
 -- ---- both relations with that step in between
 
-module _ (Live : Configuration → Configuration → Type 0) (L : (top : ℕ) → Configuration → Configuration → Type 0) (W : (top import : ℕ) → Configuration → Configuration → Type 0) where
-  pub record L2 (top : ℕ) (c f : Configuration) : Type 0 where
+module _ (Live : Configuration → Configuration → Type 0) (L : (top spare : ℕ) → Configuration → Configuration → Type 0) (W : (top import : ℕ) → Configuration → Configuration → Type 0) where
+  pub record L2 (top spare : ℕ) (c f : Configuration) : Type 0 where
     pub chosen : Configuration
     pub live : Live c chosen
-    pub link : L top chosen f
+    pub link : L top spare chosen f
 
   pub record W2 (top import : ℕ) (d f : Configuration) : Type 0 where
     pub chosen : Configuration

@@ -7,9 +7,9 @@ use Rattle.std.proofs.lemmas.Bool.{eqb-false}
 use Rattle.wa_model.specs.Script.{ProgramText, Script, ScriptFault, breaks, too_many}
 use Rattle.wa_model.specs.ScriptLines.{Statement, begins_program, lists_imports, ignores_imports, saves, has_area, has_steps, sets_global, binds, enters, answers, shows, detaches, line_says}
 use Rattle.wa_model.specs.ScriptText.{AreaText, Group, Numbered, area_of, fault_of, grouped, grouped_with, has_bad_list}
-use Rattle.wa_model.specs.ScriptText.{in_program, is_early, is_one_too_many, is_program, is_repeated, lines_by, most_programs, onto}
+use Rattle.wa_model.specs.ScriptText.{in_program, is_early, is_one_too_many, is_program, is_repeated, lines_by, onto}
 use Rattle.wa_model.specs.ScriptText.{program_of, programs_of, script_of, script_text, statements, told_by, detach_of, unless_fault, with_line, with_program, with_programs}
-use Rattle.host_files.specs.Scripts.{IsScript, in_front_of, is_earlier, served_script}
+use Rattle.host_files.specs.Scripts.{IsScript}
 
 -- ---- lines of programs
 
@@ -132,21 +132,5 @@ few_in_text : (bytes : List ℕ) (s : Script) → script_text bytes ≡ Ok s →
 unfolding script_text
 few_in_text bytes s e = few_of (statements 1 [] (lines bytes)) s (λ ss told. few_told (lines bytes) 1 [] ss (omega arith) told) e
 
--- a script that is served is the text's
-never_ok : (b : Bool) (f g : ScriptFault) (s : Script) → (if b then Err f else Err g) ≡ Ok s → ⊥
-never_ok true f g s e = cc
-never_ok false f g s e = cc
-
-in_front_ok : (live : Option ℕ) (told : Result Script ScriptFault) (s : Script) → in_front_of live told ≡ Ok s → told ≡ Ok s
-in_front_ok None told s e = e
-in_front_ok (Some live) (Ok x) s e = absurd cc
-in_front_ok (Some live) (Err (too_many found)) s e = absurd cc
-in_front_ok (Some live) (Err (breaks line rule)) s e =
-    absurd (never_ok (is_earlier line rule live) (breaks line rule) (breaks live 3) s e)
-
-pub served_text : (bytes : List ℕ) (s : Script) → served_script bytes ≡ Ok s → script_text bytes ≡ Ok s
-unfolding served_script
-served_text bytes s e = in_front_ok _ (script_text bytes) s e
-
 pub few_programs : (bytes : List ℕ) (s : Script) → IsScript bytes s → length s.programs ≤ 16
-few_programs bytes s is = few_in_text bytes s (served_text bytes s is.text)
+few_programs bytes s is = few_in_text bytes s is.text

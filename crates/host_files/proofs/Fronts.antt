@@ -9,7 +9,7 @@ use Rattle.wa_types.specs.declared.bounds.LimitKind.TheVariants.{File, Functions
 use Rattle.wa_types.specs.ModuleBounds.{prepared_bounds}
 use Rattle.wa_types.specs.Syntax.{Module}
 use Rattle.wa_model.specs.Script as T
-use Rattle.wa_model.specs.Transcript.{Refusal, usage, out_of_memory, not_built, malformed, float, nesting, invalid, limit, reserved, script, read_fault, write_fault}
+use Rattle.wa_model.specs.Transcript.{Refusal, usage, out_of_memory, malformed, float, nesting, invalid, limit, reserved, script, read_fault, write_fault}
 use Rattle.wasm_reader.specs.declared.read_fault.ReadFault.{ReadFault}
 use Rattle.wasm_reader.specs.declared.read_fault.ReadFault.TheVariants as R
 use Rattle.wasm_reader.specs.Answers.{IsAccepted, IsRefused}
@@ -70,7 +70,6 @@ unprepared_whole bytes (limit what found) h = refused_whole bytes (R.Limit what 
 unprepared_whole bytes (invalid func rule at) h = (h.0, accepted_whole bytes h.0 h.1, h.2)
 unprepared_whole bytes usage h = absurd h
 unprepared_whole bytes out_of_memory h = absurd h
-unprepared_whole bytes not_built h = absurd h
 unprepared_whole bytes (reserved name) h = absurd h
 unprepared_whole bytes (script line rule) h = absurd h
 unprepared_whole bytes (read_fault name) h = absurd h
@@ -128,7 +127,6 @@ content_of bytes (reserved name) h = tt
 content_of bytes (script line rule) h = tt
 content_of bytes usage h = h
 content_of bytes out_of_memory h = h
-content_of bytes not_built h = h
 content_of bytes (read_fault name) h = h
 content_of bytes (write_fault name) h = h
 

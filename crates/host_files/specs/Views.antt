@@ -1,39 +1,14 @@
 -- What is answered, as plain data.
-use Rattle.std.specs.Prelude.{◌≡◌, ℕ, List, Option, Some, Result, Ok, Err}
+use Rattle.std.specs.Prelude.{◌≡◌, ℕ, List, Option, Some}
 use Rattle.vault_port.specs.Files.{Files}
 use Rattle.vault_port.specs.Told.{WhereTold}
-use Rattle.wa_model.specs.Script as T
-use Rattle.wa_model.specs.ScriptLines.{Statement}
-use Rattle.script_reader.specs.declared.script.Script.{Script}
-use Rattle.script_reader.specs.Views.{script_of}
 use Rattle.transcript.specs.Printing.{refusal_of}
 use Rattle.host_modules.specs.declared.reading.PreparedFault.{PreparedFault}
 use Rattle.host_modules.specs.declared.reading.PreparedFault.TheVariants as P
 use Rattle.host_modules.specs.Prepared.{IsOfContent, IsUnprepared}
 use Rattle.host_files.specs.declared.fault.FileFault.{FileFault}
 use Rattle.host_files.specs.declared.fault.FileFault.TheVariants.{Memory, Read, Refused}
-use Rattle.host_files.specs.declared.serving.Seen.{Seen}
-use Rattle.host_files.specs.declared.serving.Seen.TheVariants.{On, Found}
-use Rattle.host_files.specs.declared.serving.ServeFault.{ServeFault}
-use Rattle.host_files.specs.declared.serving.ServeFault.TheVariants as S
-use Rattle.host_files.specs.declared.serving.Told.{Told}
-use Rattle.host_files.specs.declared.serving.Told.TheVariants.{Rule, TooMany}
-use Rattle.host_files.specs.Scripts.{live_by, IsNoScript}
-
-abbrev pub fault_of : Told → T.ScriptFault
-fault_of (Rule line rule) = T.breaks line rule
-fault_of (TooMany found) = T.too_many found
-
--- The script that is told, or the fault tells why there is none; want of memory may come at any time.
-abbrev pub Serves : Result Script ServeFault → Result T.Script T.ScriptFault → Type 0
-Serves (Ok s) told = told ≡ Ok (script_of s)
-Serves (Err S.Memory) told = Unit {0}
-Serves (Err (S.Fault fault)) told = told ≡ Err (fault_of fault)
-
--- what a line says to the search: it goes on, or ends so, whatever stands behind
-abbrev pub Sees : (line room : ℕ) → Result (Option Statement) ℕ → Seen → Type 0
-Sees line room says (On next) = (later : ℕ → Option ℕ) → live_by line room says later ≡ later next
-Sees line room says (Found found) = (later : ℕ → Option ℕ) → live_by line room says later ≡ found
+use Rattle.host_files.specs.Scripts.{IsNoScript}
 
 -- a refusal for which the bytes are no script
 abbrev pub IsNoScriptFor : List ℕ → FileFault → Type 0

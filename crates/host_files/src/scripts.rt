@@ -4,15 +4,16 @@ ghost use Rattle.std.specs.Result.{IfErr};
 ghost use Rattle.vault_port.specs.Counts.{HasRisen};
 ghost use Rattle.vault_port.specs.Files.{IsMissing};
 ghost use Rattle.vault_port.specs.Told.{WhereTold};
+ghost use Rattle.wa_types.specs.declared.bounds.LimitKind.TheVariants.{Programs as some_programs};
+ghost use Rattle.wa_model.specs.Transcript.{limit};
 ghost use Rattle.transcript.specs.Printing.{refusal_of};
 ghost use Rattle.script_reader.specs.Views.{script_of};
 ghost use Rattle.host_modules.specs.Prepared.{IsOfContent};
-ghost use Rattle.host_files.specs.Scripts.{IsScript, refusal_for};
-ghost use Rattle.host_files.specs.Views.{Holds, IsContentFault, IsNoScriptFor, IsToldNoScript, fault_of};
+ghost use Rattle.host_files.specs.Scripts.{IsScript};
+ghost use Rattle.host_files.specs.Views.{Holds, IsContentFault, IsNoScriptFor, IsToldNoScript};
 
 use crate::fault::FileFault;
-use crate::serving::{ServeFault, Told, served_script};
-use script_reader::Script;
+use script_reader::{Script, ScriptFault, read_script};
 use std::alloc::Global;
 use transcript::RefusalKind;
 use vault_port::{FetchFault, Vault, fetch_whole};
@@ -58,22 +59,23 @@ fn script_in(alloc: Global, bytes: &[u8]) -> Result<Script, FileFault>
             found: FETCH_LIMIT,
         }));
     }
-    match served_script(alloc, bytes) {
+    match read_script(alloc, bytes) {
         Ok(script) => Ok(script),
-        Err(ServeFault::Memory) => Err(FileFault::Memory),
-        Err(ServeFault::Fault(fault)) => Err(FileFault::Refused(refusal(fault))),
+        Err(ScriptFault::Memory) => Err(FileFault::Memory),
+        Err(ScriptFault::Rule { line, rule }) => Err(FileFault::Refused(RefusalKind::Script {
+            line,
+            rule,
+        })),
+        Err(ScriptFault::TooMany { found }) => Err(FileFault::Refused(too_many(found))),
     }
 }
 
-fn refusal(fault: Told) -> RefusalKind
-    ensures fault { refusal_of result ≡ refusal_for (fault_of fault) }
-    ensures content { IsOfContent (refusal_of result) }
+// There are so many programs.
+fn too_many(found: u32) -> RefusalKind
+    ensures { refusal_of result ≡ limit some_programs found }
 {
-    match fault {
-        Told::Rule { line, rule } => RefusalKind::Script { line, rule },
-        Told::TooMany { found } => RefusalKind::Limit {
-            what: LimitKind::Programs,
-            found: u64::from(found),
-        },
+    RefusalKind::Limit {
+        what: LimitKind::Programs,
+        found: u64::from(found),
     }
 }

@@ -4,7 +4,7 @@ use Rattle.wa_types.specs.ModuleBounds.{prepared_bounds}
 use Rattle.wa_types.specs.FirstFault.{FirstFault}
 use Rattle.wa_types.specs.Syntax.{Module}
 use Rattle.wa_types.specs.Validity.{Valid}
-use Rattle.wa_model.specs.Transcript.{Refusal, usage, out_of_memory, not_built, malformed, float, nesting, limit, invalid, read_fault, write_fault}
+use Rattle.wa_model.specs.Transcript.{Refusal, usage, out_of_memory, malformed, float, nesting, limit, invalid, read_fault, write_fault}
 use Rattle.wasm_reader.specs.declared.read_fault.ReadFault.TheVariants.{Malformed, Float, Deep, Limit}
 use Rattle.wasm_reader.specs.Answers.{IsAccepted, IsRefused}
 
@@ -26,7 +26,6 @@ IsUnprepared bytes _ = ⊥
 abbrev pub IsOfContent : Refusal → Type 0
 IsOfContent usage = ⊥
 IsOfContent out_of_memory = ⊥
-IsOfContent not_built = ⊥
 IsOfContent (read_fault name) = ⊥
 IsOfContent (write_fault name) = ⊥
 IsOfContent _ = Unit {0}

@@ -21,6 +21,7 @@ use wa_model::Call;
 use wa_types::Value;
 
 /// Runs a stack until it returns, traps, waits or has spent its steps.
+#[inline(never)]
 pub fn go_on<'m>(
     program: &Program<'m>,
     store: &mut Store,
@@ -36,7 +37,11 @@ pub fn go_on<'m>(
     ensures grows { steps.old.used ≤ steps.new.used }
     ensures max { store.new.memory.max ≡ store.old.memory.max }
 {
-    match run(program, store, &mut stack, steps)? {
+    // A copy, so that the loop keeps its numbers in registers.
+    let mut paid = *steps;
+    let ran = run(program, store, &mut stack, &mut paid);
+    *steps = paid;
+    match ran? {
         Stop::Returned(value) => Ok((Turn::Returned(value), Wait::Nothing)),
         Stop::Trapped(trap) => Ok((Turn::Trapped(trap), Wait::Nothing)),
         Stop::Asked { import, own, taken } => {

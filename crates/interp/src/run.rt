@@ -49,6 +49,7 @@ pub fn pay(steps: &mut Steps, more: u64)
 
 /// Goes on by reductions up to the first return, trap or call of an import, or to one that costs more than is left. Memory
 /// may be wanting at calls and `memory.grow` alone.
+#[inline(always)]
 pub fn run<'m>(
     program: &Program<'m>,
     store: &mut Store,

@@ -1,1 +1,2 @@
+pub mod BytesByPolicy
 pub mod LiveLength

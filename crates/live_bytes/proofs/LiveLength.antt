@@ -80,7 +80,7 @@ entry_holds f =
       length-append (code_bytes f.body) (0x0B ∷ []),
     )
 
-numbers_take : (m : Module) (s : Settings) (which : List Bool) (f : Func) → length (Numbered m s which f) ≤ length (entry f)
+pub numbers_take : (m : Module) (s : Settings) (which : List Bool) (f : Func) → length (Numbered m s which f) ≤ length (entry f)
 numbers_take m s which f = omega (arith, numbered_few (has_number m s which) 0 (calls_in f), calls_take f.body, entry_holds f)
 
 -- ---- all functions
@@ -93,7 +93,7 @@ all_more : (fs : List Func) → sum_by more fs ≡ 1500000 * length (flat_map en
 all_more [] = omega arith
 all_more (f ∷ fs) = omega (arith, sum_by-cons more f fs, all_more fs, length-append (entry f) (flat_map entry fs))
 
-entries_short : (m : Module) → length (flat_map entry m.funcs) ≤ length (Enc m)
+pub entries_short : (m : Module) → length (flat_map entry m.funcs) ≤ length (Enc m)
 entries_short m = omega (arith, enc_length m, entries_within 10 entry m.funcs)
 
 module _ (m : Module) (s : Settings) (which : List Bool) (parts : (index : ℕ) → SavedParts) (r : LiveRewriting m s which parts) where

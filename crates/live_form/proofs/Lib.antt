@@ -3,3 +3,4 @@ pub mod LiveHold
 pub mod LiveModules
 pub mod PartRows
 pub mod PolicyCases
+pub mod OneEmitted

@@ -1,5 +1,5 @@
 -- The module that the policy `live` emits is its original, rewritten.
-use Rattle.std.proofs.Common.{◌≡◌, ◌≤◌, ℕ, ◌+◌, ◌*◌, List, [], length, Option, Some, None, Bool, true, sym, ap}
+use Rattle.std.proofs.Common.{◌∙◌, ◌≡◌, ◌≤◌, ℕ, ◌+◌, ◌*◌, List, [], length, Option, Some, None, Bool, true, sym, ap}
 use Rattle.std.specs.Prelude.{slice_get}
 use Rattle.wa_types.specs.Modules.{defined_at}
 use Rattle.wa_types.specs.Pausing.{Numbered, Settings, is_told}
@@ -10,12 +10,13 @@ use Rattle.wa_model.specs.Quiet.{FreeOfNames}
 use Rattle.range_laws.proofs.BlockingRuns.{well_formed_in}
 use Rattle.call_frames.specs.PlainFrames.{SavedParts, frames_of}
 use Rattle.guard_frames.specs.Joined.{one_frame}
-use Rattle.flat_guards.specs.Emitted.{Emitted, Framing}
+use Rattle.slim_modules.specs.SlimModule.{Pieces}
+use Rattle.flat_guards.specs.Emitted.{Emitted, Framing, plain_at, plain_where}
 use Rattle.rewrite_form.specs.CodesHold.{AllCodesHold, AllCodesSmall, codes_size}
 use Rattle.rewrite_form.proofs.EmittedRewritten.{emitted_valid, rewritten_but_runs, runs_law}
 use Rattle.rewrite_form.proofs.EmittedSizes.{emitted_sizes}
 use Rattle.emitted_bytes.proofs.FitsBy.{AllCodesFit, emitted_fits}
-use Rattle.rewrite_runs.proofs.EmittedSo.{HaveCodes, emitted_so}
+use Rattle.rewrite_runs.proofs.EmittedSo.{HaveCodes, HavePlainPieces, emitted_so}
 use Rattle.live_guards.specs.ByCallFraming.{framing_by_call}
 use Rattle.live_guards.specs.LiveFraming.{LiveFraming}
 use Rattle.live_guards.proofs.ByCallFramed.{by_call_framed}
@@ -41,22 +42,25 @@ module _ (m : Module) (s : Settings) (which : List Bool) (parts : (index : ℕ) 
 
   -- ---- its frames
 
-  abbrev framing_of : SavedParts → Option Func → Framing
-  framing_of p None = record { restoring = done; saving = done; frame_at = λ place. one_frame (record { address = 0; index = 0; scratch = 0; fields = [] }) }
-  framing_of p (Some f) = framing_by_call m s which f (frames_of p)
+  abbrev framing_of : Pieces → SavedParts → Option Func → Framing
+  framing_of pieces p None = record { pieces = pieces; restoring = done; saving = done; frame_at = λ place. one_frame (record { address = 0; index = 0; scratch = 0; fields = [] }) }
+  framing_of pieces p (Some f) = framing_by_call m s which f pieces (frames_of p)
 
   abbrev frames : (index : ℕ) → Framing
-  frames x = framing_of (parts x) (defined_at m x)
+  frames x = framing_of (plain_at m s which x) (parts x) (defined_at m x)
 
-  frames_are : (x : ℕ) (f : Func) → defined_at m x ≡ Some f → frames x ≡ framing_by_call m s which f (frames_of (parts x))
-  frames_are x f is = ap (framing_of (parts x)) is
+  frames_are : (x : ℕ) (f : Func) → defined_at m x ≡ Some f → frames x ≡ framing_by_call m s which f (plain_at m s which x) (frames_of (parts x))
+  frames_are x f is = ap (framing_of (plain_at m s which x) (parts x)) is
+
+  plain : HavePlainPieces m s which frames
+  plain x f is = ap (λ (z : Framing). z.pieces) (frames_are x f is) ∙ ap (plain_where m s which x) is
 
   have : HaveCodes m (live_codes parts) frames
   have x f is = ap (λ (z : Framing). record { restoring = z.restoring; saving = z.saving }) (sym (frames_are x f is))
 
   framed : LiveFraming m s which frames
   framed x f is told k place at =
-      by_call_framed m s which frames x f (frames_of (parts x)) (frames_are x f is)
+      by_call_framed m s which frames x f (plain_at m s which x) (frames_of (parts x)) (frames_are x f is)
       (live_kept m s which r.valid r.sizes x f (parts x) is (told_calls m s which r.tells x f is told) (r.few x f is told) (r.live x f is told)) k place at
 
   -- ---- the module
@@ -65,7 +69,7 @@ module _ (m : Module) (s : Settings) (which : List Bool) (parts : (index : ℕ) 
   live_valid free = emitted_valid m s which (live_codes parts) r.valid hold free
 
   live_emitted : FreeOfNames m → Emitted m s which frames (live_asyncified m s which parts)
-  live_emitted free = emitted_so m s which (live_codes parts) frames r.valid have hold free r.sizes r.few r.tells
+  live_emitted free = emitted_so m s which (live_codes parts) frames r.valid have plain hold free r.sizes r.few r.tells
 
   live_behaves : FreeOfNames m → Behaves m s (live_asyncified m s which parts)
   live_behaves free wf told tells plan os n cmp pauses =

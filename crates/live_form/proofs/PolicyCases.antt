@@ -24,7 +24,7 @@ use Rattle.live_form.proofs.LiveModules as Live
 
 -- ---- laws
 
-live_rewriting : (m : Module) (s : Settings) (which : List Bool) (parts : (index : ℕ) → SavedParts) → CanBeEmitted m s which → s.policy ≡ save_live → AllLiveParts m s which parts
+pub live_rewriting : (m : Module) (s : Settings) (which : List Bool) (parts : (index : ℕ) → SavedParts) → CanBeEmitted m s which → s.policy ≡ save_live → AllLiveParts m s which parts
     → LiveRewriting m s which parts
 live_rewriting m s which parts c policy live = record { valid = c.valid; sizes = c.sizes; few = c.few; policy = policy; tells = c.tells; live = live }
 

@@ -1,4 +1,4 @@
--- What is emitted, by the policy of the settings: under `live` the parts of the frames are free, as long as they are those of the policy.
+-- What is emitted, by the policy of the settings.
 use Rattle.std.specs.Prelude.{◌≡◌, ℕ, suc, List, [], ◌∷◌, Bool, true, false, slice_get}
 use Rattle.wa_types.specs.Modules.{func_imports}
 use Rattle.wa_types.specs.Pausing.{Policy, Settings, is_told, save_all, save_live}

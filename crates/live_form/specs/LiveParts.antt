@@ -1,5 +1,5 @@
 -- The module that the policy `live` emits: its frames are told by numbers of calls, and keep at each call what the policy saves there.
-use Rattle.std.specs.Prelude.{◌≡◌, ◌≤◌, ◌<◌, ℕ, suc, ◌+◌, ◌*◌, List, [], ◌∷◌, length, Some, Bool, true, slice_get}
+use Rattle.std.specs.Prelude.{◌≡◌, ◌≤◌, ◌<◌, ℕ, suc, ◌+◌, ◌*◌, List, [], ◌∷◌, length, map, Some, Bool, true, slice_get}
 use Rattle.std.specs.List.{sum_by}
 use Rattle.wa_types.specs.Frames.{Saved}
 use Rattle.wa_types.specs.Modules.{defined_at}
@@ -7,6 +7,8 @@ use Rattle.wa_types.specs.Pausing.{Numbered, Settings, is_told, save_live}
 use Rattle.wa_types.specs.Runtime.{global_space}
 use Rattle.wa_types.specs.Syntax.{done, Func, Module}
 use Rattle.flat_laws.specs.Flatten.{flattened}
+use Rattle.frame_laws.specs.Layout.{FrameField}
+use Rattle.call_classes.specs.CallParts.{call_parts}
 use Rattle.call_frames.specs.FrameParts.{restoring_by_call, saving_by_call}
 use Rattle.call_frames.specs.PlainFrames.{SavedPart, at_every, at_these, SavedParts, call_fields, frames_of}
 use Rattle.call_frames.specs.PlainLaws.{NameCalls, named_calls, parts_size, sizes_size}
@@ -40,9 +42,14 @@ NumbersBelow n (at_these ks fs ∷ ps) = AllBelow n ks × NumbersBelow n ps
 abbrev pub saved_total : Module → Func → (places : List ℕ) → ℕ
 saved_total m f places = sum_by (λ place. length (Saved m save_live f place)) places
 
--- The parts of a function's frames: those of each numbered call are in a row what the policy saves there, each names a numbered call
--- and in all no more than there are; and what the codes take by what the calls save.
+-- what the frames of the numbered calls of a function keep, call by call
+abbrev pub kept_by_calls : Module → Settings → (which : List Bool) → Func → List (List FrameField)
+kept_by_calls m s which f = map (fields_at m f) (Numbered m s which f)
+
+-- The parts of a function's frames, which are made of what its calls keep: those of each numbered call are in a row what the policy saves
+-- there, each names a numbered call and in all no more than there are; and what the codes take by what the calls save.
 pub record LiveParts (m : Module) (s : Settings) (which : List Bool) (x : ℕ) (f : Func) (p : SavedParts) : Type 0 where
+  pub made : p.parts ≡ call_parts (kept_by_calls m s which f)
   pub count : p.count ≡ length (Numbered m s which f)
   pub address : p.address ≡ suc (global_space m)
   pub index : p.index ≡ length (flattened m x f).locals

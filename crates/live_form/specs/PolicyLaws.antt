@@ -1,5 +1,5 @@
 -- Laws of what is emitted, for both policies.
-use Rattle.std.specs.Prelude.{List, Bool}
+use Rattle.std.specs.Prelude.{◌≡◌, List, Bool}
 use Rattle.wa_types.specs.Pausing.{Settings, TellsMayPause}
 use Rattle.wa_types.specs.Sizes.{SizeRule, StrictSizeRule}
 use Rattle.wa_types.specs.Syntax.{Module}
@@ -32,3 +32,7 @@ EmittedAsRewrites = (m : Module) (s : Settings) (which : List Bool) (q : Module)
 -- It keeps the size rule.
 abbrev pub EmittedAsKeepsSizes : Type 0
 EmittedAsKeepsSizes = (m : Module) (s : Settings) (which : List Bool) (q : Module) → CanBeEmitted m s which → EmittedAs m s which q → SizeRule q
+
+-- One module is emitted.
+abbrev pub OneIsEmitted : Type 0
+OneIsEmitted = (m : Module) (s : Settings) (which : List Bool) (p q : Module) → EmittedAs m s which p → EmittedAs m s which q → p ≡ q

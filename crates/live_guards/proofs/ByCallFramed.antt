@@ -17,12 +17,13 @@ use Rattle.guard_form.specs.Guarded.{front}
 use Rattle.guard_form.specs.Pieces.{first_piece, units}
 use Rattle.guard_frames.specs.Joined.{CallFrame, written_of}
 use Rattle.live_stacks.specs.LiveFrames.{fields_at}
+use Rattle.slim_modules.specs.SlimModule.{Pieces}
 use Rattle.flat_guards.specs.Emitted.{Framing}
 use Rattle.flat_guards.proofs.WantedFields.{number_is}
 use Rattle.live_guards.specs.ByCallFraming.{FramesByCallAreLive, PartsKeepLive, call_frame, framing_by_call}
 use Rattle.live_guards.specs.LiveFraming.{LiveFrame}
 
-module _ (m : Module) (s : Settings) (which : List Bool) (x : ℕ) (f : Func) (c : CallFrames) (h : PartsKeepLive m s which x f c) (k place : ℕ)
+module _ (m : Module) (s : Settings) (which : List Bool) (x : ℕ) (f : Func) (pieces : Pieces) (c : CallFrames) (h : PartsKeepLive m s which x f c) (k place : ℕ)
     (at : slice_get (Numbered m s which f) k ≡ Some place) where
   -- the function, and the frame of a call
   abbrev guards : Framing → GuardedFunc
@@ -31,15 +32,15 @@ module _ (m : Module) (s : Settings) (which : List Bool) (x : ℕ) (f : Func) (c
     restoring = z.restoring;
     saving = z.saving;
     result = (flattened (Base m) x f).result;
-    first = first_piece (Numbered m s which f) 0 (flattened (Base m) x f).body;
-    body = units (Numbered m s which f) 0 (flattened (Base m) x f).body;
+    first = z.pieces.first;
+    body = z.pieces.units;
   }
 
   abbrev frame : Option ℕ → CallFrame
   frame o = call_frame c (unwrap_or o 0)
 
   abbrev here : Framing
-  here = framing_by_call m s which f c
+  here = framing_by_call m s which f pieces c
 
   number : call_number m s which f place ≡ Some k
   number = number_is m s which f k place at
@@ -58,7 +59,7 @@ module _ (m : Module) (s : Settings) (which : List Bool) (x : ℕ) (f : Func) (c
   cost : (here.frame_at place).save_most + (here.frame_at place).restore_most ≤ 64 * (Weight m f + 4)
   cost = subst (λ o. (frame o).save_most + (frame o).restore_most ≤ 64 * (Weight m f + 4)) (sym number) (h.cost k place at)
 
-  framed : (frames : (index : ℕ) → Framing) → frames x ≡ framing_by_call m s which f c → LiveFrame m s which frames x f k place
+  framed : (frames : (index : ℕ) → Framing) → frames x ≡ framing_by_call m s which f pieces c → LiveFrame m s which frames x f k place
   framed frames e = record {
     codes = subst (λ z. FrameCodes (written_of (global_space m) (guards z) (z.frame_at place)) k) (sym e) codes;
     address = ap (λ (z : Framing). (z.frame_at place).layout.address) e ∙ h.address;
@@ -69,4 +70,4 @@ module _ (m : Module) (s : Settings) (which : List Bool) (x : ℕ) (f : Func) (c
   }
 
 pub by_call_framed : FramesByCallAreLive
-by_call_framed m s which frames x f c e h k place at = framed m s which x f c h k place at frames e
+by_call_framed m s which frames x f pieces c e h k place at = framed m s which x f pieces c h k place at frames e

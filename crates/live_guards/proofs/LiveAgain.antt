@@ -1,6 +1,6 @@
 -- For the policy `live`, suspended stacks of numbered calls stand as frames, and what came back of them stands beside a stack that differs
 -- only in locals that no path reads first.
-use Rattle.std.proofs.Common.{◌≡◌, ℕ, ◌≤◌, List, [], ◌∷◌, ◌++◌, length, map, take, drop, Option, Some, Bool, All, sym, ap, ◌∙◌, subst, arith, length-append}
+use Rattle.std.proofs.Common.{◌≡◌, ℕ, ◌≤◌, List, [], ◌∷◌, ◌++◌, length, map, take, drop, Option, Some, None, Bool, All, refl, sym, ap, ◌∙◌, subst, arith, length-append}
 use Rattle.std.specs.Prelude.{slice_get}
 use Rattle.std.proofs.lemmas.List.{append_assoc, length-map, length-take-le, map-append, take-append-drop}
 use Rattle.std.proofs.lemmas.List.Elements.{All-cons, All-head, All-tail}
@@ -16,11 +16,16 @@ use Rattle.wa_types.specs.declared.values.ValType.{ValType}
 use Rattle.wa_types.specs.declared.values.Value.{Value}
 use Rattle.wa_model.specs.Behaves.{StandsNumbered}
 use Rattle.wa_model.specs.Configuration.{Activation, Configuration, place_of, stack_of}
-use Rattle.wa_model.specs.Fitting.{results_of, types_of, WaitingFits}
+use Rattle.wa_model.specs.Fitting.{CallersFit, results_of, types_of, WaitingFits}
 use Rattle.wa_model.specs.Plan.{Plan}
 use Rattle.wa_model.specs.Plan as P
 use Rattle.range_laws.specs.Ranges.{ActivationIn, CodesIn}
-use Rattle.flat_runs.specs.Beside.{Asked, Beside, Callers}
+use Rattle.flat_laws.specs.FlatModule.{flat_module}
+use Rattle.flat_runs.specs.Beside.{Callers}
+use Rattle.frame_laws.specs.FrameMemory.{IsKept}
+use Rattle.slim_runs.specs.Beside.{Unders, moved}
+use Rattle.flat_guards.proofs.MovedStacks.{AllAgain, callers_moved, fits_moved, moved_all, unders_moved}
+use Rattle.flat_guards.proofs.SlimStacks.{w as sides_here}
 use Rattle.frame_laws.specs.Layout.{kept}
 use Rattle.guard_frames.specs.Returned.{AllSameFlat, SameFlat}
 use Rattle.guard_runs.specs.Stopped.{Stopped}
@@ -29,13 +34,13 @@ use Rattle.headline_laws.specs.World.{setting}
 use Rattle.flat_links.specs.Core.{Core, world_of}
 use Rattle.flat_links.specs.Links.{GoodStore, LinkedWaits, StandsLaw}
 use Rattle.flat_links.specs.Links as N
-use Rattle.flat_guards.specs.CoreOf.{core_of}
+use Rattle.flat_guards.specs.CoreOf.{RunsBeside, WaitsBeside, call_place, core_of}
 use Rattle.flat_guards.specs.Emitted.{Emitted, Framing}
 use Rattle.flat_guards.proofs.CallPoints.{base_saved}
-use Rattle.flat_guards.proofs.NumberedStacks.{AllAtNumbers, AtNumber, numbers}
+use Rattle.flat_guards.proofs.NumberedStacks.{AllAtNumbers, AtNumber}
 use Rattle.flat_guards.proofs.PairedFlat.{base_defined}
-use Rattle.flat_guards.proofs.PairedStacks.{AllPairs, PairAt, call_frame_is}
-use Rattle.flat_guards.proofs.WaitsAgain.{AllMore, flat_again, front_same, numbers_at, pairs_at, stands, written_fit}
+use Rattle.flat_guards.proofs.PairedStacks.{AllPairs, PairAt, call_frame_is, pairs}
+use Rattle.flat_guards.proofs.WaitsAgain.{AllMore, flat_again, front_same, numbers, numbers_at, pairs_at, stands, written_fit}
 use Rattle.flat_guards.proofs.WrittenLocals.{written_locals}
 use Rattle.live_laws.specs.SameLive.{SameLive, SameUnder}
 use Rattle.live_stacks.specs.LiveFrames.{AllFramed, AllTold, fields_at}
@@ -63,11 +68,11 @@ module _ (m : Module) (s : Settings) (which : List Bool) (frames : (index : ℕ)
   abbrev k : Core
   k = core_of m s which frames plan p
 
-  abbrev B : Configuration → Configuration → Type 0
-  B = Beside (Base m) which
+  abbrev B : (spare : ℕ) → Configuration → Configuration → Type 0
+  B = RunsBeside m s which frames plan p
 
   abbrev A : ℕ → Configuration → Configuration → Type 0
-  A = Asked (Base m) which
+  A = WaitsBeside m s which frames plan p
 
   -- ---- what frames keep, and what came back
 
@@ -119,27 +124,98 @@ module _ (m : Module) (s : Settings) (which : List Bool) (frames : (index : ℕ)
   all_told table g [] h = tt
   all_told table g (a ∷ us) h = (ap is_told (h.0).told, all_told table a.func us h.1)
 
+  -- ---- the flat stack between, with the locals that the slim one had, and with those that came back
+
+  -- it has the same frames
+  place_moved : (v : Activation) (ls : List Value) (o : Option Func) → call_place o v ≡ call_place o (moved v ls)
+  place_moved v ls None = refl
+  place_moved v ls (Some f) = refl
+
+  lay_same : (a v v1 : Activation) (ls : List Value) (table : List (Option ℕ)) (g : ℕ) → PairAt (Base m) which a v → PairAt (Base m) which a v1 → AtNumber m s which valid table g a → k.lay v1 ≡ k.lay (moved v ls)
+  lay_same a v v1 ls table g pv p1 num =
+      let defined : defined_at m a.func ≡ Some num.func = sym (base_defined m a.func) ∙ num.is in
+      call_frame_is m s which frames plan p a v1 p1 num.func defined ∙ sym (call_frame_is m s which frames plan p a v pv num.func defined)
+      ∙ ap (λ i. (frames v.func).frame_at i) (place_moved v ls (defined_at m v.func))
+
+  same_moved : (table : List (Option ℕ)) (g : ℕ) (us vs vs1 cs : List Activation) → AllAtNumbers m s which valid table g us → AllPairs (Base m) which us vs → AllPairs (Base m) which us vs1 → AllSameFlat k.lay vs1 cs
+      → AllSameFlat k.lay (moved_all vs vs1) (moved_all vs cs)
+  same_moved table g [] [] vs1 cs nums pv p1 same = tt
+  same_moved table g [] (v ∷ vs) vs1 cs nums pv p1 same = absurd pv
+  same_moved table g (a ∷ us) [] vs1 cs nums pv p1 same = absurd pv
+  same_moved table g (a ∷ us) (v ∷ vs) [] cs nums pv p1 same = absurd p1
+  same_moved table g (a ∷ us) (v ∷ vs) (v1 ∷ vs1) [] nums pv p1 same = absurd same
+  same_moved table g (a ∷ us) (v ∷ vs) (v1 ∷ vs1) (c ∷ cs) nums pv p1 same =
+      let sm = same.0 in
+      let lay = lay_same a v v1 v1.locals table g pv.0 p1.0 nums.0 in (
+        record {
+          func = refl;
+          taken = refl;
+          code = refl;
+          labels = refl;
+          operands = (pv.0).none;
+          size = sm.size;
+          kept_same = λ y h. sm.kept_same y (subst (λ (z : CallFrame). IsKept y z.layout.fields) (sym lay) h);
+        },
+        same_moved table a.func us vs vs1 cs nums.1 pv.1 p1.1 same.1,
+      )
+
+  framed_moved : (table : List (Option ℕ)) (g : ℕ) (us vs vs1 cs : List Activation) → AllAtNumbers m s which valid table g us → AllPairs (Base m) which us vs → AllPairs (Base m) which us vs1
+      → AllFramed (Base m) k.lay us vs1 cs → AllFramed (Base m) k.lay us (moved_all vs vs1) (moved_all vs cs)
+  framed_moved table g [] [] vs1 cs nums pv p1 h = tt
+  framed_moved table g [] (v ∷ vs) vs1 cs nums pv p1 h = absurd pv
+  framed_moved table g (a ∷ us) [] vs1 cs nums pv p1 h = absurd pv
+  framed_moved table g (a ∷ us) (v ∷ vs) [] cs nums pv p1 h = absurd p1
+  framed_moved table g (a ∷ us) (v ∷ vs) (v1 ∷ vs1) [] nums pv p1 h = absurd h
+  framed_moved table g (a ∷ us) (v ∷ vs) (v1 ∷ vs1) (c ∷ cs) nums pv p1 h =
+      let lay = lay_same a v v1 v1.locals table g pv.0 p1.0 nums.0 in (
+        λ f e. let r = h.0 f e in (ap (λ (z : CallFrame). z.layout.fields) (sym lay) ∙ r.0, r.1),
+        framed_moved table a.func us vs vs1 cs nums.1 pv.1 p1.1 h.1,
+      )
+
+  -- before the pause the slim locals are the original's own, and behind them slots that hold its operands
+  again_before : (us vs1 : List Activation) → AllPairs (Base m) which us vs1 → AllAgain (Base m) which us vs1
+  again_before [] [] ps = tt
+  again_before [] (v ∷ vs) ps = absurd ps
+  again_before (a ∷ us) [] ps = absurd ps
+  again_before (a ∷ us) (v ∷ vs) ps = let pr = ps.0 in (record { func = pr.func; is = pr.is; extra = pr.extra; locals = pr.locals; held = pr.held }, again_before us vs ps.1)
+
+  more_moved : (lay : Activation → CallFrame) (us vs vs1 cs : List Activation) → AllPairs (Base m) which us vs → AllPairs (Base m) which us vs1 → AllSameFlat lay vs1 cs → AllMore p cs → AllMore p (moved_all vs cs)
+  more_moved lay [] [] vs1 cs pv p1 same more = tt
+  more_moved lay [] (v ∷ vs) vs1 cs pv p1 same more = absurd pv
+  more_moved lay (a ∷ us) [] vs1 cs pv p1 same more = absurd pv
+  more_moved lay (a ∷ us) (v ∷ vs) [] cs pv p1 same more = absurd p1
+  more_moved lay (a ∷ us) (v ∷ vs) (v1 ∷ vs1) [] pv p1 same more = absurd same
+  more_moved lay (a ∷ us) (v ∷ vs) (v1 ∷ vs1) (c ∷ cs) pv p1 same more =
+      let func : c.func ≡ v.func = (same.0).func ∙ (p1.0).same_func ∙ sym (pv.0).same_func in
+      (((more.0).0, subst (λ x. LocalsFit p x (c.locals ++ (more.0).0)) func (more.0).1), more_moved lay us vs vs1 cs pv.1 p1.1 same.1 more.1)
+
   -- ---- the original's stack is chosen anew
 
   -- a stack beside the one that came back, which differs from the suspended one only in locals that no path reads first
-  chosen_waits : (i : ℕ) (d f : Configuration) (a : Activation) (us cs : List Activation) → (l : LinkedWaits k B A i d f) → SameUnder (d.here ∷ d.under) cs → Callers (Base m) which i cs (a ∷ us)
-      → AllMore p (a ∷ us)
+  chosen_waits : (i : ℕ) (d f : Configuration) (a v : Activation) (us vs cs : List Activation) → (l : LinkedWaits k B A i d f) → SameUnder (d.here ∷ d.under) cs → Callers (Base m) which i cs (v ∷ vs)
+      → AllMore p (v ∷ vs) → CallersFit (flat_module (Base m) which) l.beside.outs (results_of (flat_module (Base m) which) i) (v ∷ vs) → Unders (sides_here m s which frames plan p valid) (v ∷ vs) (a ∷ us)
       → WaitingFits k.flat l.flat_outs i (record { store = f.store; here = a; under = us }) → ConfigNamed (spaces_of k.flat) (record { store = f.store; here = a; under = us })
       → (chosen : Configuration) × SameLive d chosen × LinkedWaits k B A i chosen (record { store = f.store; here = a; under = us })
-  chosen_waits i d f a us [] l live beside more fits named = let n = chosen_count (d.here ∷ d.under) [] live in absurd (omega arith)
-  chosen_waits i d f a us (h ∷ cs) l live beside more fits named =
+  chosen_waits i d f a v us vs [] l live beside more fq un fits named = let n = chosen_count (d.here ∷ d.under) [] live in absurd (omega arith)
+  chosen_waits i d f a v us vs (h ∷ cs) l live beside more fq un fits named =
       let be = l.beside in
       let rs = l.ranges in
       let ws = l.stands in
       let few = ws.few in
-      let typed = callers_typed (Base m) which i (h ∷ cs) (a ∷ us) beside in
-      let ranged = callers_ranged (Base m) p which i (h ∷ cs) (a ∷ us) beside more in
+      let typed = callers_typed (Base m) which i (h ∷ cs) (v ∷ vs) beside in
+      let ranged = callers_ranged (Base m) p which i (h ∷ cs) (v ∷ vs) beside more in
       let inside = chosen_in (d.here ∷ d.under) (h ∷ cs) live ranged (All-cons ActivationIn d.here d.under rs.here rs.under) in
       let count = chosen_count (d.here ∷ d.under) (h ∷ cs) live in (
         record { store = d.store; here = h; under = cs },
         chosen_live d.store d.here h d.under cs live,
         record {
-          beside = record { same_store = be.same_store; store = be.store; waits = beside };
+          beside = record {
+            between = record { store = (be.between).store; here = v; under = vs };
+            asked = record { same_store = (be.asked).same_store; store = (be.asked).store; waits = beside };
+            outs = be.outs;
+            fits = record { store = (be.fits).store; waits = fq };
+            slim_asked = record { store = (be.slim_asked).store; stack = un };
+          };
           known = l.known;
           outs = l.outs;
           fits = record { store = l.fits.store; waits = chosen_fits (Base m) l.outs (results_of (Base m) i) (d.here ∷ d.under) (h ∷ cs) live typed l.fits.waits };
@@ -165,15 +241,24 @@ module _ (m : Module) (s : Settings) (which : List Bool) (frames : (index : ℕ)
       let at = numbers_at m s which frames plan p valid tells em plan_fits codes i d f l nums in
       let ps = pairs_at m s which frames plan p valid tells em plan_fits codes i d f l nums in
       let more = written_fit (setting (world_of k) top) p i (a ∷ us) us' st fit in
-      let back = stacks_come_back (Base m) which k.lay i (d.here ∷ d.under) (f.here ∷ f.under) (a ∷ us) l.beside.waits l.spots.waits (all_told d.store.table i (d.here ∷ d.under) at) same
-      (all_framed d.store.table i (d.here ∷ d.under) (f.here ∷ f.under) (a ∷ us) ps at same more) in
-      let r = chosen_waits i d f a us back.chosen l back.live back.beside more flat.0 flat.1 in
+      let be = l.beside in
+      let v = be.between in
+      let told = Rattle.flat_guards.proofs.WaitsAgain.all_told m s which frames plan p valid tells em plan_fits codes d.store.table i (d.here ∷ d.under) at in
+      let pv = pairs (Base m) which i (d.here ∷ d.under) (v.here ∷ v.under) (be.asked).waits told in
+      let stood = callers_moved (Base m) which i (d.here ∷ d.under) (v.here ∷ v.under) (f.here ∷ f.under) (be.asked).waits told (again_before (d.here ∷ d.under) (f.here ∷ f.under) ps) in
+      let back = stacks_come_back (Base m) which k.lay i (d.here ∷ d.under) (moved_all (v.here ∷ v.under) (f.here ∷ f.under)) (moved_all (v.here ∷ v.under) (a ∷ us)) stood l.spots.waits
+      (all_told d.store.table i (d.here ∷ d.under) at) (same_moved d.store.table i (d.here ∷ d.under) (v.here ∷ v.under) (f.here ∷ f.under) (a ∷ us) at pv ps same)
+      (framed_moved d.store.table i (d.here ∷ d.under) (v.here ∷ v.under) (f.here ∷ f.under) (a ∷ us) at pv ps (all_framed d.store.table i (d.here ∷ d.under) (f.here ∷ f.under) (a ∷ us) ps at same more)) in
+      let r = chosen_waits i d f a (moved v.here a.locals) us (moved_all v.under us) back.chosen l back.live back.beside
+      (more_moved k.lay (d.here ∷ d.under) (v.here ∷ v.under) (f.here ∷ f.under) (a ∷ us) pv ps same more)
+      (fits_moved m s which frames plan p k.lay be.outs (results_of (flat_module (Base m) which) i) l.flat_outs (results_of k.flat i) (v.here ∷ v.under) (f.here ∷ f.under) (a ∷ us) (be.slim_asked).stack same (be.fits).waits (flat.0).waits)
+      (unders_moved m s which frames plan p k.lay (d.here ∷ d.under) (v.here ∷ v.under) (f.here ∷ f.under) (a ∷ us) (be.slim_asked).stack ps same) flat.0 flat.1 in
       record { chosen = r.0; live = r.1; waits = r.2 }
 
   -- STACKS STAND AS FRAMES, and come back
-  pub live_stacks_stand : StandsLaw (core_of m s which frames plan p) (Beside (Base m) which) (Asked (Base m) which) SameLive
+  pub live_stacks_stand : StandsLaw (core_of m s which frames plan p) (RunsBeside m s which frames plan p) (WaitsBeside m s which frames plan p) SameLive
   live_stacks_stand = record {
     numbers = λ top i d f l nums. numbers m s which frames plan p valid tells em plan_fits codes top i d f l nums;
-    stands = λ top i d f us' st l nums fit. stands m s which frames plan p valid tells em plan_fits codes SameLive (live_framed m s which frames valid policy live) top i d f us' st l nums fit;
+    stands = λ top i d f us' st l nums fit. stands m s which frames plan p valid tells em plan_fits codes SameLive (live_framed m s which frames valid em.slim policy live) top i d f us' st l nums fit;
     again = again;
   }

@@ -3,10 +3,9 @@ use Rattle.std.proofs.Common.{subst}
 use Rattle.wa_types.specs.Base.{Base}
 use Rattle.range_laws.proofs.BlockingRuns.{base_codes, well_formed_in}
 use Rattle.slot_laws.proofs.Closed.{one_list}
-use Rattle.flat_runs.specs.Beside.{Asked, Beside}
 use Rattle.flat_links.specs.Core.{Core, world_of}
 use Rattle.flat_links.specs.Links as N
-use Rattle.flat_guards.specs.CoreOf.{core_of}
+use Rattle.flat_guards.specs.CoreOf.{RunsBeside, WaitsBeside, core_of}
 use Rattle.flat_guards.specs.Emitted.{Emitted}
 use Rattle.flat_guards.proofs.Behaving.{says_with}
 use Rattle.live_laws.specs.SameLive.{SameLive}
@@ -24,5 +23,5 @@ live_emitted_behave m s told frames p valid written_valid written_codes policy t
     let codes = well_formed_in m wf in
     let k : Core = core_of m s which frames plan p in
     says_with m s which frames p valid written_valid codes written_codes tells em plan cmp.fits SameLive
-    (live_stands (world_of k) (N.W k (Beside (Base m) which) (Asked (Base m) which)) policy (λ top i d f l. l.spots))
+    (live_stands (world_of k) (N.W k (RunsBeside m s which frames plan p) (WaitsBeside m s which frames plan p)) policy (λ top i d f l. l.spots))
     (live_stacks_stand m s which frames plan p valid tells em cmp.fits (base_codes m codes) policy live) os n cmp pauses

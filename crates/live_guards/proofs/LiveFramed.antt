@@ -9,12 +9,16 @@ use Rattle.wa_types.specs.Pausing.{Numbered, Settings, is_told, save_live}
 use Rattle.wa_types.specs.Syntax.{Func, Module}
 use Rattle.wa_types.specs.Validity.{Valid}
 use Rattle.wa_model.specs.Flat.{FlatFunc}
-use Rattle.flat_laws.specs.Flatten.{names, slots}
+use Rattle.flat_laws.specs.Flatten.{flattened, names, slots}
+use Rattle.guard_form.specs.Pieces.{first_piece, units}
+use Rattle.slim_modules.specs.SlimModule.{AllSlimPieces, flat_terms}
+use Rattle.slim_units.proofs.UnitsPassed.{passing_law}
 use Rattle.flat_laws.proofs.RuntimeModules.{base_flattened}
 use Rattle.frame_laws.specs.Layout.{kept}
-use Rattle.flat_guards.specs.Emitted.{Framing, fields_of}
+use Rattle.flat_guards.specs.Emitted.{Framing, fields_of, pieces_in, places_in}
 use Rattle.flat_guards.specs.Framed.{Framed, FramedCalls}
 use Rattle.flat_guards.proofs.CallPoints.{base_saved}
+use Rattle.flat_guards.proofs.PairedFlat.{base_defined}
 use Rattle.live_guards.specs.LiveFraming.{LiveFraming}
 use Rattle.live_guards.proofs.PassingWeight.{passing_few}
 
@@ -27,13 +31,17 @@ all_so : (xs : List ℕ) → All (λ y. true ≡ true) xs
 all_so [] = All-nil (λ y. true ≡ true)
 all_so (x ∷ xs) = All-cons (λ y. true ≡ true) x xs refl (all_so xs)
 
-module _ (m : Module) (s : Settings) (which : List Bool) (frames : (index : ℕ) → Framing) (valid : Valid m) (policy : s.policy ≡ save_live) (live : LiveFraming m s which frames) where
+module _ (m : Module) (s : Settings) (which : List Bool) (frames : (index : ℕ) → Framing) (valid : Valid m) (slim : AllSlimPieces (Base m) which (places_in m s which) (pieces_in m s which frames)) (policy : s.policy ≡ save_live) (live : LiveFraming m s which frames) where
   one : (x : ℕ) (f : Func) → defined_at m x ≡ Some f → is_told (slice_get which x) ≡ true → (k place : ℕ) → slice_get (Numbered m s which f) k ≡ Some place → Framed m s which frames x f k place
   one x f is told k place number =
       let fr = live x f is told k place number in
       let size = ap (λ (z : FlatFunc). length z.locals) (sym (base_flattened m valid x f is)) in
       let cost = fr.cost in
       let pass = passing_few m x f (Numbered m s which f) in
+      let ps = Numbered m s which f in
+      let body = (flattened (Base m) x f).body in
+      let sp = slim x f (base_defined m x ∙ is) told in
+      let less = passing_law (flat_terms (Base m) ps x f) 0 (sp.out ∷ []) sp.out sp.here (first_piece ps 0 body) (frames x).pieces.first (units ps 0 body) (frames x).pieces.units sp.slim in
       record {
         codes = fr.codes;
         address = fr.address;

@@ -11,6 +11,7 @@ use Rattle.call_frames.specs.FrameParts as Parts
 use Rattle.flat_laws.specs.Flatten.{flattened}
 use Rattle.live_stacks.specs.LiveFrames.{fields_at}
 use Rattle.guard_frames.specs.Joined.{CallFrame}
+use Rattle.slim_modules.specs.SlimModule.{Pieces}
 use Rattle.flat_guards.specs.Emitted.{Framing}
 use Rattle.live_guards.specs.LiveFraming.{LiveFrame}
 
@@ -18,9 +19,10 @@ use Rattle.live_guards.specs.LiveFraming.{LiveFrame}
 abbrev pub call_frame : CallFrames → (k : ℕ) → CallFrame
 call_frame c k = record { layout = layout_at c k; save_most = save_bound_at c k; restore_most = restore_bound_at c k }
 
--- the codes of such frames; the frame at a place is that of its call's number
-abbrev pub framing_by_call : Module → Settings → List Bool → Func → CallFrames → Framing
-framing_by_call m s which f c = record {
+-- these pieces, and the codes of such frames; the frame at a place is that of its call's number
+abbrev pub framing_by_call : Module → Settings → List Bool → Func → Pieces → CallFrames → Framing
+framing_by_call m s which f pieces c = record {
+  pieces = pieces;
   restoring = restoring_by_call c done;
   saving = saving_by_call c done;
   frame_at = λ place. call_frame c (unwrap_or (call_number m s which f place) 0);
@@ -39,5 +41,5 @@ pub record PartsKeepLive (m : Module) (s : Settings) (which : List Bool) (x : �
 -- Such frames are what the policy `live` asks of frames.
 abbrev pub FramesByCallAreLive : Type 0
 FramesByCallAreLive =
-    (m : Module) (s : Settings) (which : List Bool) (frames : (index : ℕ) → Framing) (x : ℕ) (f : Func) (c : CallFrames) → frames x ≡ framing_by_call m s which f c → PartsKeepLive m s which x f c
+    (m : Module) (s : Settings) (which : List Bool) (frames : (index : ℕ) → Framing) (x : ℕ) (f : Func) (pieces : Pieces) (c : CallFrames) → frames x ≡ framing_by_call m s which f pieces c → PartsKeepLive m s which x f c
     → (k place : ℕ) → slice_get (Numbered m s which f) k ≡ Some place → LiveFrame m s which frames x f k place

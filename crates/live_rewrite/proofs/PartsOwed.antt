@@ -21,17 +21,19 @@ use Rattle.call_frames.specs.FrameParts.{restoring_by_call, saving_by_call}
 use Rattle.call_frames.specs.PlainFrames.{SavedParts, frames_of}
 use Rattle.live_locals.specs.LiveAt.{LiveAtCalls}
 use Rattle.call_classes.specs.declared.frames.FrameParts.{FrameParts}
+use Rattle.call_classes.specs.CallParts.{call_parts, kept_by_sets}
 use Rattle.call_classes.specs.Classes.{KeepSets}
 use Rattle.call_classes.specs.Views.{parts_view, told_frames}
 use Rattle.live_form.specs.EmittedAs.{IsLiveWritten, live_written}
 use Rattle.live_form.specs.LiveParts.{LiveParts}
 use Rattle.func_rewrite.specs.Frames.{IsFlattened}
 use Rattle.func_rewrite.proofs.WrittenFuncs.{func_is, mk_func, runs_same}
-use Rattle.live_rewrite.proofs.SetFields.{fields_saved, numbers_below, total_saved}
+use Rattle.live_rewrite.proofs.SetFields.{fields_saved, numbers_below, rows_saved, total_saved}
 
 module _ (m : Module) (s : Settings) (which : List Bool) (f : Func) (v : Flattened) (valid : Valid m) (sizes : StrictSizeRule m) (h : IsFlattened m f v)
     (ns : List ℕ) (sets : List (List Bool)) (en : ns ≡ Numbered m s which f) (live : LiveAtCalls (flat_func_of v.func) ns sets)
-    (ids : RuntimeIds) (ei : ids ≡ ids_behind m) (parts : FrameParts) (keep : KeepSets v.func.locals.items sets (parts_view parts)) where
+    (ids : RuntimeIds) (ei : ids ≡ ids_behind m) (parts : FrameParts) (keep : KeepSets v.func.locals.items sets (parts_view parts))
+    (made : parts_view parts ≡ call_parts (kept_by_sets v.func.locals.items sets)) where
   abbrev x : ℕ
   x = v.func.func
 
@@ -49,6 +51,7 @@ module _ (m : Module) (s : Settings) (which : List Bool) (f : Func) (v : Flatten
 
   pub owed : LiveParts m s which x f told
   owed = record {
+    made = made ∙ ap call_parts (rows_saved m s which f v valid h ns sets en live);
     count = ap length en;
     address = ap (λ (i : RuntimeIds). i.address) ei ∙ (let z : global_space m + 1 ≡ suc (global_space m) = omega arith in z);
     index = base_is;

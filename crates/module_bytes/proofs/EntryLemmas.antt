@@ -4,11 +4,12 @@ use Rattle.std.specs.Prelude.{slice_get}
 use Rattle.std.specs.List.{flat_map}
 use Rattle.std.specs.Vec.{vec_len}
 use Rattle.std.proofs.lemmas.List.{append-nil, drop_all, length-map}
+use Rattle.std.proofs.lemmas.List.Concat.{flat_map-append}
 use Rattle.std.proofs.lemmas.Option.{slice_get-get_or}
 use Rattle.wa_types.specs.Encoding.{Enc}
 use Rattle.wa_types.specs.Frames.{Count}
 use Rattle.wa_types.specs.Modules.{func_imports, defined_at}
-use Rattle.wa_types.specs.Pausing.{Settings, is_told}
+use Rattle.wa_types.specs.Pausing.{Settings, TellsMayPause, is_told}
 use Rattle.wa_types.specs.Sizes.{FuncSizes, StrictSizeRule}
 use Rattle.wa_types.specs.Syntax.{Func, Module}
 use Rattle.wa_types.specs.View.{func_of, module_of}
@@ -17,23 +18,23 @@ use Rattle.wa_types.specs.declared.syntax.Module.{Module as ModuleValue}
 use Rattle.wa_types.specs.Validity.{Valid}
 use Rattle.wa_model.specs.Flat.{FlatFunc}
 use Rattle.flat_laws.specs.Flatten.{flattened}
-use Rattle.flatten.specs.Whole.{NonePasses, FlatAnswer}
+use Rattle.flatten.specs.Whole.{FlatAnswer}
 use Rattle.flatten.specs.declared.whole.Flattened.{Flattened}
 use Rattle.flatten.specs.declared.fault.FlatFault.{FlatFault}
 use Rattle.flatten.specs.declared.fault.FlatFault.TheVariants as F
 use Rattle.flatten.proofs.ToldLemmas.{Sofar, sofar_first, sofar_done, go_skip, go_put, go_stop}
 use Rattle.func_rewrite.specs.Frames.{IsFlattened}
-use Rattle.rewrite_form.specs.Emitted.{written_func, emitted_func, emitted_funcs}
-use Rattle.rewrite_form.proofs.Emitted.{told, not_told}
 use Rattle.wasm_entries.specs.Locals.{local_count}
 use Rattle.wasm_validate.proofs.FuncLemmas.{func_at}
 use Rattle.wasm_encode.specs.Around.{code_entry}
 use Rattle.rewrite_form.proofs.EmittedBy.{defined_of}
 use Rattle.emitted_bytes.proofs.FitsBy.{one_of_all}
-use Rattle.emitted_bytes.proofs.EmittedLength.{written_entry, written_locals_few}
 use Rattle.emitted_bytes.proofs.Grown.{enc_length}
 use Rattle.emitted_bytes.proofs.Lengths.{entries_within}
-use Rattle.module_bytes.specs.Emitting.{emitted_entries, Emits}
+use Rattle.live_bytes.specs.PolicyBytes.{IsShortEntry}
+use Rattle.live_bytes.proofs.BytesByPolicy.{written_short}
+use Rattle.live_form.specs.EmittedAs.{AreEmitted, IsEmitted, IsEmittedWhere, IsWritten}
+use Rattle.module_bytes.specs.Emitting.{AllEmitted, Emits, PutsWritten}
 use Rattle.module_bytes.specs.Faults.{of_flat}
 
 -- ---- entries are no longer than all the bytes
@@ -48,7 +49,7 @@ one_short (g ∷ fs) zero f e =
     omega (arith, length-append (code_entry g) (flat_map code_entry fs), ap (λ (h : Func). length (code_entry h)) z)
 one_short (g ∷ fs) (suc i) f e = omega (arith, length-append (code_entry g) (flat_map code_entry fs), one_short fs i f e)
 
-pub entry_short : (m : Module) (i : ℕ) (f : Func) → slice_get m.funcs i ≡ Some f → length (Enc m) ≤ 2 ^ 60 → length (code_entry f) < 2 ^ 64
+pub entry_short : (m : Module) (i : ℕ) (f : Func) → slice_get m.funcs i ≡ Some f → length (Enc m) ≤ 2 ^ 36 → length (code_entry f) < 2 ^ 64
 entry_short m i f e l = omega (arith, one_short m.funcs i f e, entries_short m, l)
 
 pub locals_small : (m : Module) (i : ℕ) (f : Func) → slice_get m.funcs i ≡ Some f → StrictSizeRule m → local_count f.locals < 2 ^ 32
@@ -89,15 +90,13 @@ module _ (m : Module) (s : Settings) (which : List Bool) where
   abbrev ws : List Bool
   ws = drop n which
 
-  -- the entries of the functions from this one on
-  abbrev left : ℕ → List ℕ
-  left i = flat_map code_entry (emitted_funcs m s which (n + i) (drop i m.funcs))
-
   -- What is known where so many functions are done.
   pub record Going (i : ℕ) (out : List ℕ) : Type 0 where
     pub flats : List FlatFunc
     pub sofar : Sofar m ws m.funcs n i flats
-    pub put : out ++ flat_map code_entry (emitted_funcs m s which (n + i) (drop i m.funcs)) ≡ emitted_entries m s which
+    pub funcs : List Func
+    pub put : out ≡ flat_map code_entry funcs
+    pub emitted : (rest : List Func) → AreEmitted m s which (n + i) (drop i m.funcs) rest → AreEmitted m s which n m.funcs (funcs ++ rest)
 
   pub going_first : (out : List ℕ) → out ≡ [] → Going 0 out
   going_first out e =
@@ -105,15 +104,20 @@ module _ (m : Module) (s : Settings) (which : List Bool) where
       record {
         flats = [];
         sofar = sofar_first m ws m.funcs n [] refl;
-        put = ap (λ bs. bs ++ flat_map code_entry (emitted_funcs m s which (n + 0) m.funcs)) e ∙ ap (λ k. flat_map code_entry (emitted_funcs m s which k m.funcs)) z;
+        funcs = [];
+        put = e;
+        emitted = λ rest h. subst (λ k. AreEmitted m s which k m.funcs rest) z h;
       }
 
-  pub going_end : (i : ℕ) (out : List ℕ) → Going i out → length m.funcs ≤ i → (out ≡ emitted_entries m s which) × NonePasses m (drop (func_imports m) which) m.funcs
+  pub going_end : (i : ℕ) (out : List ℕ) → Going i out → length m.funcs ≤ i → AllEmitted m s which out
   going_end i out g le =
-      let none : drop i m.funcs ≡ [] = drop_all i m.funcs le in (
-        sym (append-nil out) ∙ ap (λ fs. out ++ flat_map code_entry (emitted_funcs m s which (n + i) fs)) (sym none) ∙ g.put,
-        (sofar_done m ws m.funcs n i g.flats g.sofar le).1,
-      )
+      let none : drop i m.funcs ≡ [] = drop_all i m.funcs le in
+      record {
+        funcs = g.funcs;
+        emitted = subst (AreEmitted m s which n m.funcs) (append-nil g.funcs) (g.emitted [] (subst (λ fs. AreEmitted m s which (n + i) fs []) (sym none) tt));
+        entries_are = g.put;
+        few = (sofar_done m ws m.funcs n i g.flats g.sofar le).1;
+      }
 
   module _ (i at : ℕ) (out : List ℕ) (g : Going i out) (f : Func) (p : Here m which i at f) where
     bit : (b : Bool) → get_or which at false ≡ b → slice_get which (n + i) ≡ Some b
@@ -122,21 +126,24 @@ module _ (m : Module) (s : Settings) (which : List Bool) where
     next_x : suc (n + i) ≡ n + (i + 1)
     next_x = omega arith
 
-    emitted_here : emitted_funcs m s which (n + i) (drop i m.funcs) ≡ emitted_func m s which (n + i) f ∷ emitted_funcs m s which (n + (i + 1)) (drop (i + 1) m.funcs)
-    emitted_here =
-        ap (emitted_funcs m s which (n + i)) (drop_at m.funcs i f p.is)
-        ∙ ap (λ k. emitted_func m s which (n + i) f ∷ emitted_funcs m s which k (drop (i + 1) m.funcs)) next_x
+    one_more : (h : Func) → IsEmitted m s which (n + i) f h → (rest : List Func) → AreEmitted m s which (n + (i + 1)) (drop (i + 1) m.funcs) rest
+        → AreEmitted m s which n m.funcs ((g.funcs ++ h ∷ []) ++ rest)
+    one_more h is rest r =
+        subst (AreEmitted m s which n m.funcs) (sym (append_assoc g.funcs (h ∷ []) rest))
+        (g.emitted (h ∷ rest)
+        (subst (λ fs. AreEmitted m s which (n + i) fs (h ∷ rest)) (sym (drop_at m.funcs i f p.is)) (is, subst (λ k. AreEmitted m s which k (drop (i + 1) m.funcs) rest) (sym next_x) r)))
 
-    one_more : (new : List ℕ) (h : Func) → emitted_func m s which (n + i) f ≡ h → new ≡ out ++ code_entry h → new ++ left (i + 1) ≡ emitted_entries m s which
-    one_more new h eh en =
-        ap (λ bs. bs ++ left (i + 1)) en ∙ append_assoc out (code_entry h) (left (i + 1))
-        ∙ ap (λ k. out ++ (code_entry k ++ left (i + 1))) (sym eh) ∙ ap (λ fs. out ++ flat_map code_entry fs) (sym emitted_here) ∙ g.put
+    entries_more : (new : List ℕ) (h : Func) → new ≡ out ++ code_entry h → new ≡ flat_map code_entry (g.funcs ++ h ∷ [])
+    entries_more new h e =
+        e ∙ ap (λ bs. bs ++ code_entry h) g.put ∙ ap (λ bs. flat_map code_entry g.funcs ++ bs) (sym (append-nil (code_entry h))) ∙ sym (flat_map-append code_entry g.funcs (h ∷ []))
 
     pub going_keep : (new : List ℕ) → get_or which at false ≡ false → new ≡ out ++ code_entry f → Going (i + 1) new
     going_keep new e put = record {
       flats = g.flats;
       sofar = go_skip m which n i at g.flats g.sofar p.many p.within p.place e;
-      put = one_more new f (not_told m s which (n + i) f (ap is_told (bit false e))) put;
+      funcs = g.funcs ++ f ∷ [];
+      put = entries_more new f put;
+      emitted = one_more f (subst (λ b. IsEmittedWhere b m s which (n + i) f f) (sym (ap is_told (bit false e))) refl);
     }
 
     -- the flat function of this place
@@ -153,21 +160,23 @@ module _ (m : Module) (s : Settings) (which : List Bool) where
         first_result = h.3;
       }
 
-      pub written_small : Valid m → StrictSizeRule m → local_count (written_func m s which flat.func.func f).locals < 2 ^ 32
-      written_small v strict = written_locals_few m s which v flat.func.func i f p.is (one_of_all (FuncSizes (2 ^ 31) (2 ^ 31) m) m.funcs i f strict.each_func p.is) h.1
+      -- as it is written, it isn't too long
+      pub written_is_short : Valid m → StrictSizeRule m → TellsMayPause m s which → length (Enc m) ≤ 2 ^ 36 → get_or which at false ≡ true → (w : Func)
+          → IsWritten m s which flat.func.func f w → IsShortEntry w
+      written_is_short v strict tells l e w is =
+          written_short m s which flat.func.func f w v strict tells l is_flattened.defined (ap (λ k. is_told (slice_get which k)) index_is ∙ ap is_told (bit true e)) h.1 is
 
-      pub written_short : Valid m → StrictSizeRule m → length (code_entry (written_func m s which flat.func.func f)) < 2 ^ 64
-      written_short v strict =
-          let l = written_entry m s which v flat.func.func i f p.is (one_of_all (FuncSizes (2 ^ 31) (2 ^ 31) m) m.funcs i f strict.each_func p.is) h.1 in omega (arith, l)
-
-      pub going_written : (new : List ℕ) → get_or which at false ≡ true → new ≡ out ++ code_entry (written_func m s which flat.func.func f) → Going (i + 1) new
-      going_written new e put =
+      pub going_written : (new : List ℕ) → get_or which at false ≡ true → PutsWritten m s which flat.func.func f out new → Going (i + 1) new
+      going_written new e w =
           let flats : List FlatFunc = g.flats ++ flattened m (n + i) f ∷ [] in
           record {
             flats = flats;
             sofar = go_put m which n i at g.flats g.sofar p.many p.within p.place flats (flattened m (n + i) f) (n + i) e refl refl
                 (λ k ek. let z : Some f ≡ Some k = sym p.is ∙ ek in let q : f ≡ k = cc in (ap (flattened m (n + i)) q, subst (λ w. Count m w ≤ 50000) q h.1));
-            put = one_more new (written_func m s which flat.func.func f) (told m s which (n + i) f (ap is_told (bit true e)) ∙ ap (λ k. written_func m s which k f) (sym index_is)) put;
+            funcs = g.funcs ++ w.written ∷ [];
+            put = entries_more new w.written w.put;
+            emitted = one_more w.written
+                (subst (λ b. IsEmittedWhere b m s which (n + i) f w.written) (sym (ap is_told (bit true e))) (subst (λ k. IsWritten m s which k f w.written) index_is w.is));
           }
 
   pub going_stop : (i at y : ℕ) (out : List ℕ) → Going i out → (f : Func) → Here m which i at f → get_or which at false ≡ true → y ≡ n + i → (fault : FlatFault)

@@ -5,7 +5,7 @@ use Rattle.wa_types.specs.Modules.{func_imports}
 use Rattle.wa_types.specs.Pausing.{Settings, TellsMayPause}
 use Rattle.wa_types.specs.Syntax.{Module}
 use Rattle.flatten.specs.Whole.{NonePasses}
-use Rattle.rewrite_form.specs.Emitted.{asyncified}
+use Rattle.live_form.specs.EmittedAs.{EmittedAs}
 use Rattle.module_rewrite.specs.Whole.{FirstTooMany}
 use Rattle.module_bytes.specs.declared.fault.EmitFault.{EmitFault}
 use Rattle.module_bytes.specs.declared.fault.EmitFault.TheVariants.{Memory, Locals, TooLong}
@@ -16,17 +16,21 @@ pub record CanBeWritten (m : Module) (s : Settings) (which : List Bool) : Type 0
   pub tells : TellsMayPause m s which
   pub few : NonePasses m (drop (func_imports m) which) m.funcs
 
--- The text is the bytes of the module that is emitted, which aren't too many.
+-- The text is the bytes of the module that is emitted by the policy of the settings, which aren't too many.
 pub record IsWritten (m : Module) (s : Settings) (r : Emitted) : Type 0 where
   pub can : CanBeWritten m s r.instrumented.items
-  pub text : r.text.items ≡ Enc (asyncified m s r.instrumented.items)
-  pub short : length (Enc (asyncified m s r.instrumented.items)) ≤ 67108864
+  pub written : Module
+  pub emitted : EmittedAs m s r.instrumented.items written
+  pub text : r.text.items ≡ Enc written
+  pub short : length (Enc written) ≤ 67108864
 
 -- It has so many bytes, too many.
 pub record IsTooLong (m : Module) (s : Settings) (len : ℕ) : Type 0 where
   pub which : List Bool
   pub can : CanBeWritten m s which
-  pub is : len ≡ length (Enc (asyncified m s which))
+  pub written : Module
+  pub emitted : EmittedAs m s which written
+  pub is : len ≡ length (Enc written)
   pub over : 67108864 < len
 
 -- Too many locals come first, then too many bytes.

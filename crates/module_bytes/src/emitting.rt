@@ -1,7 +1,7 @@
 ghost use Rattle.std.specs.Prelude.{◌≡◌, ◌+◌, ◌<◌, ◌≤◌, ◌^◌, ◌++◌, drop, length, All, OnOk};
 ghost use Rattle.wa_types.specs.Encoding.{Enc};
 ghost use Rattle.wa_types.specs.Modules.{func_imports};
-ghost use Rattle.wa_types.specs.Pausing.{Listed};
+ghost use Rattle.wa_types.specs.Pausing.{Listed, TellsMayPause};
 ghost use Rattle.wa_types.specs.Sizes.{StrictSizeRule};
 ghost use Rattle.wa_types.specs.Validity.{Valid as IsValid};
 ghost use Rattle.wa_types.specs.View.{func_of, module_of};
@@ -9,16 +9,17 @@ ghost use Rattle.wa_types.specs.declared.syntax.Func.{Func as FuncValue};
 ghost use Rattle.call_graph.specs.Settings.{settings_of};
 ghost use Rattle.asyncify_runtime.specs.Ids.{ids_behind};
 ghost use Rattle.func_rewrite.specs.Frames.{IsFlattened};
-ghost use Rattle.rewrite_form.specs.Emitted.{written_func};
+ghost use Rattle.live_bytes.specs.PolicyBytes.{IsShortEntry};
+ghost use Rattle.live_form.specs.EmittedAs.{IsWritten};
+ghost use Rattle.wa_types.specs.Syntax.{Func as PlainFunc};
 ghost use Rattle.wasm_entries.specs.Locals.{local_count};
-ghost use Rattle.wasm_encode.specs.Around.{code_entry};
-ghost use Rattle.module_bytes.specs.Emitting.{value_entries, Emits};
+ghost use Rattle.module_bytes.specs.Emitting.{value_entries, Emits, PutsWritten};
 
 use crate::fault::EmitFault;
 use bytes::BytesMut;
 use call_graph::Settings;
 use flatten::{Flattened, flatten_func};
-use func_rewrite::emit_func;
+use live_rewrite::emit_by_policy;
 use local_spill::RuntimeIds;
 use std::alloc::{AllocError, Global};
 use wa_types::{Func, Module};
@@ -48,11 +49,10 @@ fn put_written(
     requires listed { listed.now ≡ Listed (module_of «module».now) (settings_of settings.now) }
     requires ids { ids.now ≡ ids_behind (module_of «module».now) }
     requires flat { IsFlattened (module_of «module».now) (func_of source.now) flat.now }
-    requires locals { local_count (written_func (module_of «module».now) (settings_of settings.now) which.now flat.now.func.func (func_of source.now)).locals < 2 ^ 32 }
-    requires short { length (code_entry (written_func (module_of «module».now) (settings_of settings.now) which.now flat.now.func.func (func_of source.now))) < 2 ^ 64 }
-    ensures { OnOk result (out.new.items ≡ out.old.items ++ code_entry (written_func (module_of «module».now) (settings_of settings.now) which.now flat.now.func.func (func_of source.now))) }
+    requires short { (g : PlainFunc) → IsWritten (module_of «module».now) (settings_of settings.now) which.now flat.now.func.func (func_of source.now) g → IsShortEntry g }
+    ensures { OnOk result (PutsWritten (module_of «module».now) (settings_of settings.now) which.now flat.now.func.func (func_of source.now) out.old.items out.new.items) }
 {
-    let written = emit_func(alloc, module, settings, which, listed, source, flat, ids)?;
+    let written = emit_by_policy(alloc, module, settings, which, listed, source, flat, ids)?;
     put_func(out, &written)
 }
 
@@ -79,7 +79,8 @@ pub(crate) fn emit_funcs(
     ids: &RuntimeIds,
 ) -> Result<Entries, EmitFault>
     requires sizes { StrictSizeRule (module_of valid.now) }
-    requires short { length (Enc (module_of valid.now)) ≤ 2 ^ 60 }
+    requires short { length (Enc (module_of valid.now)) ≤ 2 ^ 36 }
+    requires tells { TellsMayPause (module_of valid.now) (settings_of settings.now) which.now }
     requires which { length which.now ≡ func_imports (module_of valid.now) + length (module_of valid.now).funcs }
     requires listed { listed.now ≡ Listed (module_of valid.now) (settings_of settings.now) }
     requires ids { ids.now ≡ ids_behind (module_of valid.now) }

@@ -5,7 +5,6 @@ ghost use Rattle.wa_types.specs.Sizes.{StrictSizeRule};
 ghost use Rattle.wa_types.specs.View.{module_of};
 ghost use Rattle.asyncify_runtime.specs.Reserved.{reserved_at};
 ghost use Rattle.call_graph.specs.Settings.{settings_of};
-ghost use Rattle.call_graph.specs.declared.settings.Policy.TheVariants.{All};
 ghost use Rattle.module_bytes.specs.declared.fault.EmitFault.TheVariants.{Memory};
 ghost use Rattle.module_bytes.specs.Whole.{EmitsModule};
 
@@ -47,13 +46,13 @@ fn with_parts(alloc: Global, module: Module) -> Result<Module, EmitFault>
 /// The bytes of the module rewritten so that it can stop in the middle of a call of a listed import and go on later, and without
 /// another tree in memory: that of one function at a time. `Locals` comes exactly where a function that may pause would have more
 /// than 50,000 parameters and locals, for the first; else `TooLong` exactly where there are more than 67,108,864 bytes. Takes
-/// time linear in the module and in what is answered.
+/// time linear in the module and in what is answered; under the policy `live` each branch, construct and call of a function that may
+/// pause takes time linear in its locals.
 pub fn emit_module(alloc: Global, valid: Valid, settings: &Settings) -> Result<Emitted, EmitFault>
     requires sizes { StrictSizeRule (module_of valid) }
     requires free { reserved_at (module_of valid) ≡ None }
     requires few { length (module_of valid).funcs ≤ 100000 }
-    requires short { length (Enc (module_of valid)) ≤ 2 ^ 60 }
-    requires policy { settings.now.policy ≡ All }
+    requires short { length (Enc (module_of valid)) ≤ 2 ^ 36 }
     ensures { EmitsModule (module_of valid) (settings_of settings.now) result }
 {
     let which = may_pause(alloc, &valid, settings)?;

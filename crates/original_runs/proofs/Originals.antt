@@ -82,7 +82,7 @@ module _ (x : Source) (y : Part) (is : IsRewritten x y) where
         area = area_fits m y.source x.settings is.rewrites is.which is.tells y.text.area fine.area_fits;
       }
 
-  may_run : MayRun o
+  pub may_run : MayRun o
   may_run = record {
     well_formed = is.well_formed;
     fits = fits;
@@ -94,7 +94,7 @@ module _ (x : Source) (y : Part) (is : IsRewritten x y) where
   abbrev planned : Option (List Bool) → Plan
   planned listed = record { globals = y.given.globals; entries = calls_of es y.given.funcs; area = y.text.area; listed = listed }
 
-  stands_in : StandsIn o (world_program y)
+  pub stands_in : StandsIn o (world_program y)
   stands_in = record {
     rewrites = is.rewrites;
     plan = ap planned is.listed;
@@ -104,7 +104,7 @@ module _ (x : Source) (y : Part) (is : IsRewritten x y) where
     looks = refl;
   }
 
-  orderly : (a : Actor) → StaysOff o a → Orderly o (met a)
+  pub orderly : (a : Actor) → StaysOff o a → Orderly o (met a)
   orderly a calm = none_ignored o (met a) is.which may_run is.tells is.heeds calm
 
 -- ---- all of them

@@ -2,7 +2,7 @@
 use Rattle.std.specs.Prelude.{◌≡◌, ◌⊎◌, ℕ, List, ◌++◌, take, None}
 use Rattle.vault_port.specs.Counts.{HasRisen}
 use Rattle.vault_port.specs.Taken.{Appends, AppendsLess}
-use Rattle.wa_model.specs.Transcript.{Refusal, usage, out_of_memory, not_built, malformed, float, nesting, invalid, limit, reserved, script, read_fault, write_fault, refusal_line}
+use Rattle.wa_model.specs.Transcript.{Refusal, usage, out_of_memory, malformed, float, nesting, invalid, limit, reserved, script, read_fault, write_fault, refusal_line}
 
 -- the status of each refusal
 abbrev pub status_of : Refusal → ℕ
@@ -17,7 +17,6 @@ status_of (script line rule) = 8
 status_of out_of_memory = 9
 status_of (read_fault name) = 10
 status_of (write_fault name) = 11
-status_of not_built = 14
 
 -- the line was printed, or less of it where the sink has failed
 abbrev pub Prints : List ℕ → ℕ → ℕ → List ℕ → List ℕ → Type 0

@@ -118,6 +118,5 @@ fn status_of(kind: &RefusalKind) -> u8
         RefusalKind::OutOfMemory => MEMORY,
         RefusalKind::ReadFault { .. } => 10,
         RefusalKind::WriteFault { .. } => 11,
-        RefusalKind::NotBuilt => 14,
     }
 }

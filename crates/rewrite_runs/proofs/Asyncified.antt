@@ -29,7 +29,7 @@ use Rattle.flat_laws.specs.Flatten.{flattened, names, slots}
 use Rattle.flat_laws.proofs.RuntimeModules.{base_flattened, base_slots}
 use Rattle.flat_laws.proofs.Sizes.{stacks_are_slots}
 use Rattle.frame_laws.specs.Layout.{Layout, FrameField, restore_code, save_code}
-use Rattle.flat_guards.specs.Emitted.{Emitted, KeepsEnough, fields_of, layout_of, AllKeepEnough, Framing, kept_frames, lay_at}
+use Rattle.flat_guards.specs.Emitted.{Emitted, KeepsEnough, fields_of, layout_of, AllKeepEnough, Framing, kept_frames, lay_at, plain_at, plain_where}
 use Rattle.flat_guards.proofs.KeptFields.{all_places}
 use Rattle.flat_guards.proofs.PairedFlat.{base_defined, base_locals}
 use Rattle.flat_guards.proofs.PauseCosts.{emitted_behave}
@@ -82,7 +82,7 @@ module _ (m : Module) (s : Settings) (which : List Bool) (valid : Valid m) where
   keep x y = keep_of x (defined_at m x) y
 
   abbrev frames : (index : ℕ) → Framing
-  frames = kept_frames m s which keep
+  frames = kept_frames m s which (plain_at m s which) keep
 
   abbrev p : Module
   p = asyncified m s which
@@ -136,8 +136,8 @@ module _ (m : Module) (s : Settings) (which : List Bool) (valid : Valid m) where
       stacked = λ place ops c points. all_in (λ y. keep x y ≡ true) (slots (names (Base m) f) ops) (kept_there place ops c points);
     }
 
-  pub emitted_so : FreeOfNames m → StrictSizeRule m → FewWritten m which → TellsMayPause m s which → Emitted m s which (kept_frames m s which keep) (asyncified m s which)
-  emitted_so free sizes few tells = By.emitted_so m s which (layout_codes m s which) frames valid same_codes (layouts_hold m s which valid) free sizes few tells
+  pub emitted_so : FreeOfNames m → StrictSizeRule m → FewWritten m which → TellsMayPause m s which → Emitted m s which (kept_frames m s which (plain_at m s which) keep) (asyncified m s which)
+  emitted_so free sizes few tells = By.emitted_so m s which (layout_codes m s which) frames valid same_codes (λ x f is. ap (plain_where m s which x) is) (layouts_hold m s which valid) free sizes few tells
 
   pub all_keep_enough : AllKeepEnough m s which keep
   all_keep_enough x f is told = keeps x f is
@@ -145,7 +145,7 @@ module _ (m : Module) (s : Settings) (which : List Bool) (valid : Valid m) where
 pub asyncified_behaves : (m : Module) (s : Settings) (which : List Bool) → Valid m → FreeOfNames m → StrictSizeRule m → FewWritten m which → s.policy ≡ save_all → TellsMayPause m s which → Behaves m s (asyncified m s which)
 asyncified_behaves m s told valid free sizes few policy tells0 wf which tells plan os n cmp pauses =
     let em = emitted_so m s told valid free sizes few tells0 in
-    emitted_behave m s told (keep m s told valid) (asyncified m s told) valid (valid_law m s told valid free)
+    emitted_behave m s told (plain_at m s told) (keep m s told valid) (asyncified m s told) valid (valid_law m s told valid free)
     (well_formed_in (asyncified m s told) (emitted_fits m s told valid wf sizes few)) policy tells0 em (all_keep_enough m s told valid) wf which tells plan os n cmp pauses
 
 pub asyncified_law : AsyncifiedIsRewritten

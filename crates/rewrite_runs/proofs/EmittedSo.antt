@@ -24,9 +24,10 @@ use Rattle.flat_laws.proofs.RuntimeModules.{base_flattened, base_results, base_s
 use Rattle.flat_fits.proofs.Calls.{calls_stay}
 use Rattle.flat_fits.proofs.Whole.{counted, meets}
 use Rattle.guard_form.specs.Functions.{GuardedFunc, with_guards, written_code}
-use Rattle.guard_form.specs.Pieces.{first_piece, units}
+use Rattle.slim_modules.specs.SlimModule.{Pieces, SlimPieces, plain_pieces}
+use Rattle.slim_modules.proofs.SlimModules.{plain_slim}
 use Rattle.flat_guards.specs.Emitted.{Emitted, WrittenAs, guarded_of, Framing}
-use Rattle.flat_guards.proofs.PairedFlat.{defined_by}
+use Rattle.flat_guards.proofs.PairedFlat.{base_defined, defined_by}
 use Rattle.rewrite_form.specs.CodesHold.{AllCodesHold}
 use Rattle.rewrite_form.specs.EmittedBy.{FrameCode, asyncified_by, func_by, guarded_by, written_by}
 use Rattle.rewrite_form.specs.Sizes.{FewWritten}
@@ -53,11 +54,15 @@ grown_funcs m = refl
 
 -- ---- the emitted module
 
+-- pieces as flattening gives them
+abbrev pub HavePlainPieces : Module → Settings → (which : List Bool) → (frames : (index : ℕ) → Framing) → Type 0
+HavePlainPieces m s which frames = (x : ℕ) (f : Func) → defined_at m x ≡ Some f → (frames x).pieces ≡ plain_pieces (Numbered m s which f) (flattened (Base m) x f)
+
 -- frames with these codes
 abbrev pub HaveCodes : Module → (codes : (index : ℕ) → Func → FrameCode) → (frames : (index : ℕ) → Framing) → Type 0
 HaveCodes m codes frames = (x : ℕ) (f : Func) → defined_at m x ≡ Some f → codes x f ≡ record { restoring = (frames x).restoring; saving = (frames x).saving }
 
-module _ (m : Module) (s : Settings) (which : List Bool) (codes : (index : ℕ) → Func → FrameCode) (frames : (index : ℕ) → Framing) (valid : Valid m) (have : HaveCodes m codes frames) where
+module _ (m : Module) (s : Settings) (which : List Bool) (codes : (index : ℕ) → Func → FrameCode) (frames : (index : ℕ) → Framing) (valid : Valid m) (have : HaveCodes m codes frames) (plain : HavePlainPieces m s which frames) where
   abbrev p : Module
   p = asyncified_by m s which codes
 
@@ -68,11 +73,13 @@ module _ (m : Module) (s : Settings) (which : List Bool) (codes : (index : ℕ) 
     same_flat : flattened (Base m) x f ≡ flattened m x f
     same_flat = base_flattened m valid x f is
 
-    abbrev guards : FlatFunc → FrameCode → GuardedFunc
-    guards z c = record { size = length z.locals; restoring = c.restoring; saving = c.saving; result = z.result; first = first_piece ps 0 z.body; body = units ps 0 z.body }
+    abbrev guards : FlatFunc → FrameCode → Pieces → GuardedFunc
+    guards z c pieces = record { size = length z.locals; restoring = c.restoring; saving = c.saving; result = z.result; first = pieces.first; body = pieces.units }
 
     same_guarded : guarded_by m s which codes x f ≡ guarded_of m s which frames x f
-    same_guarded = ap (λ z. guards z (codes x f)) (sym same_flat) ∙ ap (guards (flattened (Base m) x f)) (have x f is)
+    same_guarded =
+        ap (λ z. guards z (codes x f) (plain_pieces ps z)) (sym same_flat) ∙ ap (λ c. guards (flattened (Base m) x f) c (plain_pieces ps (flattened (Base m) x f))) (have x f is)
+        ∙ ap (guards (flattened (Base m) x f) (record { restoring = (frames x).restoring; saving = (frames x).saving })) (sym (plain x f is))
 
     abbrev types : List Pair → List ValType
     types qs = map (λ (q : Pair). q.ty) qs
@@ -134,5 +141,6 @@ module _ (m : Module) (s : Settings) (which : List Bool) (codes : (index : ℕ) 
         runtime = r.runtime;
         sorts = sorts_same;
         written = written_at;
+        slim = λ x f is told. subst (SlimPieces (Base m) (Numbered m s which f) x f) (sym (plain x f (sym (base_defined m x) ∙ is))) (plain_slim (Base m) (Numbered m s which f) x f);
         few = λ x f is told. few_numbers x f is sizes (few x f is told);
       }

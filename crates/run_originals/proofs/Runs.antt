@@ -1,20 +1,18 @@
 -- What is run are rewritten originals.
-use Rattle.std.proofs.Common.{◌≡◌, ℕ, suc, List, [], ◌∷◌, length, map, Option, Some, None, Bool, true, false, All, Result, Ok, Err, refl, sym, ap, ◌∙◌, subst, if◌then◌else◌}
+use Rattle.std.proofs.Common.{◌≡◌, ℕ, suc, List, [], ◌∷◌, length, map, Option, Some, None, Bool, false, All, refl, sym, ap, ◌∙◌, subst}
 use Rattle.std.specs.List.{AllZip, filter_map}
 use Rattle.std.specs.Option.{option_map}
 use Rattle.std.proofs.lemmas.List.Elements.{All-head, All-tail}
 use Rattle.vault_port.specs.Files.{Files}
 use Rattle.wa_types.specs.declared.syntax.Import.{Import}
 use Rattle.wa_types.specs.Modules.{imported_func}
-use Rattle.wa_types.specs.Pausing.{Choice, joined_name, Settings, save_all}
+use Rattle.wa_types.specs.Pausing.{Choice, Policy, joined_name, Settings}
 use Rattle.wa_model.specs.Command.{choice_said}
 use Rattle.wa_model.specs.World.{name_if}
-use Rattle.wa_model.specs.Script.{EntryText, ProgramText, Script, ScriptFault, breaks, too_many}
-use Rattle.wa_model.specs.ScriptText.{script_text}
+use Rattle.wa_model.specs.Script.{EntryText, ProgramText}
 use Rattle.wa_model.specs.Transcript.{Names, Transcript}
 use Rattle.script_setup.specs.SetUpRules.{program_names}
-use Rattle.host_files.specs.Scripts.{in_front_of, is_earlier, served_script}
-use Rattle.script_opening.specs.Playing.{IsStage, Play}
+use Rattle.script_opening.specs.Playing.{IsStage, Play, policy_for}
 use Rattle.script_opening.specs.declared.way.Way.TheVariants.{Run}
 use Rattle.world_hosting.specs.Worlds.{HasRanges, Part, part_names, turn_count}
 use Rattle.world_hosting.proofs.ScriptPrograms.{scripts_are_in_range}
@@ -22,36 +20,22 @@ use Rattle.original_runs.specs.OriginalRuns.{IsRewritten, Source}
 use Rattle.original_runs.proofs.Originals.{told_of_originals}
 use Rattle.run_originals.specs.RunOriginals.{IsSource, RunsAreOfOriginals, original_names}
 
--- ---- the script's text
-
-one_fault : (b : Bool) (f g : ScriptFault) (s : Script) → (if b then Err f else Err g) ≡ Ok s → ⊥
-one_fault true f g s e = cc
-one_fault false f g s e = cc
-
-told_ok : (live : Option ℕ) (told : Result Script ScriptFault) (s : Script) → in_front_of live told ≡ Ok s → told ≡ Ok s
-told_ok None told s e = e
-told_ok (Some live) (Ok x) s e = absurd cc
-told_ok (Some live) (Err (too_many found)) s e = absurd cc
-told_ok (Some live) (Err (breaks line rule)) s e = absurd (one_fault (is_earlier line rule live) (breaks line rule) (breaks live 3) s e)
-
-text_told : (bytes : List ℕ) (s : Script) → served_script bytes ≡ Ok s → script_text bytes ≡ Ok s
-unfolding served_script
-text_told bytes s e = told_ok _ (script_text bytes) s e
+-- ---- the script
 
 abbrev texts_of : List Part → List ProgramText
 texts_of ys = map (λ (y : Part). y.text) ys
 
-in_range : (files : Option Files) (name : List ℕ) (play : Play Run files name) → All HasRanges (texts_of play.parts)
+pub in_range : (files : Option Files) (name : List ℕ) (play : Play Run files name) → All HasRanges (texts_of play.parts)
 in_range files name play =
     let h = play.of_script in
-    subst (All HasRanges) (sym play.stages.texts_are) (scripts_are_in_range h.bytes play.whole (text_told h.bytes play.whole h.script.text))
+    subst (All HasRanges) (sym play.stages.texts_are) (scripts_are_in_range h.bytes play.whole h.script.text)
 
 -- ---- one program
 
-heeds : (o : Option Choice) (s : Settings) → option_map (λ (c : Choice). record { choice = c; ignore_indirect = false; policy = save_all }) o ≡ Some s → s.ignore_indirect ≡ false
-heeds None s e = cc
-heeds (Some c) s e =
-    let of : Settings = record { choice = c; ignore_indirect = false; policy = save_all } in
+heeds : (policy : Policy) (o : Option Choice) (s : Settings) → option_map (λ (c : Choice). record { choice = c; ignore_indirect = false; policy = policy }) o ≡ Some s → s.ignore_indirect ≡ false
+heeds policy None s e = cc
+heeds policy (Some c) s e =
+    let of : Settings = record { choice = c; ignore_indirect = false; policy = policy } in
     let same : of ≡ s = cc in
     sym (ap (λ (x : Settings). x.ignore_indirect) same)
 
@@ -73,7 +57,7 @@ source_of files y stage ranges =
         well_formed = runs.well_formed;
         which = runs.which;
         tells = runs.rewritable.tells;
-        heeds = heeds (choice_said y.text.list y.text.ignore_imports) settings stage.module_is.3.1;
+        heeds = heeds (policy_for y.text.policy_live) (choice_said y.text.list y.text.ignore_imports) settings stage.module_is.3.1;
         listed = stage.module_is.4 ∙ ap (λ (l : List Bool). Some l) runs.listed_is;
         ranges = ranges;
         set_up = stage.set_up;
@@ -87,7 +71,7 @@ pub record HaveSources (files : Option Files) (ys : List Part) : Type 0 where
   pub are_sources : AllZip (IsSource files) sources ys
   pub rewritten : AllZip IsRewritten sources ys
 
-sources_of : (files : Option Files) (ys : List Part) → All (IsStage Run files) ys → All HasRanges (texts_of ys) → HaveSources files ys
+pub sources_of : (files : Option Files) (ys : List Part) → All (IsStage Run files) ys → All HasRanges (texts_of ys) → HaveSources files ys
 sources_of files [] stages ranges = record { sources = []; are_sources = tt; rewritten = tt }
 sources_of files (y ∷ ys) stages ranges =
     let first = source_of files y (All-head (IsStage Run files) y ys stages) (All-head HasRanges y.text (texts_of ys) ranges) in

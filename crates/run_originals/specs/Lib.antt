@@ -1,1 +1,3 @@
+pub mod Completeness
+pub mod PlayedFaults
 pub mod RunOriginals

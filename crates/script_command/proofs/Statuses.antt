@@ -2,7 +2,7 @@
 use Rattle.std.proofs.Common.{◌≡◌, ◌≢◌, inl, inr, ℕ, List, Option, refl, sym, ◌∙◌, ap, subst, arith}
 use Rattle.vault_port.specs.Files.{Files}
 use Rattle.wa_model.specs.Script.{ProgramText, ScriptFault, breaks, too_many}
-use Rattle.wa_model.specs.Transcript.{Refusal, usage, out_of_memory, not_built, malformed, float, nesting, invalid, limit, reserved, script, read_fault, write_fault}
+use Rattle.wa_model.specs.Transcript.{Refusal, usage, out_of_memory, malformed, float, nesting, invalid, limit, reserved, script, read_fault, write_fault}
 use Rattle.host_modules.specs.Prepared.{IsOfContent, IsUnprepared}
 use Rattle.host_files.specs.Scripts as H
 use Rattle.host_files.specs.Scripts.{IsNoScript}
@@ -30,7 +30,6 @@ unprepared_content bytes (reserved name) h = tt
 unprepared_content bytes (script line rule) h = tt
 unprepared_content bytes usage h = h
 unprepared_content bytes out_of_memory h = h
-unprepared_content bytes not_built h = h
 unprepared_content bytes (read_fault name) h = h
 unprepared_content bytes (write_fault name) h = h
 
@@ -80,7 +79,6 @@ never_nine (reserved name) h e = absurd (omega (arith, e))
 never_nine (script line rule) h e = absurd (omega (arith, e))
 never_nine usage h e = absurd h
 never_nine out_of_memory h e = absurd h
-never_nine not_built h e = absurd h
 never_nine (read_fault name) h e = absurd h
 never_nine (write_fault name) h e = absurd h
 
@@ -97,7 +95,6 @@ prepared_status n bytes (reserved name) e h = absurd h
 prepared_status n bytes (script line rule) e h = absurd h
 prepared_status n bytes usage e h = absurd h
 prepared_status n bytes out_of_memory e h = absurd h
-prepared_status n bytes not_built e h = absurd h
 prepared_status n bytes (read_fault name) e h = absurd h
 prepared_status n bytes (write_fault name) e h = absurd h
 
@@ -111,7 +108,6 @@ content_status n (reserved name) e h = inr (inr (inr (inr (inr (inl (e, refl))))
 content_status n (script line rule) e h = inr (inr (inr (inr (inr (inr (inl e))))))
 content_status n usage e h = absurd h
 content_status n out_of_memory e h = absurd h
-content_status n not_built e h = absurd h
 content_status n (read_fault name) e h = absurd h
 content_status n (write_fault name) e h = absurd h
 

@@ -8,7 +8,7 @@ use Rattle.wa_model.specs.declared.answers.Detach.{Detach}
 use Rattle.wa_model.specs.Script.{ProgramText, Script}
 use Rattle.host_files.specs.Scripts.{IsScript}
 use Rattle.host_files.specs.Views.{Holds}
-use Rattle.host_files.proofs.Counts.{few_programs, served_text}
+use Rattle.host_files.proofs.Counts.{few_programs}
 use Rattle.script_reader.specs.declared.script.Script.{Script as ScriptValue}
 use Rattle.script_reader.specs.Views.{detach_of, program_of, script_of}
 use Rattle.world_hosting.specs.Worlds.{FitsPlan}
@@ -38,7 +38,7 @@ module _ (files : Option Files) (name : List ℕ) (whole : ScriptValue) (read : 
       omega (arith, few, n)
 
   pub texts_fit : ScriptsFit → All FitsPlan (map program_of whole.programs.items)
-  texts_fit law = law read.0 (script_of whole) read.2.few (served_text read.0 (script_of whole) read.2.text)
+  texts_fit law = law read.0 (script_of whole) read.2.few read.2.text
 
   pub opens : (way : Way) (mid : Option Files) (o : Opened) → mid ≡ files → o.detaches.items ≡ whole.detaches.items
       → AreOpened way mid (map program_of whole.programs.items) o.programs → Opens way files name o

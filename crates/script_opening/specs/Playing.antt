@@ -1,8 +1,8 @@
 -- What a script plays: its programs, each over a module that is taken as it is or over an original that is rewritten first.
-use Rattle.std.specs.Prelude.{◌≡◌, ◌⊎◌, ℕ, List, ◌∷◌, ◌++◌, length, map, All, Option, Some, None, Bool, true, false, Ok, Err}
+use Rattle.std.specs.Prelude.{◌≡◌, ◌⊎◌, ℕ, List, ◌∷◌, ◌++◌, length, map, All, Option, Some, None, Bool, true, false, if◌then◌else◌, Ok, Err}
 use Rattle.std.specs.Option.{option_map}
 use Rattle.vault_port.specs.Files.{Files}
-use Rattle.wa_types.specs.Pausing.{Choice, Settings, save_all}
+use Rattle.wa_types.specs.Pausing.{Choice, Policy, Settings, save_all, save_live}
 use Rattle.wa_types.specs.Syntax.{Module}
 use Rattle.wa_model.specs.Command.{choice_said}
 use Rattle.wa_model.specs.declared.answers.Detach.{Detach}
@@ -29,10 +29,14 @@ pub record HasScript (files : Option Files) (name : List ℕ) (whole : Script) :
 
 -- ---- a program's module
 
+-- frames save all locals, or with `save live` those that are live
+abbrev pub policy_for : (live : Bool) → Policy
+policy_for live = if live then save_live else save_all
+
 -- The settings by which an original is rewritten to be run: those of its LIST are listed, or none where imports are ignored, or
--- each; calls through the table are never ignored, and frames save all locals.
+-- each; calls through the table are never ignored, and frames save what the program's lines say.
 abbrev pub settings_for : ProgramText → Option Settings
-settings_for t = option_map (λ (c : Choice). record { choice = c; ignore_indirect = false; policy = save_all }) (choice_said t.list t.ignore_imports)
+settings_for t = option_map (λ (c : Choice). record { choice = c; ignore_indirect = false; policy = policy_for t.policy_live }) (choice_said t.list t.ignore_imports)
 
 -- the module is the original that these bytes spell, rewritten, and these of its function imports are listed
 abbrev pub RunsFor : ProgramText → List ℕ → List Bool → Module → Type 0

@@ -2,8 +2,7 @@
 ghost use Rattle.std.specs.Prelude.{◌≡◌, ◌⊎◌, ◌≤◌, IfOk, IsErrOf, IsSome, None, Some};
 ghost use Rattle.std.specs.Option.{option_map};
 ghost use Rattle.std.specs.Result.{IfErr};
-ghost use Rattle.call_graph.specs.Settings.{choice_of, settings_of};
-ghost use Rattle.call_graph.specs.declared.settings.Policy.TheVariants.{All};
+ghost use Rattle.call_graph.specs.Settings.{choice_of, policy_of, settings_of};
 ghost use Rattle.vault_port.specs.Counts.{HasRisen};
 ghost use Rattle.vault_port.specs.Files.{IsMissing};
 ghost use Rattle.wa_types.specs.Pausing.{list_of};
@@ -11,7 +10,7 @@ ghost use Rattle.wa_types.specs.View.{module_of};
 ghost use Rattle.wa_model.specs.Command.{choice_said};
 ghost use Rattle.script_reader.specs.Views.{program_of};
 ghost use Rattle.script_opening.specs.declared.way.Way.TheVariants.{Host, Run};
-ghost use Rattle.script_opening.specs.Playing.{settings_for};
+ghost use Rattle.script_opening.specs.Playing.{policy_for, settings_for};
 ghost use Rattle.script_opening.specs.Views.{IsBadModuleFor, IsBadOriginalFor, Loads, Rewritten};
 
 use crate::way::Way;
@@ -122,14 +121,19 @@ fn rewritten_module(alloc: Global, bytes: &[u8], text: &ProgramText) -> Result<L
 // The settings by which a program's original is rewritten.
 fn settings_for(alloc: Global, text: &ProgramText) -> Result<Settings, AllocError>
     ensures settings { IfOk result (λ s. settings_for (program_of text.now) ≡ Some (settings_of s)) }
-    ensures policy { IfOk result (λ s. s.policy ≡ All) }
 {
     let choice = choice_for(alloc, &text.list, text.ignore_imports)?;
     Ok(Settings {
         choice,
         ignore_indirect: false,
-        policy: Policy::All,
+        policy: policy_for(text.policy_live),
     })
+}
+
+fn policy_for(live: bool) -> Policy
+    ensures { policy_of result ≡ policy_for live }
+{
+    if live { Policy::Live } else { Policy::All }
 }
 
 fn choice_for(

@@ -1,25 +1,20 @@
 -- A program has one module, or is refused for one cause.
-use Rattle.std.proofs.Common.{arith, ◌≡◌, ℕ, suc, ◌≤◌, List, Option, Some, None, Bool, false, refl, sym, ap, ◌∙◌, subst}
-use Rattle.std.specs.Option.{option_map}
+use Rattle.std.proofs.Common.{arith, ◌≡◌, ℕ, suc, ◌≤◌, List, Option, Some, None, Bool, sym, ap, ◌∙◌, subst}
 use Rattle.vault_port.specs.Files.{Files, bytes_of}
 use Rattle.wa_types.specs.declared.bounds.LimitKind.{LimitKind}
 use Rattle.wa_types.specs.declared.bounds.LimitKind.TheVariants.{File}
-use Rattle.wa_types.specs.Pausing.{Choice, Policy, Settings, Listed, TellsMayPause, save_all}
+use Rattle.wa_types.specs.Pausing.{Settings, Listed}
 use Rattle.wa_types.specs.Syntax.{Module}
-use Rattle.slot_laws.proofs.Closed.{one_list}
-use Rattle.rewrite_form.specs.Emitted.{asyncified}
-use Rattle.live_form.specs.EmittedAs.{EmittedUnder}
-use Rattle.wa_model.specs.Command.{choice_said}
 use Rattle.wa_model.specs.Script.{ProgramText}
 use Rattle.wa_model.specs.Transcript.{Refusal}
 use Rattle.host_files.proofs.Fronts.{own_bytes}
 use Rattle.host_modules.specs.Prepared.{IsPrepared, IsUnprepared}
 use Rattle.source_modules.specs.Running.{RunsAs}
-use Rattle.source_modules.specs.Sources.{Cause, malformed, float, deep, limit, reserved, invalid, rewritten_locals, long_output, IsRefusedFor, refusal_for}
+use Rattle.source_modules.specs.Sources.{Cause, malformed, float, deep, limit, reserved, invalid, rewritten_locals, long_output, IsRefusedFor}
 use Rattle.transform_command.proofs.Verdicts as V
 use Rattle.script_opening.specs.declared.way.Way.{Way}
 use Rattle.script_opening.specs.declared.way.Way.TheVariants.{Host, Run}
-use Rattle.script_opening.specs.Playing.{IsBadModule, IsModule, IsUnwritten, RunsFor, settings_for}
+use Rattle.script_opening.specs.Playing.{IsBadModule, IsModule, IsUnwritten, settings_for}
 use Rattle.script_verdicts.proofs.Prepared.{one_prepared, one_unprepared, prepared_passes}
 use Rattle.script_verdicts.proofs.Sources.{one_bad_original}
 
@@ -27,21 +22,6 @@ use Rattle.script_verdicts.proofs.Sources.{one_bad_original}
 
 one_settings : (t : ProgramText) (s r : Settings) → settings_for t ≡ Some s → settings_for t ≡ Some r → s ≡ r
 one_settings t s r e f = let both : ◌≡◌ {A = Option Settings} (Some s) (Some r) = sym e ∙ f in cc
-
--- the settings of a choice of imports
-abbrev chosen : Choice → Settings
-chosen c = record { choice = c; ignore_indirect = false; policy = save_all }
-
-same_settings : (s r : Settings) → ◌≡◌ {A = Option Settings} (Some s) (Some r) → s ≡ r
-same_settings s r e = cc
-
--- frames save all locals
-saves_all : (t : ProgramText) (s : Settings) → settings_for t ≡ Some s → s.policy ≡ save_all
-saves_all t s e = by (choice_said t.list t.ignore_imports) e
-  where
-    by : (o : Option Choice) → option_map chosen o ≡ Some s → s.policy ≡ save_all
-    by None h = cc
-    by (Some c) h = sym (ap (λ (x : Settings). x.policy) (same_settings (chosen c) s h))
 
 limit_early : (what : LimitKind) → V.limit_stage what ≤ 6
 limit_early File = omega arith
@@ -68,16 +48,11 @@ pub record Same (p q : Module) (l k : List Bool) : Type 0 where
   pub modules : p ≡ q
   pub lists : l ≡ k
 
-written_all : (s : Settings) (bytes : List ℕ) (l : List Bool) (p : Module) → s.policy ≡ save_all → (r : RunsAs s bytes l p) → p ≡ asyncified r.source s r.which
-written_all s bytes l p all r = subst (λ (y : Policy). EmittedUnder y r.source s r.which p) all r.written
-
-one_run : (s : Settings) (bytes : List ℕ) (l k : List Bool) (p q : Module) → s.policy ≡ save_all → RunsAs s bytes l p → RunsAs s bytes k q → Same p q l k
-one_run s bytes l k p q all a b =
+one_run : (s : Settings) (bytes : List ℕ) (l k : List Bool) (p q : Module) → RunsAs s bytes l p → RunsAs s bytes k q → Same p q l k
+one_run s bytes l k p q a b =
     let e = V.same_module bytes a.source b.source a.rewritable.accepted.unreserved.read b.rewritable.accepted.unreserved.read in
-    let w = one_list b.source s a.which b.which (subst (λ (m : Module). TellsMayPause m s a.which) e a.rewritable.tells) b.rewritable.tells in
     record {
-      modules = written_all s bytes l p all a ∙ ap (λ (m : Module). asyncified m s a.which) e ∙ ap (λ which. asyncified b.source s which) w
-          ∙ sym (written_all s bytes k q all b);
+      modules = V.one_written s bytes a.source b.source a.which b.which p q a.rewritable b.rewritable a.written b.written;
       lists = a.listed_is ∙ ap (λ (m : Module). Listed m s) e ∙ sym b.listed_is;
     }
 
@@ -99,7 +74,7 @@ module _ (files : Files) (t : ProgramText) where
   }
   one_module Run p q l k a b =
       let s = one_settings t a.3.0 b.3.0 a.3.1 b.3.1 in
-      let same = one_run b.3.0 (bytes_of files t.path) a.1 b.1 p q (saves_all t b.3.0 b.3.1)
+      let same = one_run b.3.0 (bytes_of files t.path) a.1 b.1 p q
       (subst (λ (x : Settings). RunsAs x (bytes_of files t.path) a.1 p) s (own (λ (bs : List ℕ). RunsAs a.3.0 bs a.1 p) a.0 a.2 a.3.2))
       (own (λ (bs : List ℕ). RunsAs b.3.0 bs b.1 q) b.0 b.2 b.3.2) in
       record { modules = same.modules; lists = a.4 ∙ ap (λ (x : List Bool). Some x) same.lists ∙ sym b.4 }

@@ -6,7 +6,7 @@ use Rattle.vault_port.specs.Files.{Files, bytes_of}
 use Rattle.wa_types.specs.Syntax.{Module}
 use Rattle.wa_model.specs.Script.{ProgramText, Script, ScriptFault, breaks}
 use Rattle.wa_model.specs.Transcript.{Refusal}
-use Rattle.host_files.specs.Scripts.{HasFault, IsNoScript, IsScript, most_bytes, refusal_for, served_script}
+use Rattle.host_files.specs.Scripts.{HasFault, IsNoScript, IsScript, most_bytes, refusal_for}
 use Rattle.host_files.specs.Views.{Holds}
 use Rattle.host_files.proofs.Fronts.{own_bytes}
 use Rattle.script_setup.specs.SetUpRules.{SetUp, set_up_rules}

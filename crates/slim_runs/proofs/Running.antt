@@ -85,7 +85,7 @@ waits_with_any w _ _ us (waits fn f ac ls ls' ops taken size ag sl ar) e = waits
 
 behind_is : (t : Terms) (n : ℕ) (ts : List Free) (out : Free) (labels labels' : List Label) → Around t n ts out labels labels' → n ≡ calls_behind labels
 behind_is t _ _ _ _ _ in_body = refl
-behind_is t m _ _ _ _ (in_block {n = n} {ts = ts} {out = out} {labels = lb} {labels' = lb'} h arity sk sk' em sl ar) = let e = behind_is t n ts out lb lb' ar in omega arith
+behind_is t m _ _ _ _ (in_block {n = n} {ts = ts} {out = out} {labels = lb} {labels' = lb'} h arity sk sk' em es sl ar) = let e = behind_is t n ts out lb lb' ar in omega arith
 behind_is t m _ _ _ _ (in_loop {n = n} {ts = ts} {out = out} {labels = lb} {labels' = lb'} h em sl sl2 ar) = let e = behind_is t n ts out lb lb' ar in omega arith
 
 pub waiting_agrees : WaitingAgrees

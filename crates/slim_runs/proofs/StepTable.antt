@@ -21,9 +21,10 @@ use Rattle.wa_model.specs.Untouched.{access_in}
 use Rattle.slim_form.specs.Slim.{Held, Free, Covers, Shape, more, Takes, takes_none, takes_same, takes_one, kept, Reaches, Terms, Slims, ends, does, gets, sets, tees, keeps, uses, saves}
 use Rattle.slim_form.specs.Slim.{narrows, forgets, leaps, leaps_if, leaps_by, returns_here, halts, calls, calls_by, blocks, loops, decides}
 use Rattle.slim_runs.specs.Beside.{Sides, Twin, both_import, both_defined, Together, Agree, Woven, woven, woven_both, woven_kept, Around, in_body, in_block, in_loop, Waits, waits, Unders}
-use Rattle.slim_runs.specs.Beside.{bottom, above, Beside, beside, Asked, ProperCode, lean_plain, lean_code, head_of, sets_local, SameNext, way_ends, way_same, way_sets, ComesToo, it_steps}
+use Rattle.slim_runs.specs.Beside.{bottom, above, Beside, beside, Asked, ProperCode, lean_plain, lean_code, head_of, sets_local, SameNext, way_ends, way_same, way_sets, saves_none, saves_one, ComesToo, it_steps}
 use Rattle.slim_runs.specs.Beside.{it_asks, it_returns, it_traps, it_is_stuck}
 use Rattle.slim_runs.proofs.ResultCounts.{GivesSo, gives_so}
+use Rattle.slim_form.proofs.KeptSizes.{same_calls}
 use Rattle.slim_form.proofs.Shapes.{plainly_none, taken_kept, more_kept, risen_kept}
 use Rattle.slim_runs.proofs.Locals.{at_same, agree_set, agree_wider, agree_kept, agree_saved, woven_set, plainly_same, taken_same, more_woven, risen}
 
@@ -151,18 +152,18 @@ module _ (w : Sides) where
   -- in lockstep
   together : (c c' : Configuration) (spare : ℕ) (least : ℕ → ℕ) (o o' : Next) → SameNext c c' → ((k : ℕ) → least k ≤ k) → step p c' ≡ o' → Same w spare o o' → ComesToo w c c' spare least o
   together c c' spare least _ _ sn be e (same_step {k = k} {left = left} {d' = d'} le bs) = let b = be (suc k) in it_steps (suc k) left d' (way_same sn e) b (omega arith) bs
-  together c c' spare least _ _ sn be e (same_ask {d' = d'} a) = it_asks 0 c' d' way_ends (omega arith) sn e a
-  together c c' spare least _ _ sn be e same_return = it_returns 0 c' way_ends (omega arith) sn e
-  together c c' spare least _ _ sn be e same_trap = it_traps 0 c' way_ends (omega arith) sn e
+  together c c' spare least _ _ sn be e (same_ask {d' = d'} a) = it_asks 0 c' d' saves_none (omega arith) sn e a
+  together c c' spare least _ _ sn be e same_return = it_returns 0 c' saves_none (omega arith) sn e
+  together c c' spare least _ _ sn be e same_trap = it_traps 0 c' saves_none (omega arith) sn e
   together c c' spare least _ _ sn be e flat_stuck = it_is_stuck
 
   -- one local set before
   later : (c c' c2 : Configuration) (spare : ℕ) (least : ℕ → ℕ) (o : Next) → sets_local c'.here.code ≡ true → step p c' ≡ steps 0 c2 → ComesToo w c c2 spare least o
       → ComesToo w c c' (suc spare) least o
   later c c' c2 spare least _ is e (it_steps {k = k} cost left to go le mo bs) = it_steps (1 + cost) left to (way_sets is e go refl) (omega arith) (omega arith) bs
-  later c c' c2 spare least _ is e (it_asks cost at to go mo sn st a) = it_asks (1 + cost) at to (way_sets is e go refl) (omega arith) sn st a
-  later c c' c2 spare least _ is e (it_returns cost at go mo sn st) = it_returns (1 + cost) at (way_sets is e go refl) (omega arith) sn st
-  later c c' c2 spare least _ is e (it_traps cost at go mo sn st) = it_traps (1 + cost) at (way_sets is e go refl) (omega arith) sn st
+  later c c' c2 spare least _ is e (it_asks cost at to go mo sn st a) = it_asks (1 + cost) at to (saves_one is e go refl) (omega arith) sn st a
+  later c c' c2 spare least _ is e (it_returns cost at go mo sn st) = it_returns (1 + cost) at (saves_one is e go refl) (omega arith) sn st
+  later c c' c2 spare least _ is e (it_traps cost at go mo sn st) = it_traps (1 + cost) at (saves_one is e go refl) (omega arith) sn st
   later c c' c2 spare least _ is e it_is_stuck = it_is_stuck
 
   lean_get : (fn y : ℕ) (rest : Code) → (w.terms fn).slot y ≡ true → lean_code (w.terms fn) (plain (local_get y) rest) 1 ≡ 0
@@ -203,8 +204,8 @@ module _ (w : Sides) where
     jumps : (x : Ctx w) (k spare : ℕ) (n : ℕ) (ts : List Free) (out : Free) (ops : List Value) (labels labels' : List Label) (l : ℕ) → Reaches x.free ts l → Around (t x) n ts out labels labels'
         → Same w spare (jump k q x.s x.fn x.under x.ls ops labels l) (jump k p x.s x.fn x.under' x.ls' ops labels' l)
     jumps x k spare _ _ _ ops _ _ l re in_body = leaves x k spare ops
-    jumps x k spare _ _ _ ops _ _ zero re (in_block {n = n} {ts = ts} {out = out} {g = g} h arity sk sk' em sl ar) = same_step (omega arith) (at x g re n ts out [] _ _ _ _ _ _ woven sl ar)
-    jumps x k spare _ _ _ ops _ _ (suc l) re (in_block {n = n} {ts = ts} {out = out} {labels = lb} {labels' = lb'} h arity sk sk' em sl ar) = jumps x k spare n ts out ops lb lb' l re ar
+    jumps x k spare _ _ _ ops _ _ zero re (in_block {n = n} {ts = ts} {out = out} {g = g} h arity sk sk' em es sl ar) = same_step (omega arith) (at x g re n ts out [] _ _ _ _ _ _ woven sl ar)
+    jumps x k spare _ _ _ ops _ _ (suc l) re (in_block {n = n} {ts = ts} {out = out} {labels = lb} {labels' = lb'} h arity sk sk' em es sl ar) = jumps x k spare n ts out ops lb lb' l re ar
     jumps x k spare _ _ _ ops _ _ zero re (in_loop {n = n} {m = m} {ts = ts} {out = out} {head = head} {g = g} h em sl sl2 ar) =
         same_step (omega arith) (at x head re m (head ∷ ts) g [] _ _ _ _ _ _ woven sl (in_loop h em sl sl2 ar))
     jumps x k spare _ _ _ ops _ _ (suc l) re (in_loop {n = n} {ts = ts} {out = out} {labels = lb} {labels' = lb'} h em sl sl2 ar) = jumps x k spare n ts out ops lb lb' l re ar
@@ -212,7 +213,7 @@ module _ (w : Sides) where
     finishes : (x : Ctx w) (spare : ℕ) (n : ℕ) (ts : List Free) (out : Free) (ops : List Value) (labels labels' : List Label) → Covers x.free out → Around (t x) n ts out labels labels'
         → Same w spare (finish q x.s x.fn x.under x.ls ops labels) (finish p x.s x.fn x.under' x.ls' ops labels')
     finishes x spare _ _ _ ops _ _ co in_body = leaves x 0 spare ops
-    finishes x spare _ _ _ ops _ _ co (in_block {n = n} {ts = ts} {out = out} {g = g} h arity sk sk' em sl ar) = same_step (omega arith) (at x g co n ts out [] _ _ _ _ _ _ woven sl ar)
+    finishes x spare _ _ _ ops _ _ co (in_block {n = n} {ts = ts} {out = out} {g = g} h arity sk sk' em es sl ar) = same_step (omega arith) (at x g co n ts out [] _ _ _ _ _ _ woven sl ar)
     finishes x spare _ _ _ ops _ _ co (in_loop {n = n} {ts = ts} {out = out} {head = head} {g = g} h em sl sl2 ar) = same_step (omega arith) (at x g co n ts out [] _ _ _ _ _ _ woven sl2 ar)
 
     -- ---- calls
@@ -378,18 +379,18 @@ module _ (w : Sides) where
             → Same w spare (step_at q s fn under ls ops labels (branch r a b rest)) (step_at p s fn under' ls' ops labels' (branch r a' b' rest'))
         arms_too spare r g n ts out ops a a' b b' rest rest' labels labels' sa sb sl ar = number_too spare ops _ _ (λ v below e. by v below)
           where
-            arm : (m : ℕ) (below : List Value) (c c' sk sk' : Code) → m ≡ length (calls_of sk) + (length (calls_of rest) + n) → Slims (w.terms fn) m (g ∷ ts) g f [] c c'
+            arm : (m : ℕ) (below : List Value) (c c' sk sk' : Code) → m ≡ length (calls_of sk) + (length (calls_of rest) + n) → length (calls_of sk') ≡ length (calls_of sk) → Slims (w.terms fn) m (g ∷ ts) g f [] c c'
                 → Same w spare (steps 0 (running s fn under ls below c (block_label (length below) (arity_of r) rest sk ∷ labels)))
                 (steps 0 (running s fn under' ls' below c' (block_label (length below) (arity_of r) rest' sk' ∷ labels')))
-            arm m below c c' sk sk' em sc = same_step (omega arith) (at x f (λ y fr. fr) m (g ∷ ts) g [] below below c c' _ _ woven sc (in_block (length below) (arity_of r) sk sk' em sl ar))
+            arm m below c c' sk sk' em es sc = same_step (omega arith) (at x f (λ y fr. fr) m (g ∷ ts) g [] below below c c' _ _ woven sc (in_block (length below) (arity_of r) sk sk' em es sl ar))
 
             by : (v : ℕ) (below : List Value)
                 → Same w spare (steps 0 (choose v (running s fn under ls below a (block_label (length below) (arity_of r) rest b ∷ labels))
                 (running s fn under ls below b (block_label (length below) (arity_of r) rest done ∷ labels))))
                 (steps 0 (choose v (running s fn under' ls' below a' (block_label (length below) (arity_of r) rest' b' ∷ labels'))
                 (running s fn under' ls' below b' (block_label (length below) (arity_of r) rest' done ∷ labels'))))
-            by zero below = arm _ below b b' done done (no_calls (length (calls_of rest) + n)) sb
-            by (suc v) below = arm _ below a a' b b' refl sa
+            by zero below = arm _ below b b' done done (no_calls (length (calls_of rest) + n)) refl sb
+            by (suc v) below = arm _ below a a' b b' refl (ap length (same_calls (w.terms fn) (length (calls_of rest) + n) (g ∷ ts) g f [] b b' sb)) sa
 
       -- in lockstep, with the same operands
       plain_case : (ls ls' : List Value) (sh : Shape) (ops ops' : List Value) (code code' : Code) (labels labels' : List Label) → head_of code' ≡ head_of code
@@ -501,7 +502,7 @@ module _ (w : Sides) where
       table ls size f ls' ag n ts out sh ops ops' _ _ labels labels' wo (blocks {body = body} {body' = body'} {rest = rest} {rest' = rest'} r g pl sb sl) ar pr =
           plain_case ls ls' sh ops ops' (nest a_block r body rest) (nest a_block r body' rest') labels labels' refl refl
           (same_step (omega arith) (at (ctx s fn under under' us ls size f ls' ag) f (λ z fz. fz) _ (g ∷ ts) g [] ops ops body body' _ _ woven sb
-          (in_block (length ops) (arity_of r) done done (no_calls (length (calls_of rest) + n)) sl ar))) (plainly_same ls sh ops ops' pl wo)
+          (in_block (length ops) (arity_of r) done done (no_calls (length (calls_of rest) + n)) refl sl ar))) (plainly_same ls sh ops ops' pl wo)
       table ls size f ls' ag n ts out sh ops ops' _ _ labels labels' wo (loops {body = body} {body' = body'} {rest = rest} {rest' = rest'} r head g pl co sb sl) ar pr =
           plain_case ls ls' sh ops ops' (nest a_loop r body rest) (nest a_loop r body' rest') labels labels' refl refl
           (same_step (omega arith) (at (ctx s fn under under' us ls size f ls' ag) head co _ (head ∷ ts) g [] ops ops body body' _ _ woven sb

@@ -48,7 +48,7 @@ pub data Woven (ls : List Value) : Shape → (ops ops' : List Value) → Type 0 
 pub data Around (t : Terms) : (n : ℕ) → (ts : List Free) → (out : Free) → List Label → List Label → Type 0 where
   in_body : {out : Free} → Around t 0 [] out [] []
   in_block : {n m : ℕ} {ts : List Free} {out g : Free} {rest rest' : Code} {labels labels' : List Label} → (h arity : ℕ) → (skipped skipped' : Code)
-      → m ≡ length (calls_of skipped) + (length (calls_of rest) + n)
+      → m ≡ length (calls_of skipped) + (length (calls_of rest) + n) → length (calls_of skipped') ≡ length (calls_of skipped)
       → Slims t n ts out g [] rest rest' → Around t n ts out labels labels' → Around t m (g ∷ ts) g (block_label h arity rest skipped ∷ labels) (block_label h arity rest' skipped' ∷ labels')
   in_loop : {n m : ℕ} {ts : List Free} {out head g : Free} {body body' rest rest' : Code} {labels labels' : List Label} → (h : ℕ) → m ≡ length (calls_of rest) + n
       → Slims t m (head ∷ ts) g head [] body body' → Slims t n ts out g [] rest rest' → Around t n ts out labels labels'
@@ -134,16 +134,21 @@ pub data Way (w : Sides) (c : Configuration) : Configuration → ℕ → Configu
   way_same : {k : ℕ} {c' d : Configuration} → SameNext c c' → step w.slim c' ≡ steps k d → Way w c c' (suc k) d
   way_sets : {n m : ℕ} {c' c2 d : Configuration} → sets_local c'.here.code ≡ true → step w.slim c' ≡ steps 0 c2 → Way w c c2 n d → m ≡ 1 + n → Way w c c' m d
 
+-- The slim side sets locals alone.
+pub data Saving (w : Sides) : Configuration → ℕ → Configuration → Type 0 where
+  saves_none : {c : Configuration} → Saving w c 0 c
+  saves_one : {n m : ℕ} {c c2 d : Configuration} → sets_local c.here.code ≡ true → step w.slim c ≡ steps 0 c2 → Saving w c2 n d → m ≡ 1 + n → Saving w c m d
+
 -- What the slim side does where the flat side, with so much to spare, does this next at such a lean cost: the same, at least
 -- at the lean cost, and at most at the whole one and what is to spare; what is left of it is to spare behind.
 pub data ComesToo (w : Sides) (c c' : Configuration) (spare : ℕ) (least : ℕ → ℕ) : Next → Type 0 where
   it_steps : {k : ℕ} {d : Configuration} → (cost left : ℕ) → (to : Configuration) → Way w c c' cost to → least (suc k) ≤ cost → cost + left ≤ suc k + spare → Beside w left d to
       → ComesToo w c c' spare least (steps k d)
-  it_asks : {k x : ℕ} {args : List Value} {d : Configuration} → (cost : ℕ) → (at to : Configuration) → Way w c c' cost at → cost ≤ spare → SameNext c at
+  it_asks : {k x : ℕ} {args : List Value} {d : Configuration} → (cost : ℕ) → (at to : Configuration) → Saving w c' cost at → cost ≤ spare → SameNext c at
       → step w.slim at ≡ asks k x args to → Asked w d to → ComesToo w c c' spare least (asks k x args d)
-  it_returns : {k : ℕ} {vs : List Value} {s : Store} → (cost : ℕ) → (at : Configuration) → Way w c c' cost at → cost ≤ spare → SameNext c at → step w.slim at ≡ returns k vs s
+  it_returns : {k : ℕ} {vs : List Value} {s : Store} → (cost : ℕ) → (at : Configuration) → Saving w c' cost at → cost ≤ spare → SameNext c at → step w.slim at ≡ returns k vs s
       → ComesToo w c c' spare least (returns k vs s)
-  it_traps : {k : ℕ} {u : Trap} {s : Store} → (cost : ℕ) → (at : Configuration) → Way w c c' cost at → cost ≤ spare → SameNext c at → step w.slim at ≡ traps k u s
+  it_traps : {k : ℕ} {u : Trap} {s : Store} → (cost : ℕ) → (at : Configuration) → Saving w c' cost at → cost ≤ spare → SameNext c at → step w.slim at ≡ traps k u s
       → ComesToo w c c' spare least (traps k u s)
   it_is_stuck : ComesToo w c c' spare least stuck
 

@@ -10,26 +10,23 @@ use Rattle.wa_types.specs.Marks.{first_above}
 use Rattle.wa_types.specs.ModuleBounds.{source_bounds, prepared_bounds}
 use Rattle.wa_types.specs.Modules.{func_imports}
 use Rattle.wa_types.specs.Norm.{Norm}
-use Rattle.wa_types.specs.Pausing.{Settings, is_told}
+use Rattle.wa_types.specs.Pausing.{Settings, TellsMayPause, is_told}
 use Rattle.wa_types.specs.Sizes.{StrictSizeRule, WellFormed}
 use Rattle.wa_types.specs.Syntax.{Func, Module}
 use Rattle.wa_types.specs.Validity.{Valid}
 use Rattle.wa_types.specs.View.{module_of}
-use Rattle.wa_types.proofs.FileWriting.{written_spells}
 use Rattle.wa_types.proofs.SpelledFits.{spelled_fits}
-use Rattle.wasm_encode.specs.Modules.{FewLocals}
 use Rattle.wasm_reader.specs.declared.read_fault.ReadFault.{ReadFault}
 use Rattle.wasm_reader.specs.declared.read_fault.ReadFault.TheVariants.{Memory, Malformed, Float, Deep, Limit}
 use Rattle.wasm_reader.specs.Answers.{IsAccepted, IsRefused}
 use Rattle.wasm_reader.proofs.Accepting.{accepted_spelled, accepted_strictly}
 use Rattle.wasm_reader.proofs.ShortFile.{written_short}
 use Rattle.flatten.specs.Whole.{NonePasses, FirstPasses}
-use Rattle.rewrite_form.specs.Emitted.{asyncified}
 use Rattle.rewrite_form.specs.Sizes.{FewWritten}
-use Rattle.emitted_bytes.proofs.EmittedFits.{emitted_fits}
-use Rattle.emitted_bytes.proofs.EmittedLength.{emitted_few}
+use Rattle.live_bytes.proofs.BytesByPolicy.{prepared_as, spelled_as}
+use Rattle.live_form.specs.EmittedAs.{EmittedAs}
+use Rattle.live_form.specs.PolicyLaws.{CanBeEmitted}
 use Rattle.prepared_modules.proofs.Numbers.{functions_counted}
-use Rattle.prepared_modules.proofs.Prepared.{emitted_prepared}
 use Rattle.asyncify_runtime.specs.Reserved.{reserved_at}
 use Rattle.module_rewrite.specs.declared.fault.RewriteFault.{RewriteFault}
 use Rattle.module_rewrite.specs.declared.fault.RewriteFault.TheVariants.{Memory as rewrite_memory, Locals as rewrite_locals, Reserved as rewrite_reserved}
@@ -126,21 +123,18 @@ module _ (bytes : List ℕ) (m : Module) (src : IsValidSource bytes m) where
   few_functions =
       let n = functions_counted read.sections m read.is_module in omega (arith, n, read.within.before.before.before.before.functions)
 
-  pub few_bytes : length (Enc m) ≤ 2 ^ 60
+  pub few_bytes : length (Enc m) ≤ 2 ^ 36
   few_bytes =
       let l = written_short bytes m (accepted_spelled source_bounds bytes m read) in
       omega (arith, l, read.within.before.before.before.before.before.file.few)
 
-  module _ (s : Settings) (which : List Bool) (few : first_above 50000 (rewritten_counts m which) ≡ None) where
-    source_few : FewLocals (asyncified m s which)
-    source_few = emitted_few m s which src.valid strict (few_written m which few)
+  module _ (s : Settings) (which : List Bool) (few : first_above 50000 (rewritten_counts m which) ≡ None) (tells : TellsMayPause m s which) where
+    pub can : CanBeEmitted m s which
+    can = record { valid = src.valid; sizes = strict; few = few_written m which few; tells = tells }
 
     -- what is written, where it isn't long, is a prepared module
-    pub source_prepared : ((i : ℕ) → slice_index_or bytes i 0 < 2 ^ 8) → length (Enc (asyncified m s which)) ≤ 67108864
-        → IsAccepted prepared_bounds (Enc (asyncified m s which)) (Norm (asyncified m s which))
-    source_prepared are_bytes short =
-        let fits = emitted_fits m s which src.valid (well are_bytes) strict (few_written m which few) in
-        emitted_prepared m s which bytes read src.valid (few_written m which few) short (written_spells (asyncified m s which) fits source_few (omega (arith, short)))
+    pub source_prepared : (p : Module) → EmittedAs m s which p → ((i : ℕ) → slice_index_or bytes i 0 < 2 ^ 8) → length (Enc p) ≤ 67108864 → IsAccepted prepared_bounds (Enc p) (Norm p)
+    source_prepared p e are_bytes short = prepared_as m s which p bytes can e read short (spelled_as m s which p can e (well are_bytes) short)
 
 -- the parts of a valid source
 pub made_source : (bytes : List ℕ) (m v : ModuleValue) → v ≡ m → IsAccepted source_bounds bytes (module_of m) → reserved_at (module_of m) ≡ None → Valid (module_of m) → IsValidSource bytes (module_of v)
@@ -173,4 +167,4 @@ emit_refused s bytes m (emit_locals func count) r src h e =
     subst (IsFaultOf s bytes) (sym e) (m, h.which, src, h.tells, first_passes m func count (func_imports m) (drop (func_imports m) h.which) m.funcs h.first)
 emit_refused s bytes m (emit_too_long len) r src h e =
     let few = none_passes m (drop (func_imports m) h.which) m.funcs h.can.few in
-    subst (IsFaultOf s bytes) (sym e) (m, h.which, record { accepted = src; tells = h.can.tells; few = few }, h.is, h.over)
+    subst (IsFaultOf s bytes) (sym e) (m, h.which, h.written, record { accepted = src; tells = h.can.tells; few = few }, h.emitted, h.is, h.over)

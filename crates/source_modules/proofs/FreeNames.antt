@@ -8,15 +8,13 @@ use Rattle.std.proofs.lemmas.List.Elements.{All-nil, All-cons}
 use Rattle.std.proofs.lemmas.Slice.Eq.{bytes_eq-Decides}
 use Rattle.wa_types.specs.declared.syntax.Export.{Export}
 use Rattle.wa_types.specs.Syntax.{Module}
-use Rattle.wa_types.specs.Pausing.{Settings, save_all, TellsMayPause}
+use Rattle.wa_types.specs.Pausing.{Settings, TellsMayPause}
 use Rattle.wa_types.specs.Sizes.{StrictSizeRule}
 use Rattle.wa_types.specs.Validity.{Valid}
 use Rattle.wa_types.specs.Runtime.{runtime_names}
 use Rattle.wa_model.specs.Rewrites.{Rewrites}
 use Rattle.wa_model.specs.Quiet.{FreeOfNames}
-use Rattle.rewrite_form.specs.Emitted.{asyncified}
 use Rattle.rewrite_form.specs.Sizes.{FewWritten}
-use Rattle.rewrite_runs.proofs.Asyncified.{asyncified_law}
 use Rattle.live_form.specs.EmittedAs.{EmittedAs}
 use Rattle.live_form.proofs.PolicyCases.{rewrites_as}
 use Rattle.wa_types.specs.Norm.{Norm}
@@ -64,12 +62,12 @@ second_none None None e = refl
 pub unreserved_is_free : (m : Module) → reserved_at m ≡ None → FreeOfNames m
 unreserved_is_free m e = each_free m.exports (none_found (λ (x : Export). is_runtime_name x.name) m.exports (second_none (reserved_import m.imports) (reserved_export m.exports) e))
 
--- What the bytes of a source spell, as it is written, is that module, rewritten.
-pub sources_rewritten : (m : Module) (s : Settings) (which : List Bool) → Valid m → reserved_at m ≡ None → StrictSizeRule m → FewWritten m which → s.policy ≡ save_all → TellsMayPause m s which
-    → Rewrites m s (Norm (asyncified m s which))
-sources_rewritten m s which v free strict few policy t = norm_rewritten m s (asyncified m s which) (asyncified_law m s which v (unreserved_is_free m free) strict few policy t)
-
 -- What is run of it is that module, rewritten.
 pub runs_rewritten : (m : Module) (s : Settings) (which : List Bool) (p : Module) → EmittedAs m s which p → Valid m → reserved_at m ≡ None → StrictSizeRule m → FewWritten m which → TellsMayPause m s which
     → Rewrites m s p
 runs_rewritten m s which p e v free strict few t = rewrites_as m s which p (record { valid = v; sizes = strict; few = few; tells = t }) (unreserved_is_free m free) e
+
+-- So is what its bytes spell, where it is written.
+pub sources_rewritten : (m : Module) (s : Settings) (which : List Bool) (p : Module) → EmittedAs m s which p → Valid m → reserved_at m ≡ None → StrictSizeRule m → FewWritten m which → TellsMayPause m s which
+    → Rewrites m s (Norm p)
+sources_rewritten m s which p e v free strict few t = norm_rewritten m s p (runs_rewritten m s which p e v free strict few t)

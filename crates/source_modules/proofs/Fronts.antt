@@ -8,7 +8,7 @@ use Rattle.wa_types.specs.declared.bounds.LimitKind.TheVariants.{File, Functions
 use Rattle.wasm_reader.specs.declared.read_fault.ReadFault.{ReadFault}
 use Rattle.wasm_reader.specs.declared.read_fault.ReadFault.TheVariants as R
 use Rattle.wasm_reader.specs.Answers.{IsAccepted, IsRefused}
-use Rattle.source_modules.specs.Sources.{IsFree, IsValidSource, IsRewritable, Cause, malformed, float, deep, limit, reserved, invalid, rewritten_locals, long_output, IsRefusedFor}
+use Rattle.source_modules.specs.Sources.{IsFree, IsValidSource, IsRewritable, IsSource, Cause, malformed, float, deep, limit, reserved, invalid, rewritten_locals, long_output, IsRefusedFor}
 use Rattle.source_modules.specs.Running.{RunsAs}
 
 -- a front one byte past the limit that is within it is whole
@@ -27,6 +27,10 @@ valid_whole bytes m v = record { unreserved = free_whole bytes m v.unreserved; v
 
 rewritable_whole : (s : Settings) (bytes : List ℕ) (m : Module) (which : List Bool) → IsRewritable s (take 8388609 bytes) m which → IsRewritable s bytes m which
 rewritable_whole s bytes m which h = record { accepted = valid_whole bytes m h.accepted; tells = h.tells; few = h.few }
+
+-- .. a source that is written
+pub source_whole : (s : Settings) (bytes : List ℕ) (m : Module) (which : List Bool) (p : Module) → IsSource s (take 8388609 bytes) m which p → IsSource s bytes m which p
+source_whole s bytes m which p h = record { rewritable = rewritable_whole s bytes m which h.rewritable; emitted = h.emitted; short = h.short }
 
 -- .. a source that is run
 pub runs_whole : (s : Settings) (bytes : List ℕ) (listed : List Bool) (p : Module) → RunsAs s (take 8388609 bytes) listed p → RunsAs s bytes listed p
@@ -66,4 +70,4 @@ cause_whole s bytes (limit what found) h = refused_whole bytes (R.Limit what fou
 cause_whole s bytes (reserved name) h = (h.0, h.1, accepted_whole bytes h.0 h.2, h.3, h.4)
 cause_whole s bytes (invalid func rule at) h = (h.0, free_whole bytes h.0 h.1, h.2)
 cause_whole s bytes (rewritten_locals found) h = (h.0, h.1, valid_whole bytes h.0 h.2, h.3, h.4)
-cause_whole s bytes (long_output found) h = (h.0, h.1, rewritable_whole s bytes h.0 h.1 h.2, h.3, h.4)
+cause_whole s bytes (long_output found) h = (h.0, h.1, h.2, rewritable_whole s bytes h.0 h.1 h.3, h.4, h.5, h.6)

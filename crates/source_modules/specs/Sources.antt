@@ -22,7 +22,7 @@ use Rattle.wasm_reader.specs.Answers.{IsAccepted, IsRefused}
 use Rattle.asyncify_runtime.specs.declared.reserving.ReservedAt.{ReservedAt}
 use Rattle.asyncify_runtime.specs.declared.reserving.ReservedAt.TheVariants.{Import as at_import, Export as at_export}
 use Rattle.asyncify_runtime.specs.Reserved.{reserved_at}
-use Rattle.rewrite_form.specs.Emitted.{asyncified}
+use Rattle.live_form.specs.EmittedAs.{EmittedAs}
 
 -- The bytes spell this module, without a float and within the limits of a source module, under no reserved name.
 pub record IsFree (bytes : List ℕ) (m : Module) : Type 0 where
@@ -51,10 +51,11 @@ pub record IsRewritable (s : Settings) (bytes : List ℕ) (m : Module) (which : 
   pub tells : TellsMayPause m s which
   pub few : first_above 50000 (rewritten_counts m which) ≡ None
 
--- .. and what is written isn't too long
-pub record IsSource (s : Settings) (bytes : List ℕ) (m : Module) (which : List Bool) : Type 0 where
+-- .. and what is written, the bytes of the other module, which is emitted of it by the policy of the settings, isn't too long
+pub record IsSource (s : Settings) (bytes : List ℕ) (m : Module) (which : List Bool) (p : Module) : Type 0 where
   pub rewritable : IsRewritable s bytes m which
-  pub short : length (Enc (asyncified m s which)) ≤ 67108864
+  pub emitted : EmittedAs m s which p
+  pub short : length (Enc p) ≤ 67108864
 
 -- the joined name of an import
 abbrev pub joined_name : Option Import → List ℕ
@@ -90,7 +91,7 @@ IsRefusedFor s bytes (invalid func rule at) = (m : Module) × IsFree bytes m × 
 IsRefusedFor s bytes (rewritten_locals found) =
     (m : Module) × (which : List Bool) × IsValidSource bytes m × TellsMayPause m s which × (first_above 50000 (rewritten_counts m which) ≡ Some found)
 IsRefusedFor s bytes (long_output found) =
-    (m : Module) × (which : List Bool) × IsRewritable s bytes m which × (found ≡ length (Enc (asyncified m s which))) × (67108864 < found)
+    (m : Module) × (which : List Bool) × (p : Module) × IsRewritable s bytes m which × EmittedAs m s which p × (found ≡ length (Enc p)) × (67108864 < found)
 
 -- the refusal that is told
 abbrev pub refusal_for : Cause → Refusal
@@ -103,10 +104,9 @@ refusal_for (invalid func rule at) = T.invalid func rule at
 refusal_for (rewritten_locals found) = T.limit Locals found
 refusal_for (long_output found) = T.limit Output found
 
--- The bytes are an accepted source of so many functions, so many of which may pause; the text is its module, rewritten, and
+-- The bytes are an accepted source of so many functions, so many of which may pause; the text is that of the module that is emitted, and
 -- spells one that is within the bounds of a prepared module, and is the source's, rewritten.
 abbrev pub IsRewritten : Settings → List ℕ → (functions instrumented : ℕ) → List ℕ → Type 0
 IsRewritten s bytes functions instrumented text =
-    (m : Module) × (which : List Bool) × IsSource s bytes m which × (functions ≡ length m.funcs) × (instrumented ≡ count_by (λ b. b) which)
-    × (text ≡ Enc (asyncified m s which)) × IsAccepted prepared_bounds (Enc (asyncified m s which)) (Norm (asyncified m s which))
-    × Rewrites m s (Norm (asyncified m s which))
+    (m : Module) × (which : List Bool) × (p : Module) × IsSource s bytes m which p × (functions ≡ length m.funcs) × (instrumented ≡ count_by (λ b. b) which)
+    × (text ≡ Enc p) × IsAccepted prepared_bounds (Enc p) (Norm p) × Rewrites m s (Norm p)

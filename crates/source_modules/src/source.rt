@@ -2,7 +2,6 @@
 ghost use Rattle.std.specs.Prelude.{◌≡◌, count_by, IfOk, Some};
 ghost use Rattle.std.specs.Result.{IfErr};
 ghost use Rattle.call_graph.specs.Settings.{settings_of};
-ghost use Rattle.call_graph.specs.declared.settings.Policy.TheVariants.{All};
 ghost use Rattle.wa_types.specs.View.{module_of};
 ghost use Rattle.wasm_reader.specs.Answers.{IsAccepted};
 ghost use Rattle.asyncify_runtime.specs.Reserved.{reserved_at};
@@ -52,7 +51,6 @@ pub struct Written {
 
 /// The module that these bytes spell, rewritten by these settings, where it is an accepted source.
 pub fn rewrite(alloc: Global, bytes: &[u8], settings: &Settings) -> Result<Written, SourceFault>
-    requires { settings.now.policy ≡ All }
     ensures done { IfOk result (λ r. IsRewritten (settings_of settings.now) bytes.now r.functions r.instrumented r.text.items) }
     ensures refused { IfErr result (λ fault. IsFaultOf (settings_of settings.now) bytes.now fault) }
 {

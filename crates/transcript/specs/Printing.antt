@@ -8,7 +8,7 @@ use Rattle.wa_model.specs.declared.events.End.TheVariants.{NoAnswer, OtherImport
 use Rattle.wa_model.specs.Transcript as T
 use Rattle.transcript.specs.declared.events.Names.{Names}
 use Rattle.transcript.specs.declared.refusals.RefusalKind.{RefusalKind}
-use Rattle.transcript.specs.declared.refusals.RefusalKind.TheVariants.{Usage, Malformed, Float, Invalid, Limit, Nesting, Reserved, Script, OutOfMemory, ReadFault, WriteFault, NotBuilt}
+use Rattle.transcript.specs.declared.refusals.RefusalKind.TheVariants.{Usage, Malformed, Float, Invalid, Limit, Nesting, Reserved, Script, OutOfMemory, ReadFault, WriteFault}
 
 abbrev pub names_of : Names → T.Names
 names_of n = record { imports = n.imports.items; entries = n.entries.items; len = n.len }
@@ -59,4 +59,3 @@ refusal_of (Script line rule) = T.script line rule
 refusal_of OutOfMemory = T.out_of_memory
 refusal_of (ReadFault name) = T.read_fault name
 refusal_of (WriteFault name) = T.write_fault name
-refusal_of NotBuilt = T.not_built

@@ -61,8 +61,6 @@ pub enum RefusalKind {
     WriteFault {
         name: Name,
     },
-    /// What is asked for isn't built yet.
-    NotBuilt,
 }
 
 /// The line of a refusal.
@@ -114,7 +112,6 @@ fn put_refusal(alloc: Global, line: &mut Vec<u8>, kind: &RefusalKind) -> Result<
         RefusalKind::OutOfMemory => put(line, "out of memory"),
         RefusalKind::ReadFault { name } => put_with_name(line, "read fault ", name.as_str()),
         RefusalKind::WriteFault { name } => put_with_name(line, "write fault ", name.as_str()),
-        RefusalKind::NotBuilt => put(line, "not yet built"),
     }
 }
 

@@ -27,13 +27,13 @@ unfolding HoldsSource
 source_held s input output None None h = tt
 source_held s input output None (Some b) h = tt
 source_held s input output (Some a) None h = absurd h
-source_held s input output (Some a) (Some b) h = (h.«module», h.which, h.source)
+source_held s input output (Some a) (Some b) h = (h.«module», h.which, h.emitted, h.source)
 
 refused_not_held : (s : Settings) (input : List ℕ) (files : Option Files) (cause : Cause)
     → WhereTold files (λ all. HoldsSource s (bytes_of all input)) → ToldThat files (λ all. IsRefusedFor s (bytes_of all input) cause) → ⊥
 unfolding HoldsSource
 refused_not_held s input None cause h r = r
-refused_not_held s input (Some a) cause h r = source_passes s (bytes_of a input) h.0 h.1 cause h.2 r
+refused_not_held s input (Some a) cause h r = source_passes s (bytes_of a input) h.0 h.1 h.2 cause h.3 r
 
 one_cause : (s : Settings) (input : List ℕ) (files : Option Files) (c d : Cause) → WhereTold files (λ all. IsRefusedFor s (bytes_of all input) c)
     → ToldThat files (λ all. IsRefusedFor s (bytes_of all input) d) → status_of (refusal_for c) ≡ status_of (refusal_for d)
@@ -45,7 +45,7 @@ held_not_refused : (s : Settings) (input : List ℕ) (files : Option Files) (cau
     → WhereTold files (λ all. IsRefusedFor s (bytes_of all input) cause) → ⊥
 unfolding HoldsSource
 held_not_refused s input None cause h r = h
-held_not_refused s input (Some a) cause h r = source_passes s (bytes_of a input) h.1.0 h.1.1 cause h.1.2 r
+held_not_refused s input (Some a) cause h r = source_passes s (bytes_of a input) h.1.0 h.1.1 h.1.2 cause h.1.3 r
 
 some_not_none : {X : Type 0} (o : Option X) → IsSome o → o ≡ None → ⊥
 some_not_none None h e = cc

@@ -11,7 +11,8 @@ use Rattle.wa_types.specs.FirstFault.{FirstFault}
 use Rattle.wa_types.specs.Encoding.{Enc}
 use Rattle.wa_types.specs.Pausing.{Settings, TellsMayPause}
 use Rattle.slot_laws.proofs.Closed.{one_list}
-use Rattle.rewrite_form.specs.Emitted.{asyncified}
+use Rattle.live_form.specs.EmittedAs.{EmittedAs}
+use Rattle.live_form.proofs.OneEmitted.{one_emitted}
 use Rattle.wa_types.specs.Syntax.{Module}
 use Rattle.wa_types.proofs.FaultLemmas.{valid_no_fault}
 use Rattle.wa_types.proofs.OneFault.{fault_spells_none}
@@ -32,7 +33,7 @@ Reached s bytes (suc (suc (suc (suc zero)))) = (m : Module) × IsAccepted source
 Reached s bytes (suc (suc (suc (suc (suc zero))))) = (m : Module) × IsFree bytes m
 Reached s bytes (suc (suc (suc (suc (suc (suc zero)))))) = (m : Module) × IsValidSource bytes m
 Reached s bytes (suc (suc (suc (suc (suc (suc (suc zero))))))) = (m : Module) × (which : List Bool) × IsRewritable s bytes m which
-Reached s bytes (suc (suc (suc (suc (suc (suc (suc (suc zero)))))))) = (m : Module) × (which : List Bool) × IsSource s bytes m which
+Reached s bytes (suc (suc (suc (suc (suc (suc (suc (suc zero)))))))) = (m : Module) × (which : List Bool) × (p : Module) × IsSource s bytes m which p
 Reached s bytes (suc (suc (suc (suc (suc (suc (suc (suc (suc n))))))))) = ⊥
 
 down : (s : Settings) (bytes : List ℕ) (n : ℕ) → Reached s bytes (suc n) → Reached s bytes n
@@ -43,7 +44,7 @@ down s bytes (suc (suc (suc zero))) r = (r.1.sections, r.1.within.before.before.
 down s bytes (suc (suc (suc (suc zero)))) r = (r.0, r.1.read)
 down s bytes (suc (suc (suc (suc (suc zero))))) r = (r.0, r.1.unreserved)
 down s bytes (suc (suc (suc (suc (suc (suc zero)))))) r = (r.0, r.2.accepted)
-down s bytes (suc (suc (suc (suc (suc (suc (suc zero))))))) r = (r.0, r.1, r.2.rewritable)
+down s bytes (suc (suc (suc (suc (suc (suc (suc zero))))))) r = (r.0, r.1, r.3.rewritable)
 down s bytes (suc (suc (suc (suc (suc (suc (suc (suc n)))))))) r = absurd r
 
 pub below : (s : Settings) (bytes : List ℕ) (n k : ℕ) → k ≤ n → Reached s bytes n → Reached s bytes k
@@ -83,7 +84,7 @@ reaches s bytes (limit Programs n) h = absurd h
 reaches s bytes (reserved name) h = (h.0, h.2)
 reaches s bytes (invalid func rule at) h = (h.0, h.1)
 reaches s bytes (rewritten_locals found) h = (h.0, h.2)
-reaches s bytes (long_output found) h = (h.0, h.1, h.2)
+reaches s bytes (long_output found) h = (h.0, h.1, h.3)
 
 no_least : (k : ℕ) (ks : List ℕ) → IsLeast k ks → ks ≡ [] → ⊥
 no_least k ks h e = let c : Contains [] k = subst (λ (xs : List ℕ). Contains xs k) e h.among in let lt = c.1 in absurd (omega arith)
@@ -98,6 +99,14 @@ pub same_module : (bytes : List ℕ) (m n : Module) → IsAccepted source_bounds
 same_module bytes m n a b =
     let e = same_sections bytes b.sections m b.within.before.before.before.before.before.file a in
     one_module b.sections m n (subst (λ (ss : List Section). IsModule ss m) e a.is_module) b.is_module
+
+-- one module is emitted of a source
+pub one_written : (s : Settings) (bytes : List ℕ) (m n : Module) (which others : List Bool) (p q : Module) → IsRewritable s bytes m which → IsRewritable s bytes n others
+    → EmittedAs m s which p → EmittedAs n s others q → p ≡ q
+one_written s bytes m n which others p q a b h k =
+    let e = same_module bytes m n a.accepted.unreserved.read b.accepted.unreserved.read in
+    let t = one_list n s which others (subst (λ (m : Module). TellsMayPause m s which) e a.tells) b.tells in
+    one_emitted n s others p q (subst (λ which. EmittedAs n s which p) t (subst (λ (m : Module). EmittedAs m s which p) e h)) k
 
 pub stops : (s : Settings) (bytes : List ℕ) (c : Cause) → IsRefusedFor s bytes c → Reached s bytes (suc (stage c)) → ⊥
 stops s bytes (malformed at) h r = fault_spells_none bytes at r.0 h.1 r.1.spells
@@ -134,10 +143,9 @@ stops s bytes (rewritten_locals found) h r =
     no_some (first_above 50000 (rewritten_counts h.0 h.1)) found h.4
     (ap (λ (m : Module). first_above 50000 (rewritten_counts m h.1)) e ∙ ap (λ which. first_above 50000 (rewritten_counts r.0 which)) t ∙ r.2.few)
 stops s bytes (long_output found) h r =
-    let e = same_module bytes h.0 r.0 h.2.accepted.unreserved.read r.2.rewritable.accepted.unreserved.read in
-    let t = one_list r.0 s h.1 r.1 (subst (λ (m : Module). TellsMayPause m s h.1) e h.2.tells) r.2.rewritable.tells in
-    let same = ap (λ (m : Module). length (Enc (asyncified m s h.1))) e ∙ ap (λ which. length (Enc (asyncified r.0 s which))) t in
-    absurd (omega (arith, same, h.3, h.4, r.2.short))
+    let p = one_written s bytes h.0 r.0 h.1 r.1 h.2 r.2 h.3 r.3.rewritable h.4 r.3.emitted in
+    let same = ap (λ (p : Module). length (Enc p)) p in
+    absurd (omega (arith, same, h.5, h.6, r.3.short))
 
 abbrev status_at : ℕ → ℕ
 status_at zero = 6
@@ -187,5 +195,5 @@ one_status s bytes c d h k = elim (cases_lt (stage c) (stage d)) [
 ]
 
 -- An accepted source isn't refused.
-pub source_passes : (s : Settings) (bytes : List ℕ) (m : Module) (which : List Bool) (c : Cause) → IsSource s bytes m which → IsRefusedFor s bytes c → ⊥
-source_passes s bytes m which c src h = stops s bytes c h (below s bytes 8 (suc (stage c)) (omega (arith, early c)) (m, which, src))
+pub source_passes : (s : Settings) (bytes : List ℕ) (m : Module) (which : List Bool) (p : Module) (c : Cause) → IsSource s bytes m which p → IsRefusedFor s bytes c → ⊥
+source_passes s bytes m which p c src h = stops s bytes c h (below s bytes 8 (suc (stage c)) (omega (arith, early c)) (m, which, p, src))

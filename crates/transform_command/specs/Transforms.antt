@@ -10,7 +10,6 @@ use Rattle.wa_types.specs.Norm.{Norm}
 use Rattle.wa_types.specs.Pausing.{Settings}
 use Rattle.wa_types.specs.ModuleBounds.{prepared_bounds}
 use Rattle.wasm_reader.specs.Answers.{IsAccepted}
-use Rattle.rewrite_form.specs.Emitted.{asyncified}
 use Rattle.wa_model.specs.Rewrites.{Rewrites}
 use Rattle.wa_model.specs.Transcript.{refusal_line, read_fault, write_fault, line_end}
 use Rattle.printing.specs.Refused.{status_of, Prints, PrintsMemory}
@@ -22,26 +21,27 @@ unfoldable pub done_line : (functions instrumented bytes : ℕ) → List ℕ
 done_line functions instrumented bytes =
     codes "ok functions " ++ decimal functions ++ codes " instrumented " ++ decimal instrumented ++ codes " bytes " ++ decimal bytes ++ line_end
 
--- OUT holds the bytes of the module of IN, rewritten by these settings. They spell a valid module without a float, which passes
+-- OUT holds the bytes of the module that is emitted of that of IN by these settings. They spell a valid module without a float, which passes
 -- no bound of a prepared module, and under the host's protocol behaves like the original. The other files are as before.
 pub record IsTransformed (s : Settings) (input output : List ℕ) (old new : Files) : Type 0 where
   pub «module» : Module
   pub which : List Bool
-  pub source : IsSource s (bytes_of old input) «module» which
-  pub written : ChangesOnly output (Enc (asyncified «module» s which)) old new
-  pub prepared : IsAccepted prepared_bounds (Enc (asyncified «module» s which)) (Norm (asyncified «module» s which))
-  pub rewritten : Rewrites «module» s (Norm (asyncified «module» s which))
+  pub emitted : Module
+  pub source : IsSource s (bytes_of old input) «module» which emitted
+  pub written : ChangesOnly output (Enc emitted) old new
+  pub prepared : IsAccepted prepared_bounds (Enc emitted) (Norm emitted)
+  pub rewritten : Rewrites «module» s (Norm emitted)
 
 -- OUT is as before, or holds some first bytes of what it would hold; the other files are as before.
 pub record IsCutShort (s : Settings) (input output : List ℕ) (old new : Files) : Type 0 where
   pub left : (new output ≡ old output)
-      ⊎ ((m : Module) × (which : List Bool) × IsSource s (bytes_of old input) m which × (n : ℕ) × (new output ≡ Some (take n (Enc (asyncified m s which)))))
+      ⊎ ((m : Module) × (which : List Bool) × (p : Module) × IsSource s (bytes_of old input) m which p × (n : ℕ) × (new output ≡ Some (take n (Enc p))))
   pub others : KeepsOthers output old new
 
 -- the functions of the module that these bytes spell, how many of them may pause, and the bytes of what is written
 abbrev pub IsCount : Settings → List ℕ → (functions instrumented bytes : ℕ) → Type 0
 IsCount s source functions instrumented bytes =
-    (m : Module) × (which : List Bool) × IsSource s source m which × (functions ≡ length m.funcs) × (instrumented ≡ count_by (λ b. b) which) × (bytes ≡ length (Enc (asyncified m s which)))
+    (m : Module) × (which : List Bool) × (p : Module) × IsSource s source m which p × (functions ≡ length m.funcs) × (instrumented ≡ count_by (λ b. b) which) × (bytes ≡ length (Enc p))
 
 -- the line of a module that was written; where the files are told, that of the module in IN
 abbrev pub IsDoneLine : Settings → Option Files → List ℕ → List ℕ → Type 0
@@ -50,7 +50,7 @@ IsDoneLine s files input line =
 
 -- there is an accepted source in IN
 unfoldable pub HoldsSource : Settings → List ℕ → Type 0
-HoldsSource s bytes = (m : Module) × (which : List Bool) × IsSource s bytes m which
+HoldsSource s bytes = (m : Module) × (which : List Bool) × (p : Module) × IsSource s bytes m which p
 
 -- a cause of this status; where the files are told, IN is refused for it
 abbrev pub HasCause : Settings → Option Files → List ℕ → ℕ → Type 0

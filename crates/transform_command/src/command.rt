@@ -1,7 +1,6 @@
 // The command from its files to its status.
 ghost use Rattle.std.specs.Prelude.{◌≡◌, ◌⊎◌, ◌≤◌, None, IsSome};
 ghost use Rattle.call_graph.specs.Settings.{settings_of};
-ghost use Rattle.call_graph.specs.declared.settings.Policy.TheVariants.{All};
 ghost use Rattle.vault_port.specs.Counts.{HasRisen};
 ghost use Rattle.vault_port.specs.Files.{bytes_of, IsMissing};
 ghost use Rattle.vault_port.specs.Told.{WhereTold, Becomes};
@@ -28,7 +27,6 @@ pub fn run_transform<V: Vault, S: Sink>(
     input: &str,
     output: &str,
 ) -> u8
-    requires { settings.now.policy ≡ All }
     ensures status { (result ≡ 0) ⊎ IsRefusal result ⊎ (result ≡ 9) ⊎ (result ≡ 10) ⊎ (result ≡ 11) ⊎ (result ≡ 12) }
 
     // The causes.

@@ -1,7 +1,6 @@
 // The command `transform`.
 ghost use Rattle.std.specs.Prelude.{◌≡◌, ◌⊎◌, ◌≤◌, IfOk, IsErrOf, OnOk, OnErr, IsSome};
 ghost use Rattle.call_graph.specs.Settings.{settings_of};
-ghost use Rattle.call_graph.specs.declared.settings.Policy.TheVariants.{All};
 ghost use Rattle.vault_port.specs.Counts.{HasRisen};
 ghost use Rattle.vault_port.specs.Files.{bytes_of, IsMissing};
 ghost use Rattle.vault_port.specs.Told.{WhereTold, Becomes};
@@ -48,7 +47,6 @@ pub fn transform<V: Vault>(
     input: &str,
     output: &str,
 ) -> Result<Done, TransformFault>
-    requires { settings.now.policy ≡ All }
     ensures done { OnOk result (Becomes (V.files vault.old) (V.files vault.new)
         (IsTransformed (settings_of settings.now) input.now output.now)) }
     ensures counts { IfOk result (λ d. WhereTold (V.files vault.old) (λ all.

@@ -1,33 +1,34 @@
 -- The commands that words spell.
 use Rattle.std.specs.Prelude.{ℕ, List, [], ◌∷◌, Option, Some, None, Bool, true, false, not, ◌||◌, ◌==◌, if◌then◌else◌, Result, Ok, Err, codes}
 use Rattle.std.specs.Str.{bytes_eq}
-use Rattle.wa_types.specs.Pausing.{Choice, every, nobody, of_list, Entry, ListError, list_of, save_all, Settings}
+use Rattle.wa_types.specs.Pausing.{Choice, every, nobody, of_list, Entry, ListError, list_of, Policy, save_all, save_live, Settings}
 
 -- Rewrite, by these settings, the module in one file into another.
 pub data Command : Type 0 where
   transform : (settings : Settings) → (input output : List ℕ) → Command
 
--- What a word is where an option may stand: `--imports`, `--imports=LIST`, a flag, the end of options, a name, or
--- none of these.
+-- What a word is where an option may stand: `--imports` or `--save`, either with `=` and its value, a flag, the end of
+-- options, a name, or none of these.
 pub data Word : Type 0 where
-  imports_word ignore_imports_word ignore_indirect_word end_word unknown_word : Word
-  imports_with name_word : (text : List ℕ) → Word
+  imports_word save_word ignore_imports_word ignore_indirect_word end_word unknown_word : Word
+  imports_with save_with name_word : (text : List ℕ) → Word
 
--- where the next word stands: an option may come; the LIST of `--imports` must; only files may
+-- where the next word stands: an option may come; the value of `--imports` or of `--save` must; only files may
 pub data Place : Type 0 where
-  anywhere behind_imports behind_options : Place
+  anywhere behind_imports behind_save behind_options : Place
 
 -- what the words have said so far
 pub record Said : Type 0 where
   pub place : Place
   pub imports : Option (List ℕ)
+  pub save : Option (List ℕ)
   pub ignore_imports : Bool
   pub ignore_indirect : Bool
   pub input : Option (List ℕ)
   pub output : Option (List ℕ)
 
 abbrev pub nothing_said : Said
-nothing_said = record { place = anywhere; imports = None; ignore_imports = false; ignore_indirect = false; input = None; output = None }
+nothing_said = record { place = anywhere; imports = None; save = None; ignore_imports = false; ignore_indirect = false; input = None; output = None }
 
 -- the word begins with `-`
 abbrev pub is_hyphened : List ℕ → Bool
@@ -44,22 +45,28 @@ behind (b ∷ bs) (c ∷ cs) = if c == b then behind bs cs else None
 abbrev pub named_word : List ℕ → Word
 named_word word = if not (is_hyphened word) || bytes_eq word (codes "-") then name_word word else unknown_word
 
-abbrev pub with_value : Option (List ℕ) → List ℕ → Word
-with_value (Some text) word = imports_with text
-with_value None word = named_word word
+abbrev pub with_value : (imports save : Option (List ℕ)) → List ℕ → Word
+with_value (Some text) save word = imports_with text
+with_value None (Some text) word = save_with text
+with_value None None word = named_word word
 
 abbrev pub word_of : List ℕ → Word
 word_of word =
     if bytes_eq word (codes "--imports") then imports_word
+    else (if bytes_eq word (codes "--save") then save_word
     else (if bytes_eq word (codes "--ignore-imports") then ignore_imports_word
     else (if bytes_eq word (codes "--ignore-indirect") then ignore_indirect_word
     else (if bytes_eq word (codes "--") then end_word
-    else with_value (behind (codes "--imports=") word) word)))
+    else with_value (behind (codes "--imports=") word) (behind (codes "--save=") word) word))))
 
 -- an option and a flag are given once
 abbrev pub say_imports : Option (List ℕ) → List ℕ → Said → Option Said
 say_imports (Some earlier) text s = None
 say_imports None text s = Some (record s { place = anywhere; imports = Some text })
+
+abbrev pub say_save : Option (List ℕ) → List ℕ → Said → Option Said
+say_save (Some earlier) text s = None
+say_save None text s = Some (record s { place = anywhere; save = Some text })
 
 abbrev pub say_ignore_imports : Bool → Said → Option Said
 say_ignore_imports true s = None
@@ -78,16 +85,19 @@ say_file (Some input) (Some output) name s = None
 abbrev pub say_word : Word → Said → Option Said
 say_word imports_word s = Some (record s { place = behind_imports })
 say_word (imports_with text) s = say_imports s.imports text s
+say_word save_word s = Some (record s { place = behind_save })
+say_word (save_with text) s = say_save s.save text s
 say_word ignore_imports_word s = say_ignore_imports s.ignore_imports s
 say_word ignore_indirect_word s = say_ignore_indirect s.ignore_indirect s
 say_word end_word s = Some (record s { place = behind_options })
 say_word unknown_word s = None
 say_word (name_word name) s = say_file s.input s.output name s
 
--- a LIST in a word of its own doesn't begin with `-`
+-- a value in a word of its own doesn't begin with `-`
 abbrev pub say_at : Place → List ℕ → Said → Option Said
 say_at anywhere word s = say_word (word_of word) s
 say_at behind_imports word s = if is_hyphened word then None else say_imports s.imports word s
+say_at behind_save word s = if is_hyphened word then None else say_save s.save word s
 say_at behind_options word s = say_file s.input s.output word s
 
 abbrev pub say : List ℕ → Option Said → Option Said
@@ -110,20 +120,27 @@ choice_said None true = Some nobody
 choice_said (Some text) false = listed_choice (list_of text)
 choice_said (Some text) true = None
 
-abbrev pub with_files : Option Choice → Bool → Option (List ℕ) → Option (List ℕ) → Option Command
-with_files (Some choice) ignore (Some input) (Some output) = Some (transform (record { choice = choice; ignore_indirect = ignore; policy = save_all }) input output)
-with_files _ ignore input output = None
+-- Frames keep all locals, or those that are live: all where it isn't said.
+abbrev pub policy_said : Option (List ℕ) → Option Policy
+policy_said None = Some save_all
+policy_said (Some text) = if bytes_eq text (codes "all") then Some save_all else (if bytes_eq text (codes "live") then Some save_live else None)
+
+abbrev pub with_files : Option Choice → Bool → Option Policy → Option (List ℕ) → Option (List ℕ) → Option Command
+with_files (Some choice) ignore (Some policy) (Some input) (Some output) =
+    Some (transform (record { choice = choice; ignore_indirect = ignore; policy = policy }) input output)
+with_files _ ignore policy input output = None
 
 abbrev pub transform_at : Place → Said → Option Command
 transform_at behind_imports s = None
-transform_at _ s = with_files (choice_said s.imports s.ignore_imports) s.ignore_indirect s.input s.output
+transform_at behind_save s = None
+transform_at _ s = with_files (choice_said s.imports s.ignore_imports) s.ignore_indirect (policy_said s.save) s.input s.output
 
 abbrev pub transform_said : Option Said → Option Command
 transform_said None = None
 transform_said (Some s) = transform_at s.place s
 
--- `transform [--imports LIST] [--ignore-imports] [--ignore-indirect] IN OUT`: options stand before, between and behind
--- the files, each at most once; LIST is the next word or follows `=`; `--` ends the options.
+-- `transform [--imports LIST] [--ignore-imports] [--ignore-indirect] [--save all|live] IN OUT`: options stand before,
+-- between and behind the files, each at most once; a value is the next word or follows `=`; `--` ends the options.
 abbrev pub command : List (List ℕ) → Option Command
 command [] = None
 command (word ∷ words) = if bytes_eq word (codes "transform") then transform_said (said (Some nothing_said) words) else None

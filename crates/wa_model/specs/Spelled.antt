@@ -2,7 +2,7 @@
 use Rattle.std.specs.Prelude.{ℕ, List, [], ◌∷◌, Option, Some, None, Bool, true, false, if◌then◌else◌, codes}
 use Rattle.std.specs.Option.{option_map}
 use Rattle.std.specs.Str.{bytes_eq}
-use Rattle.wa_model.specs.Command.{Command, command, Place, behind_imports, Said, said, nothing_said}
+use Rattle.wa_model.specs.Command.{Command, command, Place, behind_imports, behind_save, Said, said, nothing_said}
 use Rattle.wa_model.specs.ScriptLines.{number_within}
 
 -- Rewrite a module; run the programs of a script, as they are or rewritten; write a generated module and run it.
@@ -12,15 +12,16 @@ pub data Spelled : Type 0 where
   generates : (number : ℕ) → (output : List ℕ) → Spelled
 
 -- no option was given
-abbrev pub is_plain : Place → Option (List ℕ) → (ignore_imports ignore_indirect : Bool) → Bool
-is_plain behind_imports imports ignore_imports ignore_indirect = false
-is_plain _ None false false = true
-is_plain _ imports ignore_imports ignore_indirect = false
+abbrev pub is_plain : Place → (imports save : Option (List ℕ)) → (ignore_imports ignore_indirect : Bool) → Bool
+is_plain behind_imports imports save ignore_imports ignore_indirect = false
+is_plain behind_save imports save ignore_imports ignore_indirect = false
+is_plain _ None None false false = true
+is_plain _ imports save ignore_imports ignore_indirect = false
 
 -- files alone, of which there are two at most
 abbrev pub files_alone : (Option (List ℕ) → Option (List ℕ) → Option Spelled) → Option Said → Option Spelled
 files_alone spell None = None
-files_alone spell (Some s) = if is_plain s.place s.imports s.ignore_imports s.ignore_indirect then spell s.input s.output else None
+files_alone spell (Some s) = if is_plain s.place s.imports s.save s.ignore_imports s.ignore_indirect then spell s.input s.output else None
 
 abbrev pub one_file : (List ℕ → Spelled) → Option (List ℕ) → Option (List ℕ) → Option Spelled
 one_file spell (Some script) None = Some (spell script)

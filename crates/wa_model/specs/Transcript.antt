@@ -148,9 +148,9 @@ Transcript names programs events ls = event_lines names ls ++ last_line programs
 
 -- ---- refusals
 
--- Why a command is refused. `not_built` is for what isn't built yet.
+-- Why a command is refused.
 pub data Refusal : Type 0 where
-  usage out_of_memory not_built : Refusal
+  usage out_of_memory : Refusal
   malformed float nesting : (at : ℕ) → Refusal
   invalid : (func : Option ℕ) → (rule at : ℕ) → Refusal
   limit : (what : LimitKind) → (found : ℕ) → Refusal
@@ -172,7 +172,6 @@ limit_word Programs = codes "programs"
 abbrev pub refusal_text : Refusal → List ℕ
 refusal_text usage = codes "usage"
 refusal_text out_of_memory = codes "out of memory"
-refusal_text not_built = codes "not yet built"
 refusal_text (malformed at) = codes "malformed at " ++ decimal at
 refusal_text (float at) = codes "float at " ++ decimal at
 refusal_text (nesting at) = codes "limit nesting at " ++ decimal at

@@ -5,13 +5,13 @@ use Rattle.std.proofs.lemmas.List.{drop_more, append_assoc}
 use Rattle.std.proofs.lemmas.Bool.{lt-ltb, le-ltb, cases_lt}
 use Rattle.std.proofs.Math.Pow.{pow_mono}
 use Rattle.wa_types.specs.Leb.{IsUnsigned, IsSigned, last_signed}
-use Rattle.wa_types.specs.Opcodes.{Follows, no_operand, an_index, an_access, a_constant, follows, is_block_type}
-use Rattle.wa_types.specs.Begun.{Goal, code, block_type, number, signed, entries, Kind, Item, a_byte, an_unsigned, a_signed, a_name, a_constant_of, wants, IsItem, next, Inside, Steps, settled, operands, where_true, and_then, others}
+use Rattle.wa_types.specs.Opcodes.{Follows, no_operand, an_index, an_access, a_constant, follows, is_block_type, is_value_type}
+use Rattle.wa_types.specs.Begun.{Goal, code, block_type, value_type, number, signed, entries, Kind, some_runs, Item, a_byte, an_unsigned, a_signed, a_name, a_constant_of, wants, IsItem, next, Inside, Steps, settled, operands, where_true, and_then, others}
 use Rattle.wa_types.proofs.CodeReads.{refuted, none_nest}
 use Rattle.wasm_reader.specs.Items.{IsTold, IsWholeItem}
 use Rattle.wasm_reader.specs.Ends.{IsReached}
 use Rattle.wasm_reader.specs.Machine.{Stands}
-use Rattle.wasm_reader.specs.Passing.{IsShort, AreShort, Below, Passes, Opens, Closes, PassesEntries, IsAlone}
+use Rattle.wasm_reader.specs.Passing.{IsShort, AreShort, Below, Passes, Opens, Closes, PassesEntries, IsAlone, PassesRuns, IsShortRun}
 use Rattle.wasm_reader.proofs.Faults.{between, length_between, front_between, Ready, goes_on}
 
 pub some_by : (o : Option ℕ) (P Q : ℕ → Type 0) → ((x : ℕ) → P x → Q x) → IfSome o P → IfSome o Q
@@ -50,6 +50,10 @@ below_signed bits gs stop h j l = (tt, h j l)
 below_type : (gs : List Goal) (stop : ℕ) → Below stop gs → Below stop (block_type ∷ gs)
 unfolding Inside
 below_type gs stop h j l = (tt, h j l)
+
+below_value : (gs : List Goal) (stop : ℕ) → Below stop gs → Below stop (value_type ∷ gs)
+unfolding Inside
+below_value gs stop h j l = (tt, h j l)
 
 told_self : (i : Item) (v : ℕ) → IsTold i v v
 told_self a_byte v = refl
@@ -138,6 +142,10 @@ settled_signed at bits gs = refl
 settled_type : (at : ℕ) (gs : List Goal) → settled at (block_type ∷ gs) ≡ Some (block_type ∷ gs)
 unfolding settled
 settled_type at gs = refl
+
+settled_value : (at : ℕ) (gs : List Goal) → settled at (value_type ∷ gs) ≡ Some (value_type ∷ gs)
+unfolding settled
+settled_value at gs = refl
 
 settled_entries : (at : ℕ) (k : Kind) (n : ℕ) (gs : List Goal) → settled at (entries k n ∷ gs) ≡ Some (entries k n ∷ gs)
 unfolding settled
@@ -245,6 +253,38 @@ passes_more bytes k n at i stop room fits more a before gs below s =
     one_on bytes (at + i) stop (entries k (n - i)) gs (entries k (n - i - 1) ∷ []) (entries k (n - i - 1) ∷ gs) (get_or bytes (at + i) 0) room fits (below_entries k (n - i) gs stop below) (before gs below s) a.is_item e (settled_entries (at + i + 1) k (n - i - 1) gs) (below_entries k (n - i - 1) gs stop below) in
     subst (λ z. Stands bytes (at + (i + 1)) (entries k z ∷ gs)) left (subst (λ z. Stands bytes z (entries k (n - i - 1) ∷ gs)) place there)
 
+-- runs of two bytes
+byte_number : (b : ℕ) → b < 128 → IsUnsigned 32 (b ∷ []) b
+byte_number b h =
+    let p : 128 ≤ 2 ^ 32 = pow_mono {i = 7} {j = 32} (omega arith) in
+    inl (h, omega (arith, h, p), refl, refl)
+
+pub passes_no_run : (bytes : List ℕ) (n at stop : ℕ) → PassesRuns bytes n at 0 stop
+passes_no_run bytes n at stop gs below s =
+    let place : at ≡ at + 2 * 0 = omega arith in
+    let left : n ≡ n - 0 = omega arith in
+    subst (λ z. Stands bytes (at + 2 * 0) (entries some_runs z ∷ gs)) left (subst (λ z. Stands bytes z (entries some_runs n ∷ gs)) place s)
+
+pub passes_one_run : (bytes : List ℕ) (n at i stop : ℕ) → at + 2 * i + 2 < stop → stop ≤ length bytes → i + 1 < n
+    → IsShortRun (get_or bytes (at + 2 * i) 0) (get_or bytes (at + 2 * i + 1) 0) → PassesRuns bytes n at i stop → PassesRuns bytes n at (i + 1) stop
+unfolding next
+passes_one_run bytes n at i stop room fits more run before gs below s =
+    let left : List Goal = entries some_runs (n - i - 1) ∷ gs in
+    let inside : Below stop left = below_entries some_runs (n - i - 1) gs stop below in
+    let e : next (entries some_runs (n - i)) (get_or bytes (at + 2 * i) 0) (at + 2 * i + 1) ≡ Some (value_type ∷ entries some_runs (n - i - 1) ∷ []) =
+    ap (λ z. Some (value_type ∷ z)) (more_left some_runs (n - i) (omega (arith, more))) in
+    let one : Stands bytes (at + 2 * i + 1) (value_type ∷ left) =
+    one_on bytes (at + 2 * i) stop (entries some_runs (n - i)) gs (value_type ∷ entries some_runs (n - i - 1) ∷ []) (value_type ∷ left) (get_or bytes (at + 2 * i) 0)
+    (omega (arith, room)) fits (below_entries some_runs (n - i) gs stop below) (before gs below s)
+    (byte_number _ run.small) e (settled_value (at + 2 * i + 1) left) (below_value left stop inside) in
+    let two : Stands bytes (at + 2 * i + 1 + 1) left =
+    one_on bytes (at + 2 * i + 1) stop value_type left [] left (get_or bytes (at + 2 * i + 1) 0) (omega (arith, room)) fits
+    (below_value left stop inside) one refl (ap (λ t. where_true t []) run.typed)
+    (settled_entries (at + 2 * i + 1 + 1) some_runs (n - i - 1) gs) inside in
+    let place : at + 2 * i + 1 + 1 ≡ at + 2 * (i + 1) = omega arith in
+    let fewer : n - i - 1 ≡ n - (i + 1) = omega arith in
+    subst (λ z. Stands bytes (at + 2 * (i + 1)) (entries some_runs z ∷ gs)) fewer (subst (λ z. Stands bytes z left) place two)
+
 -- the machine's goals
 pub entries_on : (bytes : List ℕ) (all popped new : List Goal) (g : Goal) (k : Kind) (n at passed stop : ℕ) → all ≡ g ∷ drop 1 all → g ≡ entries k n → popped ≡ drop 1 all → new ≡ entries k (n - passed) ∷ popped → Stands bytes at all → Below stop all → PassesEntries bytes k n at passed stop → Stands bytes (at + passed) new
 entries_on bytes all popped new g k n at passed stop top is less more s below on =
@@ -255,6 +295,12 @@ entries_on bytes all popped new g k n at passed stop top is less more s below on
 pub entries_below : (all popped new : List Goal) (g : Goal) (k : Kind) (n stop : ℕ) → all ≡ g ∷ drop 1 all → popped ≡ drop 1 all → new ≡ entries k n ∷ popped → Below stop all → Below stop new
 entries_below all popped new g k n stop top less more below =
     subst (Below stop) (sym (more ∙ ap (λ z. entries k n ∷ z) less)) (below_entries k n (drop 1 all) stop (below_more g (drop 1 all) stop (subst (Below stop) top below)))
+
+pub runs_on : (bytes : List ℕ) (all popped new : List Goal) (n at passed stop : ℕ) → all ≡ entries some_runs n ∷ drop 1 all → popped ≡ drop 1 all
+    → new ≡ entries some_runs (n - passed) ∷ popped → Stands bytes at all → Below stop all → PassesRuns bytes n at passed stop → Stands bytes (at + 2 * passed) new
+runs_on bytes all popped new n at passed stop top less more s below on =
+    subst (Stands bytes (at + 2 * passed)) (sym (more ∙ ap (λ z. entries some_runs (n - passed) ∷ z) less))
+    (on (drop 1 all) (below_more (entries some_runs n) (drop 1 all) stop (subst (Below stop) top below)) (subst (Stands bytes at) top s))
 
 module _ (bytes : List ℕ) (all : List Goal) (g : Goal) (at end stop : ℕ) (top : all ≡ g ∷ drop 1 all) (is : (first_arm : Bool) × (g ≡ code first_arm)) (s : Stands bytes at all) (below : Below stop all) (on : Passes bytes at end stop) where
   whole_is : all ≡ code is.0 ∷ drop 1 all

@@ -1,6 +1,7 @@
 -- What is passed over at once, before a stop: so many bytes lead from some goals to others.
-use Rattle.std.specs.Prelude.{◌≡◌, ℕ, zero, suc, ◌+◌, ◌-◌, ◌<◌, ◌≤◌, ◌⊎◌, List, [], ◌∷◌, take, drop, Some, Bool}
-use Rattle.wa_types.specs.Begun.{Goal, code, entries, Kind, first_of, IsItem, Inside, entry}
+use Rattle.std.specs.Prelude.{◌≡◌, ℕ, zero, suc, ◌+◌, ◌-◌, ◌*◌, ◌<◌, ◌≤◌, ◌⊎◌, List, [], ◌∷◌, take, drop, Some, Bool, true}
+use Rattle.wa_types.specs.Opcodes.{is_value_type}
+use Rattle.wa_types.specs.Begun.{Goal, code, entries, Kind, some_runs, first_of, IsItem, Inside, entry}
 use Rattle.wasm_reader.specs.Machine.{Stands}
 
 -- The bytes are at most so many, and the last one alone is below 128.
@@ -45,3 +46,13 @@ PassesEntries bytes k n at passed stop =
 pub record IsAlone (k : Kind) (byte : ℕ) : Type 0 where
   pub is_item : IsItem (first_of k) (byte ∷ []) byte
   pub leaves_none : (at : ℕ) → entry k byte at ≡ Some []
+
+-- so many of n runs, of two bytes each
+abbrev pub PassesRuns : List ℕ → (n at passed stop : ℕ) → Type 0
+PassesRuns bytes n at passed stop =
+    (gs : List Goal) → Below stop gs → Stands bytes at (entries some_runs n ∷ gs) → Stands bytes (at + 2 * passed) (entries some_runs (n - passed) ∷ gs)
+
+-- a run is these two bytes
+pub record IsShortRun (count ty : ℕ) : Type 0 where
+  pub small : count < 128
+  pub typed : is_value_type ty ≡ true

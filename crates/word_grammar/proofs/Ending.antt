@@ -9,12 +9,13 @@ use Rattle.clap.specs.Kinds.{Kinds, or_else}
 use Rattle.clap.specs.Faults.{check_fault, default_fault, defaults_fault, given_default_fault, level_fault, settle_fault}
 use Rattle.clap.specs.declared.error.kind.ErrorKind.TheVariants as kind
 use Rattle.clap.specs.declared.parser.matches.ValueSource.TheVariants.{DefaultValue}
-use Rattle.wa_types.specs.Pausing.{Choice}
-use Rattle.wa_model.specs.Command.{Said, Place, anywhere, behind_imports, behind_options, nothing_said, said, choice_said, transform_at, with_files}
+use Rattle.wa_types.specs.Pausing.{Choice, Policy}
+use Rattle.wa_model.specs.Command.{Said, Place, anywhere, behind_imports, behind_save, behind_options, nothing_said, said, choice_said, policy_said, transform_at, with_files}
 use Rattle.wa_model.specs.Spelled.{Spelled, rewrites, hosts, runs, is_plain, number_and_file, one_file}
 use Rattle.word_grammar.specs.Grammar.{Kind, transform_words, host_words, run_words, gen_words, rules, shape, flag_of, is_true, TellsFlag, TellsFlags, read_of}
-use Rattle.word_grammar.proofs.Telling.{Bare, HasNone, agrees, bare_at, spells, tell_at, told}
-use Rattle.word_grammar.proofs.Rows.{Slot, list_slot, imports_slot, indirect_slot, input_slot, output_slot, id_of, said_at, flag_text, found, given, row, Tells, tells_at, defaults_at, finished_found}
+use Rattle.word_grammar.proofs.Telling.{Bare, HasNone, Valued, list_option, save_option, agrees, bare_at, is_owed, spells, tell_at, told}
+use Rattle.word_grammar.proofs.Rows.{Slot, list_slot, save_slot, imports_slot, indirect_slot, input_slot, output_slot, id_of, option_id}
+use Rattle.word_grammar.proofs.Rows.{said_at, flag_text, found, given, row, Tells, tells_at, defaults_at, finished_found}
 use Rattle.word_grammar.proofs.Steps.{After, Doomed, Owes, Settles, Stands, some_kind, walk_of, whole, first_passes}
 use Rattle.word_grammar.proofs.Walking.{AllText, second_passes, walk_ends}
 
@@ -38,7 +39,7 @@ defaults_pass [] all rows = refl
 defaults_pass (a ∷ c) all rows = ap (λ (x : Kinds). or_else x (defaults_fault (with_default rows a) c)) (one_default rows a all.0) ∙ defaults_pass c all.1 (with_default rows a)
 
 all_given : (k : Kind) → AllGiven (rules k)
-all_given transform_words = (refl, (refl, (refl, (refl, (refl, tt)))))
+all_given transform_words = (refl, (refl, (refl, (refl, (refl, (refl, tt))))))
 all_given host_words = (refl, tt)
 all_given run_words = (refl, tt)
 all_given gen_words = (refl, (refl, tt))
@@ -126,23 +127,26 @@ checked gen_words s rows tells =
 
 -- ---- what the rows spell
 
-no_input : (c : Option Choice) (ignore : Bool) (output : Option Text) → with_files c ignore None output ≡ None
-no_input None ignore output = refl
-no_input (Some c) ignore output = refl
+no_input : (c : Option Choice) (ignore : Bool) (p : Option Policy) (output : Option Text) → with_files c ignore p None output ≡ None
+no_input None ignore p output = refl
+no_input (Some c) ignore None output = refl
+no_input (Some c) ignore (Some p) output = refl
 
-no_output : (c : Option Choice) (ignore : Bool) (input : Option Text) → with_files c ignore input None ≡ None
-no_output None ignore input = refl
-no_output (Some c) ignore None = refl
-no_output (Some c) ignore (Some input) = refl
+no_output : (c : Option Choice) (ignore : Bool) (p : Option Policy) (input : Option Text) → with_files c ignore p input None ≡ None
+no_output None ignore p input = refl
+no_output (Some c) ignore None input = refl
+no_output (Some c) ignore (Some p) None = refl
+no_output (Some c) ignore (Some p) (Some input) = refl
 
-plain_bare : (place : Place) → (place ≡ behind_imports → ⊥) → is_plain place None false false ≡ true
+plain_bare : (place : Place) → is_owed place ≡ false → is_plain place None None false false ≡ true
 plain_bare anywhere h = refl
-plain_bare behind_imports h = absurd (h refl)
+plain_bare behind_imports h = absurd (true≢false h)
+plain_bare behind_save h = absurd (true≢false h)
 plain_bare behind_options h = refl
 
 -- what a command without options spells
-alone_is : (s : Said) → HasNone s → (spelled : Option Spelled) → (if is_plain s.place s.imports s.ignore_imports s.ignore_indirect then spelled else None) ≡ spelled
-alone_is s h spelled = (λ i. if is_plain s.place (h.1 i) (h.2 i) (h.3 i) then spelled else None) ∙ ap (λ (b : Bool). if b then spelled else None) (plain_bare s.place h.0)
+alone_is : (s : Said) → HasNone s → (spelled : Option Spelled) → (if is_plain s.place s.imports s.save s.ignore_imports s.ignore_indirect then spelled else None) ≡ spelled
+alone_is s h spelled = (λ i. if is_plain s.place (h.1 i) (h.2 i) (h.3 i) (h.4 i) then spelled else None) ∙ ap (λ (b : Bool). if b then spelled else None) (plain_bare s.place h.0)
 
 script_is : (spell : List ℕ → Spelled) (input output : Option Text) → output ≡ None → one_file spell input output ≡ option_map spell input
 script_is spell input output e = ap (one_file spell input) e ∙ go input
@@ -151,13 +155,15 @@ script_is spell input output e = ap (one_file spell input) e ∙ go input
     go None = refl
     go (Some t) = refl
 
--- the LIST isn't owed
+-- no value is owed
 abbrev Settled : Said → Type 0
-Settled s = s.place ≡ behind_imports → ⊥
+Settled s = is_owed s.place ≡ false
 
-transform_is : (place : Place) (s : Said) → (place ≡ behind_imports → ⊥) → transform_at place s ≡ with_files (choice_said s.imports s.ignore_imports) s.ignore_indirect s.input s.output
+transform_is : (place : Place) (s : Said) → is_owed place ≡ false
+    → transform_at place s ≡ with_files (choice_said s.imports s.ignore_imports) s.ignore_indirect (policy_said s.save) s.input s.output
 transform_is anywhere s h = refl
-transform_is behind_imports s h = absurd (h refl)
+transform_is behind_imports s h = absurd (true≢false h)
+transform_is behind_save s h = absurd (true≢false h)
 transform_is behind_options s h = refl
 
 -- The rows spell what was said, and tell each flag.
@@ -169,11 +175,12 @@ rows_spell transform_words s rows bare ready tells =
     let imports_is = flag_is transform_words s rows tells imports_slot refl s.ignore_imports refl in
     let indirect_is = flag_is transform_words s rows tells indirect_slot refl s.ignore_indirect refl in
     let list = text list_slot refl in
+    let save = text save_slot refl in
     let input = text input_slot refl in
     let output = text output_slot refl in (
       (imports, indirect),
       ap (option_map rewrites) (transform_is s.place s ready)
-          ∙ (λ i. option_map rewrites (with_files (choice_said (sym list i) (sym imports_is i)) (sym indirect_is i) (sym input i) (sym output i))),
+          ∙ (λ i. option_map rewrites (with_files (choice_said (sym list i) (sym imports_is i)) (sym indirect_is i) (policy_said (sym save i)) (sym input i) (sym output i))),
     )
 rows_spell host_words s rows bare ready tells =
     (tt, alone_is s bare.0 (one_file hosts s.input s.output) ∙ script_is hosts s.input s.output bare.1 ∙ ap (option_map hosts) (sym (text_told host_words s rows tells input_slot refl)))
@@ -202,9 +209,9 @@ number_lacks (Some n) = refl
 lacks_spell : (k : Kind) (s : Said) → Bare k s → Settled s → (lacks (lacking k s) ≡ [] → ⊥) → spells k (Some s) ≡ None
 lacks_spell transform_words s bare ready h =
     ap (option_map rewrites) (transform_is s.place s ready)
-    ∙ two_lack (λ i o. option_map rewrites (with_files (choice_said s.imports s.ignore_imports) s.ignore_indirect i o))
-    (λ o. ap (option_map rewrites) (no_input (choice_said s.imports s.ignore_imports) s.ignore_indirect o))
-    (λ i. ap (option_map rewrites) (no_output (choice_said s.imports s.ignore_imports) s.ignore_indirect i)) s.input s.output h
+    ∙ two_lack (λ i o. option_map rewrites (with_files (choice_said s.imports s.ignore_imports) s.ignore_indirect (policy_said s.save) i o))
+    (λ o. ap (option_map rewrites) (no_input (choice_said s.imports s.ignore_imports) s.ignore_indirect (policy_said s.save) o))
+    (λ i. ap (option_map rewrites) (no_output (choice_said s.imports s.ignore_imports) s.ignore_indirect (policy_said s.save) i)) s.input s.output h
 lacks_spell host_words s bare ready h = alone_is s bare.0 (one_file hosts s.input s.output) ∙ script_is hosts s.input s.output bare.1 ∙ script_lacks hosts s.input h
 lacks_spell run_words s bare ready h = alone_is s bare.0 (one_file runs s.input s.output) ∙ script_is runs s.input s.output bare.1 ∙ script_lacks runs s.input h
 lacks_spell gen_words s bare ready h = alone_is s bare (number_and_file s.input s.output) ∙ two_lack number_and_file (λ o. refl) number_lacks s.input s.output h
@@ -235,28 +242,32 @@ ready_ends k s rows pending bare ready settles tells =
     λ i. or_else (settles i) (or_else (defaults_pass (rules k) (all_given k) (whole k rows pending) i) (checked k s (whole k rows pending) tells i)) in
     ((λ e. rows_spell k s (whole k rows pending) bare ready tells), (λ h. lacks_spell k s bare ready (λ e. h (is ∙ e))))
 
-owed_ends : (k : Kind) (s : Said) (rows : List Row) (pending : Option (Text × List Text)) → s.place ≡ behind_imports → Owes k s rows pending
+owed_ends : (v : Valued) (k : Kind) (s : Said) (rows : List Row) (pending : Option (Text × List Text)) → is_owed s.place ≡ true → Owes k v s rows pending
     → Exactly k (faults_at k [] (walk_of s rows pending)) (ending k (whole k rows pending)) (Some s)
-owed_ends transform_words s rows pending at h = (
-  (λ e. absurd (some_kind kind.InvalidValue [] (ap (λ (p : Option (Text × List Text)). faults_at transform_words [] (walk_of s rows p)) (sym h.0) ∙ e))),
-  (λ e. ap (λ (p : Place). option_map rewrites (transform_at p s)) at),
+owed_ends v transform_words s rows pending at h = (
+  (λ e. absurd (owed_fails v s rows (ap (λ (p : Option (Text × List Text)). faults_at transform_words [] (walk_of s rows p)) (sym h.0) ∙ e))),
+  (λ e. owed_none s.place at),
 )
-owed_ends host_words s rows pending at h = absurd h
-owed_ends run_words s rows pending at h = absurd h
-owed_ends gen_words s rows pending at h = absurd h
+  where
+    owed_fails : (v : Valued) (s : Said) (rows : List Row) → faults_at transform_words [] (walk_of s rows (Some (option_id v, []))) ≡ [] → ⊥
+    owed_fails list_option s rows e = some_kind kind.InvalidValue [] e
+    owed_fails save_option s rows e = some_kind kind.InvalidValue [] e
 
-abbrev elsewhere : Place → Bool
-elsewhere behind_imports = false
-elsewhere _ = true
-
-not_behind : (s : Said) (place : Place) → s.place ≡ place → elsewhere place ≡ true → Settled s
-not_behind s place at e f = true≢false (sym e ∙ ap elsewhere (sym at ∙ f))
+    owed_none : (p : Place) → is_owed p ≡ true → option_map rewrites (transform_at p s) ≡ None
+    owed_none anywhere e = absurd (true≢false (sym e))
+    owed_none behind_imports e = refl
+    owed_none behind_save e = refl
+    owed_none behind_options e = absurd (true≢false (sym e))
+owed_ends v host_words s rows pending at h = absurd h
+owed_ends v run_words s rows pending at h = absurd h
+owed_ends v gen_words s rows pending at h = absurd h
 
 place_ends : (k : Kind) (s : Said) (rows : List Row) (pending : Option (Text × List Text)) → Bare k s → (place : Place) → s.place ≡ place → Stands place k s rows pending
     → Exactly k (faults_at k [] (walk_of s rows pending)) (ending k (whole k rows pending)) (Some s)
-place_ends k s rows pending bare anywhere at h = ready_ends k s rows pending bare (not_behind s anywhere at refl) h.0 h.1
-place_ends k s rows pending bare behind_imports at h = owed_ends k s rows pending at h
-place_ends k s rows pending bare behind_options at h = ready_ends k s rows pending bare (not_behind s behind_options at refl) h.0 h.1
+place_ends k s rows pending bare anywhere at h = ready_ends k s rows pending bare (ap is_owed at) h.0 h.1
+place_ends k s rows pending bare behind_imports at h = owed_ends list_option k s rows pending (ap is_owed at) h
+place_ends k s rows pending bare behind_save at h = owed_ends save_option k s rows pending (ap is_owed at) h
+place_ends k s rows pending bare behind_options at h = ready_ends k s rows pending bare (ap is_owed at) h.0 h.1
 
 -- the faults behind a walk
 abbrev late_faults : Kind → Walk → Kinds
@@ -281,15 +292,15 @@ bare_told k (word ∷ words) (Some s) h = bare_told k words (tell_at k s.place w
 
 begins_bare : (k : Kind) → Bare k nothing_said
 begins_bare transform_words = tt
-begins_bare host_words = ((not_behind nothing_said anywhere refl refl, refl, refl, refl), refl)
-begins_bare run_words = ((not_behind nothing_said anywhere refl refl, refl, refl, refl), refl)
-begins_bare gen_words = (not_behind nothing_said anywhere refl refl, refl, refl, refl)
+begins_bare host_words = ((refl, refl, refl, refl, refl), refl)
+begins_bare run_words = ((refl, refl, refl, refl, refl), refl)
+begins_bare gen_words = (refl, refl, refl, refl, refl)
 
 begins : (k : Kind) → Stands anywhere k nothing_said [] None
-begins transform_words = (refl, (refl, refl, refl, refl, refl), λ e. e)
-begins host_words = (refl, (refl, refl, refl, refl, refl), λ e. e)
-begins run_words = (refl, (refl, refl, refl, refl, refl), λ e. e)
-begins gen_words = (refl, (refl, refl, refl, refl, refl), λ e. e)
+begins transform_words = (refl, (refl, refl, refl, refl, refl, refl), λ e. e)
+begins host_words = (refl, (refl, refl, refl, refl, refl, refl), λ e. e)
+begins run_words = (refl, (refl, refl, refl, refl, refl, refl), λ e. e)
+begins gen_words = (refl, (refl, refl, refl, refl, refl, refl), λ e. e)
 
 -- the faults of a command's words, by `clap`
 abbrev pub level : Kind → List Text → Kinds

@@ -16,7 +16,7 @@ use Rattle.clap.proofs.WalkLemmas.{walk_stopped}
 use Rattle.wa_model.specs.Command.{nothing_said, said, transform_said}
 use Rattle.wa_model.specs.Spelled.{Spelled, spelled, rewrites, hosts, runs, files_alone, one_file, number_and_file}
 use Rattle.word_grammar.specs.Grammar.{Kind, transform_words, host_words, run_words, gen_words, MatchesSpell, line, line_shape, name_of, rules, shape}
-use Rattle.word_grammar.proofs.Views.{View, is_end, is_list, is_imports, is_indirect, is_list_with, is_named, is_long, is_short, view, same_is, differ, clash}
+use Rattle.word_grammar.proofs.Views.{View, is_end, is_list, is_save, is_imports, is_indirect, is_list_with, is_save_with, is_named, is_long, is_short, view, same_is, differ, clash}
 use Rattle.word_grammar.proofs.Telling.{spells}
 use Rattle.word_grammar.proofs.Steps.{first_passes, some_kind}
 use Rattle.word_grammar.proofs.Walking.{AllText, second_passes}
@@ -189,9 +189,11 @@ word_fails word words f e = f (first_passes (turn_fault top commands begun word)
 other_fails : (word : Text) (words : List Text) → View word → IsOther word → fault_of line (word ∷ words) ≡ [] → ⊥
 other_fails word words (is_end e) h = subst (λ (w : Text). fault_of line (w ∷ words) ≡ [] → ⊥) (sym e) (ends_first words)
 other_fails word words (is_list e) h = word_fails word words (subst Fails (sym e) (λ f. some_kind kind.UnknownArgument [] f))
+other_fails word words (is_save e) h = word_fails word words (subst Fails (sym e) (λ f. some_kind kind.UnknownArgument [] f))
 other_fails word words (is_imports e) h = word_fails word words (subst Fails (sym e) (λ f. some_kind kind.UnknownArgument [] f))
 other_fails word words (is_indirect e) h = word_fails word words (subst Fails (sym e) (λ f. some_kind kind.UnknownArgument [] f))
 other_fails word words (is_list_with text e) h = word_fails word words (subst Fails (sym e) (λ f. some_kind kind.UnknownArgument [] f))
+other_fails word words (is_save_with text e) h = word_fails word words (subst Fails (sym e) (λ f. some_kind kind.UnknownArgument [] f))
 other_fails word words (is_named n) h = word_fails word words (name_first word h n.no_end n.no_long n.no_short)
 other_fails word words (is_long u p e strange) h = word_fails word words (long_first word h u.no_end p e)
 other_fails word words (is_short u none y ys e x first) h = word_fails word words (short_first word h u.no_end none y ys e x first)

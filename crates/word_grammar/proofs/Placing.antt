@@ -6,22 +6,23 @@ use Rattle.clap.specs.Walk.{Held, Row, Rule, Text, Walk, Waiting, arg_by_index, 
 use Rattle.clap.specs.Kinds.{or_else}
 use Rattle.clap.specs.Faults.{positional_fault, repeat_fault, settle_fault, step_fault, stray_fault, use_fault}
 use Rattle.clap.specs.declared.error.kind.ErrorKind.TheVariants as kind
-use Rattle.wa_model.specs.Command.{Said, Place, anywhere, behind_imports, behind_options}
+use Rattle.wa_model.specs.Command.{Said, Place, anywhere, behind_imports, behind_save, behind_options}
 use Rattle.word_grammar.specs.Grammar.{Kind, transform_words, host_words, run_words, gen_words, rules, shape}
 use Rattle.word_grammar.proofs.Telling.{tell_file}
-use Rattle.word_grammar.proofs.Rows.{Slot, list_slot, imports_slot, indirect_slot, input_slot, output_slot, id_of, input_id, same_slot, said_at, Tells, taken}
+use Rattle.word_grammar.proofs.Rows.{Slot, list_slot, save_slot, imports_slot, indirect_slot, input_slot, output_slot, id_of, input_id, same_slot, said_at, Tells, taken}
 use Rattle.word_grammar.proofs.Steps.{After, Ordered, Settles, Stands, and_false, at_walk, file_by, held, or_false, placed_built, position, some_kind, tell_file_is, trails, waits, whole}
 
 abbrev is_owed : Waiting → Bool
 is_owed idle = false
 is_owed _ = true
 
--- the walk isn't behind `--imports`
+-- no value is owed
 pub stands_at : (place : Place) (k : Kind) (s : Said) (rows : List Row) (pending : Option (Text × List Text)) → waits place ≡ idle → Settles k rows pending → Tells k s (whole k rows pending)
     → Ordered s
     → Stands place k s rows pending
 stands_at anywhere k s rows pending e settles tells ordered = (settles, tells, ordered)
 stands_at behind_imports k s rows pending e settles tells ordered = absurd (true≢false (ap is_owed e))
+stands_at behind_save k s rows pending e settles tells ordered = absurd (true≢false (ap is_owed e))
 stands_at behind_options k s rows pending e settles tells ordered = (settles, tells, ordered)
 
 module _ (k : Kind) (slot : Slot) (at : ℕ) (word : Text) (s t : Said) (rows : List Row) (pending : Option (Text × List Text))
@@ -68,6 +69,7 @@ module _ (k : Kind) (slot : Slot) (at : ℕ) (word : Text) (s t : Said) (rows : 
 
 keeps_input : (s : Said) (text : Text) (other : Slot) → same_slot input_slot other ≡ false → said_at other (record s { input = Some text }) ≡ said_at other s
 keeps_input s text list_slot e = refl
+keeps_input s text save_slot e = refl
 keeps_input s text imports_slot e = refl
 keeps_input s text indirect_slot e = refl
 keeps_input s text input_slot e = absurd (true≢false e)
@@ -75,6 +77,7 @@ keeps_input s text output_slot e = refl
 
 keeps_output : (s : Said) (text : Text) (other : Slot) → same_slot output_slot other ≡ false → said_at other (record s { output = Some text }) ≡ said_at other s
 keeps_output s text list_slot e = refl
+keeps_output s text save_slot e = refl
 keeps_output s text imports_slot e = refl
 keeps_output s text indirect_slot e = refl
 keeps_output s text input_slot e = refl

@@ -10,16 +10,16 @@ use Rattle.clap.specs.Kinds.{Kinds, or_else}
 use Rattle.clap.specs.Faults.{bundle_fault, flag_word_fault, flags_fault, long_fault, other_fault, bundle_step_fault, short_fault, settle_fault, step_fault, turn_fault, word_fault}
 use Rattle.clap.specs.declared.error.kind.ErrorKind.{ErrorKind}
 use Rattle.clap.specs.declared.error.kind.ErrorKind.TheVariants as kind
-use Rattle.wa_model.specs.Command.{Said, Place, behind_imports, behind_options, say_file}
+use Rattle.wa_model.specs.Command.{Said, Place, behind_imports, behind_save, behind_options, say_file}
 use Rattle.word_grammar.specs.Grammar.{Kind, transform_words, host_words, run_words, gen_words, rules, shape, option_rule, flag_rule, placed_rule}
 use Rattle.word_grammar.proofs.Views.{IsUnknown, Strange}
-use Rattle.word_grammar.proofs.Telling.{tell_file, one_at_most}
-use Rattle.word_grammar.proofs.Rows.{Tells, is_any}
+use Rattle.word_grammar.proofs.Telling.{tell_file, one_at_most, Valued, list_option, save_option}
+use Rattle.word_grammar.proofs.Rows.{Tells, is_any, option_id}
 
 -- ---- the arguments, built
 
-abbrev pub list_built : Rule
-list_built = with_index 1 (filled (option_rule (codes "imports")))
+abbrev pub option_built : Text → Rule
+option_built name = with_index 1 (filled (option_rule name))
 
 abbrev pub flag_built : Text → Rule
 flag_built name = with_index 1 (filled (flag_rule name))
@@ -43,6 +43,7 @@ held rows pending = record { rows = rows; pending = pending; skip = 0 }
 
 abbrev pub waits : Place → Waiting
 waits behind_imports = option (codes "imports")
+waits behind_save = option (codes "save")
 waits _ = idle
 
 abbrev pub trails : Place → Bool
@@ -72,13 +73,14 @@ whole k rows pending = settled_rows (rules k) pending rows
 abbrev pub Ordered : Said → Type 0
 Ordered s = is_some s.output ≡ true → is_some s.input ≡ true
 
--- the LIST of `--imports` is owed
-abbrev pub Owes : Kind → Said → List Row → Option (Text × List Text) → Type 0
-Owes transform_words s rows pending = (pending ≡ Some (codes "imports", [])) × Tells transform_words s rows × Ordered s
-Owes _ s rows pending = ⊥
+-- the value of an option is owed
+abbrev pub Owes : Kind → Valued → Said → List Row → Option (Text × List Text) → Type 0
+Owes transform_words v s rows pending = (pending ≡ Some (option_id v, [])) × Tells transform_words s rows × Ordered s
+Owes _ v s rows pending = ⊥
 
 abbrev pub Stands : Place → Kind → Said → List Row → Option (Text × List Text) → Type 0
-Stands behind_imports k s rows pending = Owes k s rows pending
+Stands behind_imports k s rows pending = Owes k list_option s rows pending
+Stands behind_save k s rows pending = Owes k save_option s rows pending
 Stands _ k s rows pending = Settles k rows pending × Tells k s (whole k rows pending) × Ordered s
 
 -- what is pending fails, and no word mends it
@@ -167,18 +169,18 @@ bundle_fails k n flags x h first e =
     (ap (λ (o : Option ℕ). bundle_step_fault (rules k) false o flags 0 h (flags_fault (rules k) false n)) (sym first) ∙ e)
 
 -- the fault of a long word, by the options that it may be
-abbrev long_by : (lists imports indirect : Bool) → Option Text → Held → Kinds
-long_by lists imports indirect v h =
-    long_fault (rules transform_words) false (cond (lists || false) (Some list_built) (cond (imports || false) (Some (flag_built (codes "ignore-imports")))
-    (cond (indirect || false) (Some (flag_built (codes "ignore-indirect"))) None))) v h
+abbrev long_by : (lists imports indirect saves : Bool) → Option Text → Held → Kinds
+long_by lists imports indirect saves v h =
+    long_fault (rules transform_words) false (cond (lists || false) (Some (option_built (codes "imports"))) (cond (imports || false) (Some (flag_built (codes "ignore-imports")))
+    (cond (indirect || false) (Some (flag_built (codes "ignore-indirect"))) (cond (saves || false) (Some (option_built (codes "save"))) None)))) v h
 
 -- a long word that is no option
 strange_fails : (k : Kind) (p : Text × Option Text) (h : Held) → Strange p → long_fault (rules k) false (arg_by_long (rules k) p.0) p.1 h ≡ [] → ⊥
 strange_fails transform_words p h s e =
-    go (bytes_eq (codes "ignore-imports") p.0) (bytes_eq (codes "ignore-indirect") p.0) p.1 s.1
-    (ap (λ (b : Bool). long_by b (bytes_eq (codes "ignore-imports") p.0) (bytes_eq (codes "ignore-indirect") p.0) p.1 h) (sym s.0) ∙ e)
+    go (bytes_eq (codes "ignore-imports") p.0) (bytes_eq (codes "ignore-indirect") p.0) p.1 s.2
+    ((λ i. long_by (sym s.0 i) (bytes_eq (codes "ignore-imports") p.0) (bytes_eq (codes "ignore-indirect") p.0) (sym s.1 i) p.1 h) ∙ e)
   where
-    go : (imports indirect : Bool) (v : Option Text) → (v ≡ None → (imports ≡ false) × (indirect ≡ false)) → long_by false imports indirect v h ≡ [] → ⊥
+    go : (imports indirect : Bool) (v : Option Text) → (v ≡ None → (imports ≡ false) × (indirect ≡ false)) → long_by false imports indirect false v h ≡ [] → ⊥
     go true indirect None n e = absurd (true≢false (n refl).0)
     go true indirect (Some v) n e = some_kind kind.TooManyValues [] e
     go false true None n e = absurd (true≢false (n refl).1)

@@ -1,11 +1,13 @@
 -- What the words of a command tell one after another, as `clap` goes over them: an option of another command, or one more
--- file than the command takes, tells nothing at once, and the LIST `-` may stand in a word of its own.
+-- file than the command takes, tells nothing at once, and the value `-` may stand in a word of its own.
 use Rattle.std.proofs.Common.{◌≡◌, ◌∙◌, ℕ, List, [], ◌∷◌, Option, Some, None, IfSome, option_map, Bool, true, false, not, ◌&&◌, refl, sym, ap, subst, codes, bytes_eq, if◌then◌else◌, is_some}
-use Rattle.std.proofs.Common.{true≢false}
+use Rattle.std.proofs.Common.{true≢false, ◌||◌}
 use Rattle.std.proofs.lemmas.Slice.Eq.{bytes_eq-Decides}
-use Rattle.wa_model.specs.Command.{Said, Place, anywhere, behind_imports, behind_options, Word, imports_word, ignore_imports_word, ignore_indirect_word, end_word, unknown_word, imports_with}
-use Rattle.wa_model.specs.Command.{name_word, word_of, is_hyphened, said, say_at, say_word, say_imports, say_ignore_imports, say_ignore_indirect, say_file, transform_said, transform_at}
-use Rattle.wa_model.specs.Command.{with_files, choice_said}
+use Rattle.wa_types.specs.Pausing.{Choice}
+use Rattle.wa_model.specs.Command.{Said, Place, anywhere, behind_imports, behind_save, behind_options, Word}
+use Rattle.wa_model.specs.Command.{imports_word, save_word, ignore_imports_word, ignore_indirect_word, end_word, unknown_word, imports_with, save_with}
+use Rattle.wa_model.specs.Command.{name_word, word_of, is_hyphened, said, say_at, say_word, say_imports, say_save, say_ignore_imports, say_ignore_indirect, say_file, transform_said, transform_at}
+use Rattle.wa_model.specs.Command.{with_files, choice_said, policy_said}
 use Rattle.wa_model.specs.Spelled.{Spelled, rewrites, hosts, runs, files_alone, is_plain, one_file, number_and_file}
 use Rattle.word_grammar.specs.Grammar.{Kind, transform_words, host_words, run_words, gen_words}
 
@@ -29,16 +31,25 @@ tell_word k (name_word name) s = tell_file k name s
 tell_word k end_word s = Some (record s { place = behind_options })
 tell_word k word s = tell_option k word s
 
-abbrev pub tell_list : List ℕ → Said → Option Said
-tell_list word s = if is_hyphened word && not (bytes_eq word (codes "-")) then None else say_imports s.imports word s
+-- the options with a value
+pub data Valued : Type 0 where
+  list_option save_option : Valued
 
-abbrev pub tell_listed : Kind → List ℕ → Said → Option Said
-tell_listed transform_words word s = tell_list word s
-tell_listed _ word s = None
+abbrev pub say_value : Valued → List ℕ → Said → Option Said
+say_value list_option text s = say_imports s.imports text s
+say_value save_option text s = say_save s.save text s
+
+abbrev pub tell_value : Valued → List ℕ → Said → Option Said
+tell_value v word s = if is_hyphened word && not (bytes_eq word (codes "-")) then None else say_value v word s
+
+abbrev pub tell_valued : Kind → Valued → List ℕ → Said → Option Said
+tell_valued transform_words v word s = tell_value v word s
+tell_valued _ v word s = None
 
 abbrev pub tell_at : Kind → Place → List ℕ → Said → Option Said
 tell_at k anywhere word s = tell_word k (word_of word) s
-tell_at k behind_imports word s = tell_listed k word s
+tell_at k behind_imports word s = tell_valued k list_option word s
+tell_at k behind_save word s = tell_valued k save_option word s
 tell_at k behind_options word s = tell_file k word s
 
 abbrev pub tell : Kind → List ℕ → Option Said → Option Said
@@ -64,58 +75,93 @@ spells host_words s = files_alone (one_file hosts) s
 spells run_words s = files_alone (one_file runs) s
 spells gen_words s = files_alone number_and_file s
 
--- ---- the LIST `-` lies outside its grammar
+-- ---- the value `-` is no LIST and no policy
 
-abbrev HasDash : Said → Type 0
-HasDash s = s.imports ≡ Some (codes "-")
+pub data HasDash (s : Said) : Type 0 where
+  lists_dash : s.imports ≡ Some (codes "-") → HasDash s
+  saves_dash : s.save ≡ Some (codes "-") → HasDash s
+
+-- another said that has the values of this one
+dash_stays : (s t : Said) → t.imports ≡ s.imports → t.save ≡ s.save → HasDash s → HasDash t
+dash_stays s t e f (lists_dash h) = lists_dash (e ∙ h)
+dash_stays s t e f (saves_dash h) = saves_dash (f ∙ h)
 
 dash_file : (input output : Option (List ℕ)) (name : List ℕ) (s : Said) → HasDash s → IfSome (say_file input output name s) HasDash
-dash_file None output name s h = h
-dash_file (Some input) None name s h = h
+dash_file None output name s h = dash_stays s (record s { input = Some name }) refl refl h
+dash_file (Some input) None name s h = dash_stays s (record s { output = Some name }) refl refl h
 dash_file (Some input) (Some output) name s h = tt
 
-dash_imports : (imports : Option (List ℕ)) (text : List ℕ) (s : Said) → imports ≡ Some (codes "-") → IfSome (say_imports imports text s) HasDash
-dash_imports None text s h = absurd (true≢false (sym (ap is_some h)))
-dash_imports (Some earlier) text s h = tt
+dash_imports : (imports : Option (List ℕ)) (text : List ℕ) (s : Said) → s.imports ≡ imports → HasDash s → IfSome (say_imports imports text s) HasDash
+dash_imports None text s e (lists_dash h) = absurd (true≢false (sym (ap is_some (sym e ∙ h))))
+dash_imports None text s e (saves_dash h) = saves_dash h
+dash_imports (Some earlier) text s e h = tt
+
+dash_save : (save : Option (List ℕ)) (text : List ℕ) (s : Said) → s.save ≡ save → HasDash s → IfSome (say_save save text s) HasDash
+dash_save None text s e (lists_dash h) = lists_dash h
+dash_save None text s e (saves_dash h) = absurd (true≢false (sym (ap is_some (sym e ∙ h))))
+dash_save (Some earlier) text s e h = tt
+
+dash_value : (v : Valued) (text : List ℕ) (s : Said) → HasDash s → IfSome (say_value v text s) HasDash
+dash_value list_option text s h = dash_imports s.imports text s refl h
+dash_value save_option text s h = dash_save s.save text s refl h
 
 dash_word : (word : Word) (s : Said) → HasDash s → IfSome (tell_word transform_words word s) HasDash
-dash_word imports_word s h = h
+dash_word imports_word s h = dash_stays s (record s { place = behind_imports }) refl refl h
+dash_word save_word s h = dash_stays s (record s { place = behind_save }) refl refl h
 dash_word ignore_imports_word s h = go s.ignore_imports
   where
     go : (b : Bool) → IfSome (say_ignore_imports b s) HasDash
     go true = tt
-    go false = h
+    go false = dash_stays s (record s { ignore_imports = true }) refl refl h
 dash_word ignore_indirect_word s h = go s.ignore_indirect
   where
     go : (b : Bool) → IfSome (say_ignore_indirect b s) HasDash
     go true = tt
-    go false = h
-dash_word end_word s h = h
+    go false = dash_stays s (record s { ignore_indirect = true }) refl refl h
+dash_word end_word s h = dash_stays s (record s { place = behind_options }) refl refl h
 dash_word unknown_word s h = tt
-dash_word (imports_with text) s h = dash_imports s.imports text s h
+dash_word (imports_with text) s h = dash_value list_option text s h
+dash_word (save_with text) s h = dash_value save_option text s h
 dash_word (name_word name) s h = dash_file s.input s.output name s h
+
+dash_told : (v : Valued) (word : List ℕ) (s : Said) → HasDash s → IfSome (tell_value v word s) HasDash
+dash_told v word s h = go (is_hyphened word && not (bytes_eq word (codes "-")))
+  where
+    go : (b : Bool) → IfSome (if b then None else say_value v word s) HasDash
+    go true = tt
+    go false = dash_value v word s h
 
 dash_at : (place : Place) (word : List ℕ) (s : Said) → HasDash s → IfSome (tell_at transform_words place word s) HasDash
 dash_at anywhere word s h = dash_word (word_of word) s h
-dash_at behind_imports word s h = go (is_hyphened word && not (bytes_eq word (codes "-")))
-  where
-    go : (b : Bool) → IfSome (if b then None else say_imports s.imports word s) HasDash
-    go true = tt
-    go false = dash_imports s.imports word s h
+dash_at behind_imports word s h = dash_told list_option word s h
+dash_at behind_save word s h = dash_told save_option word s h
 dash_at behind_options word s h = dash_file s.input s.output word s h
 
 no_choice : (ignored : Bool) → choice_said (Some (codes "-")) ignored ≡ None
 no_choice true = refl
 no_choice false = refl
 
+no_policy : (c : Option Choice) (ignore : Bool) (input output : Option (List ℕ)) → with_files c ignore None input output ≡ None
+no_policy None ignore input output = refl
+no_policy (Some c) ignore input output = refl
+
+-- what is spelled at the end, by the two values
+abbrev spelled_by : (imports save : Option (List ℕ)) → Said → Option Spelled
+spelled_by imports save s = option_map rewrites (with_files (choice_said imports s.ignore_imports) s.ignore_indirect (policy_said save) s.input s.output)
+
+dash_none : (s : Said) → HasDash s → spelled_by s.imports s.save s ≡ None
+dash_none s (lists_dash h) =
+    ap (λ (i : Option (List ℕ)). spelled_by i s.save s) h
+    ∙ ap (λ c. option_map rewrites (with_files c s.ignore_indirect (policy_said s.save) s.input s.output)) (no_choice s.ignore_imports)
+dash_none s (saves_dash h) =
+    ap (λ (v : Option (List ℕ)). spelled_by s.imports v s) h
+    ∙ ap (option_map rewrites) (no_policy (choice_said s.imports s.ignore_imports) s.ignore_indirect s.input s.output)
+
 dash_ends : (place : Place) (s : Said) → HasDash s → option_map rewrites (transform_at place s) ≡ None
-dash_ends anywhere s h =
-    ap (λ (i : Option (List ℕ)). option_map rewrites (with_files (choice_said i s.ignore_imports) s.ignore_indirect s.input s.output)) h
-    ∙ ap (λ c. option_map rewrites (with_files c s.ignore_indirect s.input s.output)) (no_choice s.ignore_imports)
+dash_ends anywhere s h = dash_none s h
 dash_ends behind_imports s h = refl
-dash_ends behind_options s h =
-    ap (λ (i : Option (List ℕ)). option_map rewrites (with_files (choice_said i s.ignore_imports) s.ignore_indirect s.input s.output)) h
-    ∙ ap (λ c. option_map rewrites (with_files c s.ignore_indirect s.input s.output)) (no_choice s.ignore_imports)
+dash_ends behind_save s h = refl
+dash_ends behind_options s h = dash_none s h
 
 dash_spells : (words : List (List ℕ)) (s : Option Said) → IfSome s HasDash → spells transform_words (told transform_words s words) ≡ None
 dash_spells [] None h = refl
@@ -126,24 +172,28 @@ dash_spells (word ∷ words) (Some s) h = dash_spells words (tell_at transform_w
 -- ---- the commands of a script and of a number have no option, and the first have one file
 
 -- the value of an option is owed
-abbrev is_owed : Place → Bool
+abbrev pub is_owed : Place → Bool
 is_owed behind_imports = true
+is_owed behind_save = true
 is_owed _ = false
 
 -- an option was said, or its value is owed
 pub data HasOption (s : Said) : Type 0 where
-  owes : s.place ≡ behind_imports → HasOption s
+  owes : is_owed s.place ≡ true → HasOption s
   lists : is_some s.imports ≡ true → HasOption s
+  saves : is_some s.save ≡ true → HasOption s
   ignores_imports : s.ignore_imports ≡ true → HasOption s
   ignores_indirect : s.ignore_indirect ≡ true → HasOption s
 
 option_file : (input output : Option (List ℕ)) (name : List ℕ) (s : Said) → HasOption s → IfSome (say_file input output name s) HasOption
 option_file None output name s (owes h) = owes h
 option_file None output name s (lists h) = lists h
+option_file None output name s (saves h) = saves h
 option_file None output name s (ignores_imports h) = ignores_imports h
 option_file None output name s (ignores_indirect h) = ignores_indirect h
 option_file (Some input) None name s (owes h) = owes h
 option_file (Some input) None name s (lists h) = lists h
+option_file (Some input) None name s (saves h) = saves h
 option_file (Some input) None name s (ignores_imports h) = ignores_imports h
 option_file (Some input) None name s (ignores_indirect h) = ignores_indirect h
 option_file (Some input) (Some output) name s h = tt
@@ -152,9 +202,18 @@ option_imports : (imports : Option (List ℕ)) (text : List ℕ) (s : Said) → 
 option_imports None text s = lists refl
 option_imports (Some earlier) text s = tt
 
+option_save : (save : Option (List ℕ)) (text : List ℕ) (s : Said) → IfSome (say_save save text s) HasOption
+option_save None text s = saves refl
+option_save (Some earlier) text s = tt
+
+option_value : (v : Valued) (text : List ℕ) (s : Said) → IfSome (say_value v text s) HasOption
+option_value list_option text s = option_imports s.imports text s
+option_value save_option text s = option_save s.save text s
+
 -- the place is one where options may stand
 option_word : (word : Word) (s : Said) → s.place ≡ anywhere → HasOption s → IfSome (say_word word s) HasOption
 option_word imports_word s at h = owes refl
+option_word save_word s at h = owes refl
 option_word ignore_imports_word s at h = go s.ignore_imports
   where
     go : (b : Bool) → IfSome (say_ignore_imports b s) HasOption
@@ -165,51 +224,69 @@ option_word ignore_indirect_word s at h = go s.ignore_indirect
     go : (b : Bool) → IfSome (say_ignore_indirect b s) HasOption
     go true = tt
     go false = ignores_indirect refl
-option_word end_word s at (owes h) = absurd (true≢false (ap is_owed (sym h ∙ at)))
+option_word end_word s at (owes h) = absurd (true≢false (sym h ∙ ap is_owed at))
 option_word end_word s at (lists h) = lists h
+option_word end_word s at (saves h) = saves h
 option_word end_word s at (ignores_imports h) = ignores_imports h
 option_word end_word s at (ignores_indirect h) = ignores_indirect h
 option_word unknown_word s at h = tt
-option_word (imports_with text) s at h = option_imports s.imports text s
+option_word (imports_with text) s at h = option_value list_option text s
+option_word (save_with text) s at h = option_value save_option text s
 option_word (name_word name) s at h = option_file s.input s.output name s h
+
+-- a value in a word of its own
+option_said : (v : Valued) (word : List ℕ) (s : Said) → IfSome (if is_hyphened word then None else say_value v word s) HasOption
+option_said v word s = go (is_hyphened word)
+  where
+    go : (b : Bool) → IfSome (if b then None else say_value v word s) HasOption
+    go true = tt
+    go false = option_value v word s
 
 option_at : (place : Place) (word : List ℕ) (s : Said) → s.place ≡ place → HasOption s → IfSome (say_at place word s) HasOption
 option_at anywhere word s at h = option_word (word_of word) s at h
-option_at behind_imports word s at h = go (is_hyphened word)
-  where
-    go : (b : Bool) → IfSome (if b then None else say_imports s.imports word s) HasOption
-    go true = tt
-    go false = option_imports s.imports word s
+option_at behind_imports word s at h = option_said list_option word s
+option_at behind_save word s at h = option_said save_option word s
 option_at behind_options word s at h = option_file s.input s.output word s h
 
-not_plain : (s : Said) → HasOption s → is_plain s.place s.imports s.ignore_imports s.ignore_indirect ≡ false
-not_plain s (owes h) = ap (λ (p : Place). is_plain p s.imports s.ignore_imports s.ignore_indirect) h
-not_plain s (lists h) = go s.place s.imports h
-  where
-    go : (p : Place) (i : Option (List ℕ)) → is_some i ≡ true → is_plain p i s.ignore_imports s.ignore_indirect ≡ false
-    go behind_imports i e = refl
-    go anywhere None e = absurd (true≢false (sym e))
-    go anywhere (Some t) e = refl
-    go behind_options None e = absurd (true≢false (sym e))
-    go behind_options (Some t) e = refl
-not_plain s (ignores_imports h) = ap (λ (b : Bool). is_plain s.place s.imports b s.ignore_indirect) h ∙ go s.place s.imports s.ignore_indirect
-  where
-    go : (p : Place) (i : Option (List ℕ)) (b : Bool) → is_plain p i true b ≡ false
-    go behind_imports i b = refl
-    go anywhere None b = refl
-    go anywhere (Some t) b = refl
-    go behind_options None b = refl
-    go behind_options (Some t) b = refl
-not_plain s (ignores_indirect h) = ap (λ (b : Bool). is_plain s.place s.imports s.ignore_imports b) h ∙ go s.place s.imports s.ignore_imports
-  where
-    go : (p : Place) (i : Option (List ℕ)) (b : Bool) → is_plain p i b true ≡ false
-    go behind_imports i b = refl
-    go anywhere None true = refl
-    go anywhere None false = refl
-    go anywhere (Some t) b = refl
-    go behind_options None true = refl
-    go behind_options None false = refl
-    go behind_options (Some t) b = refl
+or_true : (b : Bool) → (b || true) ≡ true
+or_true true = refl
+or_true false = refl
+
+-- one of five holds
+abbrev one_holds : (owed list save imports indirect : Bool) → Bool
+one_holds owed list save imports indirect = (((owed || list) || save) || imports) || indirect
+
+some_option : (s : Said) → HasOption s → one_holds (is_owed s.place) (is_some s.imports) (is_some s.save) s.ignore_imports s.ignore_indirect ≡ true
+some_option s (owes h) = ap (λ (b : Bool). one_holds b (is_some s.imports) (is_some s.save) s.ignore_imports s.ignore_indirect) h
+some_option s (lists h) =
+    ap (λ (b : Bool). one_holds (is_owed s.place) b (is_some s.save) s.ignore_imports s.ignore_indirect) h
+    ∙ ap (λ (b : Bool). ((b || is_some s.save) || s.ignore_imports) || s.ignore_indirect) (or_true (is_owed s.place))
+some_option s (saves h) =
+    ap (λ (b : Bool). one_holds (is_owed s.place) (is_some s.imports) b s.ignore_imports s.ignore_indirect) h
+    ∙ ap (λ (b : Bool). (b || s.ignore_imports) || s.ignore_indirect) (or_true (is_owed s.place || is_some s.imports))
+some_option s (ignores_imports h) =
+    ap (λ (b : Bool). one_holds (is_owed s.place) (is_some s.imports) (is_some s.save) b s.ignore_indirect) h
+    ∙ ap (λ (b : Bool). b || s.ignore_indirect) (or_true ((is_owed s.place || is_some s.imports) || is_some s.save))
+some_option s (ignores_indirect h) =
+    ap (λ (b : Bool). one_holds (is_owed s.place) (is_some s.imports) (is_some s.save) s.ignore_imports b) h
+    ∙ or_true (((is_owed s.place || is_some s.imports) || is_some s.save) || s.ignore_imports)
+
+plain_by : (p : Place) (i v : Option (List ℕ)) (a b : Bool) → one_holds (is_owed p) (is_some i) (is_some v) a b ≡ true → is_plain p i v a b ≡ false
+plain_by behind_imports i v a b e = refl
+plain_by behind_save i v a b e = refl
+plain_by anywhere (Some t) v a b e = refl
+plain_by anywhere None (Some t) a b e = refl
+plain_by anywhere None None true b e = refl
+plain_by anywhere None None false true e = refl
+plain_by anywhere None None false false e = absurd (true≢false (sym e))
+plain_by behind_options (Some t) v a b e = refl
+plain_by behind_options None (Some t) a b e = refl
+plain_by behind_options None None true b e = refl
+plain_by behind_options None None false true e = refl
+plain_by behind_options None None false false e = absurd (true≢false (sym e))
+
+not_plain : (s : Said) → HasOption s → is_plain s.place s.imports s.save s.ignore_imports s.ignore_indirect ≡ false
+not_plain s h = plain_by s.place s.imports s.save s.ignore_imports s.ignore_indirect (some_option s h)
 
 -- behind an option the words of such a command spell nothing
 option_spells : (spell : Option (List ℕ) → Option (List ℕ) → Option Spelled) (words : List (List ℕ)) (s : Option Said) → IfSome s HasOption → files_alone spell (said s words) ≡ None
@@ -232,8 +309,17 @@ second_imports : (imports : Option (List ℕ)) (text : List ℕ) (s : Said) → 
 second_imports None text s h = h
 second_imports (Some earlier) text s h = tt
 
+second_save : (save : Option (List ℕ)) (text : List ℕ) (s : Said) → HasSecond s → IfSome (say_save save text s) HasSecond
+second_save None text s h = h
+second_save (Some earlier) text s h = tt
+
+second_value : (v : Valued) (text : List ℕ) (s : Said) → HasSecond s → IfSome (say_value v text s) HasSecond
+second_value list_option text s h = second_imports s.imports text s h
+second_value save_option text s h = second_save s.save text s h
+
 second_word : (word : Word) (s : Said) → HasSecond s → IfSome (say_word word s) HasSecond
 second_word imports_word s h = h
+second_word save_word s h = h
 second_word ignore_imports_word s h = go s.ignore_imports
   where
     go : (b : Bool) → IfSome (say_ignore_imports b s) HasSecond
@@ -246,16 +332,22 @@ second_word ignore_indirect_word s h = go s.ignore_indirect
     go false = h
 second_word end_word s h = h
 second_word unknown_word s h = tt
-second_word (imports_with text) s h = second_imports s.imports text s h
+second_word (imports_with text) s h = second_value list_option text s h
+second_word (save_with text) s h = second_value save_option text s h
 second_word (name_word name) s h = second_file s.input s.output name s h.0 h.1
+
+-- a value in a word of its own
+second_said : (v : Valued) (word : List ℕ) (s : Said) → HasSecond s → IfSome (if is_hyphened word then None else say_value v word s) HasSecond
+second_said v word s h = go (is_hyphened word)
+  where
+    go : (b : Bool) → IfSome (if b then None else say_value v word s) HasSecond
+    go true = tt
+    go false = second_value v word s h
 
 second_at : (place : Place) (word : List ℕ) (s : Said) → HasSecond s → IfSome (say_at place word s) HasSecond
 second_at anywhere word s h = second_word (word_of word) s h
-second_at behind_imports word s h = go (is_hyphened word)
-  where
-    go : (b : Bool) → IfSome (if b then None else say_imports s.imports word s) HasSecond
-    go true = tt
-    go false = second_imports s.imports word s h
+second_at behind_imports word s h = second_said list_option word s h
+second_at behind_save word s h = second_said save_option word s h
 second_at behind_options word s h = second_file s.input s.output word s h.0 h.1
 
 no_script : (spell : List ℕ → Spelled) (plain : Bool) (input output : Option (List ℕ)) → is_some output ≡ true → (if plain then one_file spell input output else None) ≡ None
@@ -266,7 +358,7 @@ no_script spell true (Some input) (Some output) h = refl
 
 second_spells : (spell : List ℕ → Spelled) (words : List (List ℕ)) (s : Option Said) → IfSome s HasSecond → files_alone (one_file spell) (said s words) ≡ None
 second_spells spell [] None h = refl
-second_spells spell [] (Some s) h = no_script spell (is_plain s.place s.imports s.ignore_imports s.ignore_indirect) s.input s.output h.1
+second_spells spell [] (Some s) h = no_script spell (is_plain s.place s.imports s.save s.ignore_imports s.ignore_indirect) s.input s.output h.1
 second_spells spell (word ∷ words) None h = ap (files_alone (one_file spell)) (said_none words)
 second_spells spell (word ∷ words) (Some s) h = second_spells spell words (say_at s.place word s) (second_at s.place word s h)
 
@@ -295,11 +387,11 @@ no_option host_words other word s = refl
 no_option run_words other word s = refl
 no_option gen_words other word s = refl
 
-no_list : (k : Kind) → IsOther k → (word : List ℕ) (s : Said) → tell_listed k word s ≡ None
-no_list transform_words other word s = absurd other
-no_list host_words other word s = refl
-no_list run_words other word s = refl
-no_list gen_words other word s = refl
+no_value : (k : Kind) → IsOther k → (v : Valued) (word : List ℕ) (s : Said) → tell_valued k v word s ≡ None
+no_value transform_words other v word s = absurd other
+no_value host_words other v word s = refl
+no_value run_words other v word s = refl
+no_value gen_words other v word s = refl
 
 beyond_option : (k : Kind) → IsOther k → (o : Option Said) → IfSome o HasOption → (words : List (List ℕ)) → spells k (said o words) ≡ None
 beyond_option transform_words other o h words = absurd other
@@ -322,6 +414,7 @@ other_file gen_words other name s = alike refl
 
 other_word : (k : Kind) → IsOther k → (word : Word) (s : Said) → Agree k (say_word word s) (tell_word k word s)
 other_word k other imports_word s = beyond (no_option k other imports_word s) (beyond_option k other (Some (record s { place = behind_imports })) (owes refl))
+other_word k other save_word s = beyond (no_option k other save_word s) (beyond_option k other (Some (record s { place = behind_save })) (owes refl))
 other_word k other ignore_imports_word s = beyond (no_option k other ignore_imports_word s) (beyond_option k other (say_ignore_imports s.ignore_imports s) (go s.ignore_imports))
   where
     go : (b : Bool) → IfSome (say_ignore_imports b s) HasOption
@@ -334,39 +427,52 @@ other_word k other ignore_indirect_word s = beyond (no_option k other ignore_ind
     go false = ignores_indirect refl
 other_word k other end_word s = alike refl
 other_word k other unknown_word s = alike (sym (no_option k other unknown_word s))
-other_word k other (imports_with text) s = beyond (no_option k other (imports_with text) s) (beyond_option k other (say_imports s.imports text s) (option_imports s.imports text s))
+other_word k other (imports_with text) s = beyond (no_option k other (imports_with text) s) (beyond_option k other (say_value list_option text s) (option_value list_option text s))
+other_word k other (save_with text) s = beyond (no_option k other (save_with text) s) (beyond_option k other (say_value save_option text s) (option_value save_option text s))
 other_word k other (name_word name) s = other_file k other name s
 
 other_agrees : (k : Kind) → IsOther k → (place : Place) (word : List ℕ) (s : Said) → s.place ≡ place → Agree k (say_at place word s) (tell_at k place word s)
 other_agrees k other anywhere word s at = other_word k other (word_of word) s
-other_agrees k other behind_imports word s at = beyond (no_list k other word s) (beyond_option k other (say_at behind_imports word s) (option_at behind_imports word s at (owes at)))
+other_agrees k other behind_imports word s at = beyond (no_value k other list_option word s) (beyond_option k other (say_at behind_imports word s) (option_said list_option word s))
+other_agrees k other behind_save word s at = beyond (no_value k other save_option word s) (beyond_option k other (say_at behind_save word s) (option_said save_option word s))
 other_agrees k other behind_options word s at = other_file k other word s
 
 same_word : (word : Word) (s : Said) → say_word word s ≡ tell_word transform_words word s
 same_word imports_word s = refl
+same_word save_word s = refl
 same_word ignore_imports_word s = refl
 same_word ignore_indirect_word s = refl
 same_word end_word s = refl
 same_word unknown_word s = refl
 same_word (imports_with text) s = refl
+same_word (save_with text) s = refl
 same_word (name_word name) s = refl
 
-says_dash : (imports : Option (List ℕ)) (word : List ℕ) (s : Said) → word ≡ codes "-" → IfSome (say_imports imports word s) HasDash
-says_dash None word s e = ap Some e
-says_dash (Some earlier) word s e = tt
+imports_dash : (imports : Option (List ℕ)) (word : List ℕ) (s : Said) → word ≡ codes "-" → IfSome (say_imports imports word s) HasDash
+imports_dash None word s e = lists_dash (ap Some e)
+imports_dash (Some earlier) word s e = tt
 
-list_agrees : (word : List ℕ) (s : Said) → Agree transform_words (say_at behind_imports word s) (tell_list word s)
-list_agrees word s = go (is_hyphened word) (bytes_eq word (codes "-")) refl
+save_dash : (save : Option (List ℕ)) (word : List ℕ) (s : Said) → word ≡ codes "-" → IfSome (say_save save word s) HasDash
+save_dash None word s e = saves_dash (ap Some e)
+save_dash (Some earlier) word s e = tt
+
+says_dash : (v : Valued) (word : List ℕ) (s : Said) → word ≡ codes "-" → IfSome (say_value v word s) HasDash
+says_dash list_option word s e = imports_dash s.imports word s e
+says_dash save_option word s e = save_dash s.save word s e
+
+value_agrees : (v : Valued) (word : List ℕ) (s : Said) → Agree transform_words (if is_hyphened word then None else say_value v word s) (tell_value v word s)
+value_agrees v word s = go (is_hyphened word) (bytes_eq word (codes "-")) refl
   where
     go : (hyphened dash : Bool) → bytes_eq word (codes "-") ≡ dash
-        → Agree transform_words (if hyphened then None else say_imports s.imports word s) (if hyphened && not dash then None else say_imports s.imports word s)
+        → Agree transform_words (if hyphened then None else say_value v word s) (if hyphened && not dash then None else say_value v word s)
     go false dash e = alike refl
     go true false e = alike refl
-    go true true e = dashed refl (λ words. dash_spells words (say_imports s.imports word s) (says_dash s.imports word s ((bytes_eq-Decides word (codes "-")).0 e)))
+    go true true e = dashed refl (λ words. dash_spells words (say_value v word s) (says_dash v word s ((bytes_eq-Decides word (codes "-")).0 e)))
 
 transform_agrees : (place : Place) (word : List ℕ) (s : Said) → Agree transform_words (say_at place word s) (tell_at transform_words place word s)
 transform_agrees anywhere word s = alike (same_word (word_of word) s)
-transform_agrees behind_imports word s = list_agrees word s
+transform_agrees behind_imports word s = value_agrees list_option word s
+transform_agrees behind_save word s = value_agrees save_option word s
 transform_agrees behind_options word s = alike refl
 
 step_agrees : (k : Kind) (word : List ℕ) (s : Said) → Agree k (say_at s.place word s) (tell_at k s.place word s)
@@ -389,16 +495,13 @@ agrees k (word ∷ words) (Some s) = go (say_at s.place word s) (tell_at k s.pla
 -- ---- what a command without options tells
 
 abbrev pub HasNone : Said → Type 0
-HasNone s = (s.place ≡ behind_imports → ⊥) × (s.imports ≡ None) × (s.ignore_imports ≡ false) × (s.ignore_indirect ≡ false)
+HasNone s = (is_owed s.place ≡ false) × (s.imports ≡ None) × (s.save ≡ None) × (s.ignore_imports ≡ false) × (s.ignore_indirect ≡ false)
 
 abbrev pub Bare : Kind → Said → Type 0
 Bare transform_words s = Unit {0}
 Bare host_words s = HasNone s × (s.output ≡ None)
 Bare run_words s = HasNone s × (s.output ≡ None)
 Bare gen_words s = HasNone s
-
-not_owed : behind_options ≡ behind_imports → ⊥
-not_owed e = true≢false (sym (ap is_owed e))
 
 none_file : (input output : Option (List ℕ)) (name : List ℕ) (s : Said) → HasNone s → IfSome (say_file input output name s) HasNone
 none_file None output name s h = h
@@ -422,9 +525,9 @@ bare_file gen_words name s h = none_file s.input s.output name s h
 
 at_end : (k : Kind) (s : Said) → Bare k s → Bare k (record s { place = behind_options })
 at_end transform_words s h = tt
-at_end host_words s h = ((not_owed, h.0.1, h.0.2, h.0.3), h.1)
-at_end run_words s h = ((not_owed, h.0.1, h.0.2, h.0.3), h.1)
-at_end gen_words s h = (not_owed, h.1, h.2, h.3)
+at_end host_words s h = ((refl, h.0.1, h.0.2, h.0.3, h.0.4), h.1)
+at_end run_words s h = ((refl, h.0.1, h.0.2, h.0.3, h.0.4), h.1)
+at_end gen_words s h = (refl, h.1, h.2, h.3, h.4)
 
 all_bare : (o : Option Said) → IfSome o (Bare transform_words)
 all_bare None = tt
@@ -441,20 +544,23 @@ bare_option gen_words word s = tt
 
 bare_word : (k : Kind) (word : Word) (s : Said) → Bare k s → IfSome (tell_word k word s) (Bare k)
 bare_word k imports_word s h = bare_option k imports_word s
+bare_word k save_word s h = bare_option k save_word s
 bare_word k ignore_imports_word s h = bare_option k ignore_imports_word s
 bare_word k ignore_indirect_word s h = bare_option k ignore_indirect_word s
 bare_word k end_word s h = at_end k s h
 bare_word k unknown_word s h = bare_option k unknown_word s
 bare_word k (imports_with text) s h = bare_option k (imports_with text) s
+bare_word k (save_with text) s h = bare_option k (save_with text) s
 bare_word k (name_word name) s h = bare_file k name s h
 
-bare_list : (k : Kind) (word : List ℕ) (s : Said) → IfSome (tell_listed k word s) (Bare k)
-bare_list transform_words word s = all_bare (tell_list word s)
-bare_list host_words word s = tt
-bare_list run_words word s = tt
-bare_list gen_words word s = tt
+bare_value : (k : Kind) (v : Valued) (word : List ℕ) (s : Said) → IfSome (tell_valued k v word s) (Bare k)
+bare_value transform_words v word s = all_bare (tell_value v word s)
+bare_value host_words v word s = tt
+bare_value run_words v word s = tt
+bare_value gen_words v word s = tt
 
 pub bare_at : (k : Kind) (place : Place) (word : List ℕ) (s : Said) → Bare k s → IfSome (tell_at k place word s) (Bare k)
 bare_at k anywhere word s h = bare_word k (word_of word) s h
-bare_at k behind_imports word s h = bare_list k word s
+bare_at k behind_imports word s h = bare_value k list_option word s
+bare_at k behind_save word s h = bare_value k save_option word s
 bare_at k behind_options word s h = bare_file k word s h

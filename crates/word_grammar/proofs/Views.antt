@@ -6,7 +6,7 @@ use Rattle.std.proofs.lemmas.Str.{encode_ascii, encodes-chars, IsUtf8-past_char}
 use Rattle.clap.specs.Lexer.{long_of, long_of_rest, short_of, short_of_rest, strip_byte, name_and_value}
 use Rattle.clap.proofs.CutLemmas.{Lacks}
 use Rattle.clap.proofs.LexerLemmas.{name_and_value-at, name_and_value-without}
-use Rattle.wa_model.specs.Command.{Word, imports_word, ignore_imports_word, ignore_indirect_word, end_word, unknown_word, name_word, word_of, is_hyphened, behind, named_word, with_value}
+use Rattle.wa_model.specs.Command.{Word, imports_word, save_word, ignore_imports_word, ignore_indirect_word, end_word, unknown_word, name_word, word_of, is_hyphened, behind, named_word, with_value}
 
 abbrev pub Text : Type 0
 Text = List ℕ
@@ -80,15 +80,17 @@ pub record IsUnknown (word : Text) : Type 0 where
 
 -- a long word that is none of the options, as name and value
 abbrev pub Strange : Text × Option Text → Type 0
-Strange p = (bytes_eq (codes "imports") p.0 ≡ false)
+Strange p = (bytes_eq (codes "imports") p.0 ≡ false) × (bytes_eq (codes "save") p.0 ≡ false)
     × (p.1 ≡ None → (bytes_eq (codes "ignore-imports") p.0 ≡ false) × (bytes_eq (codes "ignore-indirect") p.0 ≡ false))
 
 pub data View (word : Text) : Type 0 where
   is_end : word ≡ codes "--" → View word
   is_list : word ≡ codes "--imports" → View word
+  is_save : word ≡ codes "--save" → View word
   is_imports : word ≡ codes "--ignore-imports" → View word
   is_indirect : word ≡ codes "--ignore-indirect" → View word
   is_list_with : (text : Text) → word ≡ codes "--imports=" ++ text → View word
+  is_save_with : (text : Text) → word ≡ codes "--save=" ++ text → View word
   is_named : IsName word → View word
   is_long : IsUnknown word → (p : Text × Option Text) → long_of word ≡ Some p → Strange p → View word
   is_short : IsUnknown word → long_of word ≡ None → (y : ℕ) (ys : Text) → short_of word ≡ Some (y ∷ ys) → (x : ℕ) → slice_get (chars (y ∷ ys)) 0 ≡ Some x → View word
@@ -96,17 +98,20 @@ pub data View (word : Text) : Type 0 where
 -- no test of an option holds of the word
 record IsPast (word : Text) : Type 0 where
   pub lists : bytes_eq word (codes "--imports") ≡ false
+  pub saves : bytes_eq word (codes "--save") ≡ false
   pub imports : bytes_eq word (codes "--ignore-imports") ≡ false
   pub indirect : bytes_eq word (codes "--ignore-indirect") ≡ false
   pub ends : bytes_eq word (codes "--") ≡ false
-  pub bare : behind (codes "--imports=") word ≡ None
+  pub unlisted : behind (codes "--imports=") word ≡ None
+  pub unsaved : behind (codes "--save=") word ≡ None
 
-abbrev word_by : (lists imports indirect ends : Bool) → Option Text → Text → Word
-word_by lists imports indirect ends value word =
-    if lists then imports_word else (if imports then ignore_imports_word else (if indirect then ignore_indirect_word else (if ends then end_word else with_value value word)))
+abbrev word_by : (lists saves imports indirect ends : Bool) → (list save : Option Text) → Text → Word
+word_by lists saves imports indirect ends list save word =
+    if lists then imports_word else (if saves then save_word
+    else (if imports then ignore_imports_word else (if indirect then ignore_indirect_word else (if ends then end_word else with_value list save word))))
 
 past_named : (word : Text) → IsPast word → word_of word ≡ named_word word
-past_named word h = λ i. word_by (h.lists i) (h.imports i) (h.indirect i) (h.ends i) (h.bare i) word
+past_named word h = λ i. word_by (h.lists i) (h.saves i) (h.imports i) (h.indirect i) (h.ends i) (h.unlisted i) (h.unsaved i) word
 
 -- ---- a word that begins with `-`
 
@@ -147,6 +152,7 @@ strange text h (inl lacks) = (
   name_and_value-without text lacks,
   (
     differ (codes "imports") text (λ e. clash (hyphens text) (codes "--imports") h.lists (ap hyphens (sym e))),
+    differ (codes "save") text (λ e. clash (hyphens text) (codes "--save") h.saves (ap hyphens (sym e))),
     λ _. (
       differ (codes "ignore-imports") text (λ e. clash (hyphens text) (codes "--ignore-imports") h.imports (ap hyphens (sym e))),
       differ (codes "ignore-indirect") text (λ e. clash (hyphens text) (codes "--ignore-indirect") h.indirect (ap hyphens (sym e))),
@@ -157,7 +163,8 @@ strange text h (inr c) = (
   (c.0, Some c.1),
   ap name_and_value c.3 ∙ name_and_value-at c.0 c.1 c.2,
   (
-    differ (codes "imports") c.0 (λ e. nothing c.1 (sym h.bare ∙ ap (λ (t : Text). behind (codes "--imports=") (hyphens t)) (c.3 ∙ ap (λ (f : Text). f ++ 61 ∷ c.1) (sym e)))),
+    differ (codes "imports") c.0 (λ e. nothing c.1 (sym h.unlisted ∙ ap (λ (t : Text). behind (codes "--imports=") (hyphens t)) (c.3 ∙ ap (λ (f : Text). f ++ 61 ∷ c.1) (sym e)))),
+    differ (codes "save") c.0 (λ e. nothing c.1 (sym h.unsaved ∙ ap (λ (t : Text). behind (codes "--save=") (hyphens t)) (c.3 ∙ ap (λ (f : Text). f ++ 61 ∷ c.1) (sym e)))),
     λ e. absurd (nothing c.1 (sym e)),
   ),
 )
@@ -198,27 +205,40 @@ plain_word (x ∷ xs) utf8 h = go (x == 45) refl
         subst (λ (y : ℕ). View (y ∷ xs)) (sym is) (hyphened xs (subst (λ (y : ℕ). IsUtf8 (y ∷ xs)) is utf8) (subst (λ (y : ℕ). IsPast (y ∷ xs)) is h))
     go false e = is_named (named x xs h e)
 
+-- the word isn't this one
+abbrev Apart : Text → Text → Type 0
+Apart word option = bytes_eq word option ≡ false
+
 pub view : (word : Text) → IsUtf8 word → View word
 view word utf8 = at_lists (bytes_eq word (codes "--imports")) refl
   where
-    at_value : bytes_eq word (codes "--imports") ≡ false → bytes_eq word (codes "--ignore-imports") ≡ false → bytes_eq word (codes "--ignore-indirect") ≡ false
-        → bytes_eq word (codes "--") ≡ false → (o : Option Text) → behind (codes "--imports=") word ≡ o → View word
-    at_value a b c d (Some text) e = is_list_with text (behind_is (codes "--imports=") word text e)
-    at_value a b c d None e = plain_word word utf8 (record { lists = a; imports = b; indirect = c; ends = d; bare = e })
+    at_save_value : Apart word (codes "--imports") → Apart word (codes "--save") → Apart word (codes "--ignore-imports") → Apart word (codes "--ignore-indirect") → Apart word (codes "--")
+        → behind (codes "--imports=") word ≡ None → (o : Option Text) → behind (codes "--save=") word ≡ o → View word
+    at_save_value l s a b c d (Some text) e = is_save_with text (behind_is (codes "--save=") word text e)
+    at_save_value l s a b c d None e = plain_word word utf8 (record { lists = l; saves = s; imports = a; indirect = b; ends = c; unlisted = d; unsaved = e })
 
-    at_end : bytes_eq word (codes "--imports") ≡ false → bytes_eq word (codes "--ignore-imports") ≡ false → bytes_eq word (codes "--ignore-indirect") ≡ false
+    at_value : Apart word (codes "--imports") → Apart word (codes "--save") → Apart word (codes "--ignore-imports") → Apart word (codes "--ignore-indirect") → Apart word (codes "--")
+        → (o : Option Text) → behind (codes "--imports=") word ≡ o → View word
+    at_value l s a b c (Some text) e = is_list_with text (behind_is (codes "--imports=") word text e)
+    at_value l s a b c None e = at_save_value l s a b c e (behind (codes "--save=") word) refl
+
+    at_end : Apart word (codes "--imports") → Apart word (codes "--save") → Apart word (codes "--ignore-imports") → Apart word (codes "--ignore-indirect")
         → (t : Bool) → bytes_eq word (codes "--") ≡ t → View word
-    at_end a b c true e = is_end (same_is word (codes "--") e)
-    at_end a b c false e = at_value a b c e (behind (codes "--imports=") word) refl
+    at_end l s a b true e = is_end (same_is word (codes "--") e)
+    at_end l s a b false e = at_value l s a b e (behind (codes "--imports=") word) refl
 
-    at_indirect : bytes_eq word (codes "--imports") ≡ false → bytes_eq word (codes "--ignore-imports") ≡ false → (t : Bool) → bytes_eq word (codes "--ignore-indirect") ≡ t → View word
-    at_indirect a b true e = is_indirect (same_is word (codes "--ignore-indirect") e)
-    at_indirect a b false e = at_end a b e (bytes_eq word (codes "--")) refl
+    at_indirect : Apart word (codes "--imports") → Apart word (codes "--save") → Apart word (codes "--ignore-imports") → (t : Bool) → bytes_eq word (codes "--ignore-indirect") ≡ t → View word
+    at_indirect l s a true e = is_indirect (same_is word (codes "--ignore-indirect") e)
+    at_indirect l s a false e = at_end l s a e (bytes_eq word (codes "--")) refl
 
-    at_imports : bytes_eq word (codes "--imports") ≡ false → (t : Bool) → bytes_eq word (codes "--ignore-imports") ≡ t → View word
-    at_imports a true e = is_imports (same_is word (codes "--ignore-imports") e)
-    at_imports a false e = at_indirect a e (bytes_eq word (codes "--ignore-indirect")) refl
+    at_imports : Apart word (codes "--imports") → Apart word (codes "--save") → (t : Bool) → bytes_eq word (codes "--ignore-imports") ≡ t → View word
+    at_imports l s true e = is_imports (same_is word (codes "--ignore-imports") e)
+    at_imports l s false e = at_indirect l s e (bytes_eq word (codes "--ignore-indirect")) refl
+
+    at_save : Apart word (codes "--imports") → (t : Bool) → bytes_eq word (codes "--save") ≡ t → View word
+    at_save l true e = is_save (same_is word (codes "--save") e)
+    at_save l false e = at_imports l e (bytes_eq word (codes "--ignore-imports")) refl
 
     at_lists : (t : Bool) → bytes_eq word (codes "--imports") ≡ t → View word
     at_lists true e = is_list (same_is word (codes "--imports") e)
-    at_lists false e = at_imports e (bytes_eq word (codes "--ignore-imports")) refl
+    at_lists false e = at_save e (bytes_eq word (codes "--save")) refl

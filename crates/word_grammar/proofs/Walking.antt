@@ -9,7 +9,7 @@ use Rattle.clap.specs.Faults.{long_fault, option_fault, positional_fault, react_
 use Rattle.clap.specs.declared.error.kind.ErrorKind.TheVariants as kind
 use Rattle.wa_model.specs.Command.{Said}
 use Rattle.word_grammar.specs.Grammar.{Kind, transform_words, host_words, run_words, gen_words, rules, shape}
-use Rattle.word_grammar.proofs.Views.{View, is_end, is_list, is_imports, is_indirect, is_list_with, is_named, is_long, is_short, view}
+use Rattle.word_grammar.proofs.Views.{View, is_end, is_list, is_save, is_imports, is_indirect, is_list_with, is_save_with, is_named, is_long, is_short, view}
 use Rattle.word_grammar.proofs.Telling.{told, told_none, tell_at}
 use Rattle.word_grammar.proofs.Steps.{After, Doomed, Settles, Stands, after_as, at_walk, first_passes, held, name_is, name_met, shows, some_kind, turn_fails, unknown_fails, walk_of}
 use Rattle.word_grammar.proofs.Stepping.{step}
@@ -81,12 +81,16 @@ idle_doomed : (k : Kind) (rows : List Row) (pending : Option (Text × List Text)
 idle_doomed k rows pending place word (is_end e) fails = subst (IdleDoomed k rows pending place) (sym e) (end_doomed k rows pending place fails)
 idle_doomed k rows pending place word (is_list e) fails =
     subst (IdleDoomed k rows pending place) (sym e) (λ f. absurd (long_turn k rows pending place (codes "--imports") (codes "imports", None) fails refl f))
+idle_doomed k rows pending place word (is_save e) fails =
+    subst (IdleDoomed k rows pending place) (sym e) (λ f. absurd (long_turn k rows pending place (codes "--save") (codes "save", None) fails refl f))
 idle_doomed k rows pending place word (is_imports e) fails =
     subst (IdleDoomed k rows pending place) (sym e) (λ f. absurd (long_turn k rows pending place (codes "--ignore-imports") (codes "ignore-imports", None) fails refl f))
 idle_doomed k rows pending place word (is_indirect e) fails =
     subst (IdleDoomed k rows pending place) (sym e) (λ f. absurd (long_turn k rows pending place (codes "--ignore-indirect") (codes "ignore-indirect", None) fails refl f))
 idle_doomed k rows pending place word (is_list_with text e) fails =
     subst (IdleDoomed k rows pending place) (sym e) (λ f. absurd (long_turn k rows pending place (codes "--imports=" ++ text) (codes "imports", Some text) fails refl f))
+idle_doomed k rows pending place word (is_save_with text e) fails =
+    subst (IdleDoomed k rows pending place) (sym e) (λ f. absurd (long_turn k rows pending place (codes "--save=" ++ text) (codes "save", Some text) fails refl f))
 idle_doomed k rows pending place word (is_named n) fails =
     let h = held rows pending in
     let seen = shows k rows pending idle place false word [] h value (name_is k h idle word n.no_end n.no_long n.no_short) (name_met k h idle place word n.no_end n.no_long n.no_short) in

@@ -4,7 +4,7 @@ use Rattle.std.specs.Str.{bytes_eq}
 use Rattle.clap.specs.Walk.{Row, Rule, Text, first_of, one_of}
 use Rattle.clap.specs.Simple.{App, Shape, new_rule, new_shape, with_subcommand, filled_from}
 use Rattle.clap.specs.declared.builder.action.ArgAction.TheVariants.{SetTrue}
-use Rattle.wa_model.specs.Command.{choice_said, with_files}
+use Rattle.wa_model.specs.Command.{choice_said, policy_said, with_files}
 use Rattle.wa_model.specs.Spelled.{Spelled, rewrites, hosts, runs, number_and_file}
 
 -- the commands, by their first words
@@ -33,7 +33,7 @@ placed_rule id = record (new_rule id) { required = true }
 abbrev pub arguments : Kind → List Rule
 arguments transform_words =
     option_rule (codes "imports") ∷ flag_rule (codes "ignore-imports") ∷ flag_rule (codes "ignore-indirect")
-    ∷ placed_rule (codes "input") ∷ placed_rule (codes "output") ∷ []
+    ∷ option_rule (codes "save") ∷ placed_rule (codes "input") ∷ placed_rule (codes "output") ∷ []
 arguments host_words = placed_rule (codes "script") ∷ []
 arguments run_words = placed_rule (codes "script") ∷ []
 arguments gen_words = placed_rule (codes "number") ∷ placed_rule (codes "output") ∷ []
@@ -93,7 +93,7 @@ TellsFlags _ rows = Unit {0}
 abbrev pub read_of : Kind → List Row → Option Spelled
 read_of transform_words rows =
     option_map rewrites (with_files (choice_said (first_of (codes "imports") rows) (flag_of (codes "ignore-imports") rows))
-    (flag_of (codes "ignore-indirect") rows) (first_of (codes "input") rows) (first_of (codes "output") rows))
+    (flag_of (codes "ignore-indirect") rows) (policy_said (first_of (codes "save") rows)) (first_of (codes "input") rows) (first_of (codes "output") rows))
 read_of host_words rows = option_map hosts (first_of (codes "script") rows)
 read_of run_words rows = option_map runs (first_of (codes "script") rows)
 read_of gen_words rows = number_and_file (first_of (codes "number") rows) (first_of (codes "output") rows)

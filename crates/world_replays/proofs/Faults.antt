@@ -10,7 +10,7 @@ use Rattle.wa_types.specs.Modules.{all_memories, all_tables, func_imports, func_
 use Rattle.wa_model.specs.declared.answers.Area.{Area}
 use Rattle.wa_model.specs.declared.events.End.{End}
 use Rattle.wa_model.specs.declared.events.End.TheVariants.{BadAnswer, BadPoke}
-use Rattle.wa_model.specs.Outside.{Call, Poke, Answer, Event, called, answered, returned, ended}
+use Rattle.wa_model.specs.Outside.{Call, Poke, Answer, Event, called, answered, paused, returned, ended, shown}
 use Rattle.wa_model.specs.Machine.{Turn, stops, goes, Ran, after, still, pay, run_with, run}
 use Rattle.wa_model.specs.Store.{Store}
 use Rattle.wa_model.specs.Step.{Next, steps, asks, returns, traps, stuck, step}
@@ -30,13 +30,22 @@ abbrev pub Opens : List Note → Type 0
 Opens [] = Unit {0}
 Opens (x ∷ xs) = is_fault x.event ≡ false
 
-abbrev OpensIf : Outcome → List Note → Type 0
-OpensIf (given a) xs = Opens xs
-OpensIf (refused e) xs = Unit {0}
+-- a fault that is told is this end
+abbrev pub FaultIs : End → Event → Type 0
+FaultIs e (ended how) = is_device_fault how ≡ true → how ≡ e
+FaultIs e _ = Unit {0}
 
--- behind a call that is given an answer no fault follows
-abbrev AtCall : Option Call → List Outcome → List Note → (List Outcome → Type 0) → Type 0
-AtCall None os xs rest = rest os
+abbrev pub OpensAs : End → List Note → Type 0
+OpensAs e [] = Unit {0}
+OpensAs e (x ∷ xs) = FaultIs e x.event
+
+abbrev pub OpensIf : Outcome → List Note → Type 0
+OpensIf (given a) xs = Opens xs
+OpensIf (refused e) xs = OpensAs e xs
+
+-- behind a call that is refused no other fault follows than that end, and elsewhere none does
+abbrev pub AtCall : Option Call → List Outcome → List Note → (List Outcome → Type 0) → Type 0
+AtCall None os xs rest = Opens xs × rest os
 AtCall (Some c) [] xs rest = rest []
 AtCall (Some c) (o ∷ os) xs rest = OpensIf o xs × rest os
 
@@ -44,16 +53,29 @@ abbrev pub Inner : List Outcome → List Note → Type 0
 Inner os [] = Unit {0}
 Inner os (x ∷ xs) = AtCall (call_in x.event) os xs (λ os. Inner os xs)
 
-abbrev Fine : List Outcome → List Note → Type 0
+abbrev pub Fine : List Outcome → List Note → Type 0
 Fine os xs = Opens xs × Inner os xs
 
 opens_on : (xs ys : List Note) → Opens xs → Opens ys → Opens (xs ++ ys)
 opens_on [] ys h k = k
 opens_on (x ∷ xs) ys h k = h
 
+no_fault_is : (e : End) (v : Event) → is_fault v ≡ false → FaultIs e v
+no_fault_is e (ended how) h = λ k. let bad : true ≡ false = sym k ∙ h in absurd cc
+no_fault_is e (called c) h = tt
+no_fault_is e (answered v) h = tt
+no_fault_is e (paused t u) h = tt
+no_fault_is e (returned i v) h = tt
+no_fault_is e (shown a b) h = tt
+
+opens_as : (e : End) (xs : List Note) → Opens xs → OpensAs e xs
+opens_as e [] h = tt
+opens_as e (x ∷ xs) h = no_fault_is e x.event h
+
 opens_if_on : (o : Outcome) (xs ys : List Note) → OpensIf o xs → Opens ys → OpensIf o (xs ++ ys)
 opens_if_on (given a) xs ys h k = opens_on xs ys h k
-opens_if_on (refused e) xs ys h k = tt
+opens_if_on (refused e) [] ys h k = opens_as e ys k
+opens_if_on (refused e) (x ∷ xs) ys h k = h
 
 -- notes, and those behind them, where each call took an outcome
 inner_on : (used os : List Outcome) (xs ys : List Note) → length used ≡ new_calls xs → Inner (used ++ os) xs → Fine os ys → Inner (used ++ os) (xs ++ ys)
@@ -63,7 +85,7 @@ inner_on used os (x ∷ xs) ys e h k = by_call (λ vs f g. inner_on vs os xs ys 
   where
     by_call : ((vs : List Outcome) → length vs ≡ new_calls xs → Inner (vs ++ os) xs → Inner (vs ++ os) (xs ++ ys)) → (c : Option Call) (vs : List Outcome) → call_in x.event ≡ c
         → length vs ≡ new_calls (x ∷ xs) → AtCall c (vs ++ os) xs (λ us. Inner us xs) → AtCall c (vs ++ os) (xs ++ ys) (λ us. Inner us (xs ++ ys))
-    by_call on None vs z f g = on vs (f ∙ ap (λ (c : Option Call). one_if c + new_calls xs) z ∙ nothing) g
+    by_call on None vs z f g = (opens_on xs ys g.0 k.0, on vs (f ∙ ap (λ (c : Option Call). one_if c + new_calls xs) z ∙ nothing) g.1)
       where
         nothing : 0 + new_calls xs ≡ new_calls xs
         nothing = omega arith
@@ -88,7 +110,7 @@ opens_behind pre os (y ∷ done) x xs c a e is h = by_call (λ vs f g. opens_beh
         → new_calls (y ∷ done) ≡ length vs → AtCall o (vs ++ given a ∷ os) (done ++ x ∷ xs) (λ us. Inner us (done ++ x ∷ xs)) → Opens xs
     by_call on None vs z f g =
         let none : new_calls (y ∷ done) ≡ 0 + new_calls done = ap (λ (c : Option Call). one_if c + new_calls done) z in
-        on vs (omega arith) g
+        on vs (omega arith) g.1
     by_call on (Some c) [] z f g =
         let one : new_calls (y ∷ done) ≡ 1 + new_calls done = ap (λ (c : Option Call). one_if c + new_calls done) z in
         let no_way : ⊥ = omega arith in absurd no_way
@@ -190,7 +212,7 @@ quiet os = ((tt, tt), ([], refl, refl))
 
 module _ (p : Module) (x : Exports) (plan : Plan) where
   on_fine : (s : Store) (l : Left) (es : List Entry) → LeadsTo l.outcomes (done_notes s es) (held_on s l es)
-  on_fine s l [] = (refl, tt)
+  on_fine s l [] = (refl, (tt, tt))
   on_fine s l (e ∷ es) = quiet l.outcomes
 
   back_fine : (k : ℕ) (task : Task) (results : List Value) (s : Store) (l : Left) → TurnFine l.outcomes (held_back k task results s l)
@@ -198,17 +220,17 @@ module _ (p : Module) (x : Exports) (plan : Plan) where
   back_fine k (an_entry e) results s l = by_entries l.entries
     where
       by_entries : (es : List Entry) → LeadsTo l.outcomes (note (returned l.number (value_of_results results)) s ∷ done_notes s es) (held_on s (next_entry l) es)
-      by_entries [] = (refl, tt)
-      by_entries (e ∷ es) = ((refl, tt), ([], refl, refl))
+      by_entries [] = (refl, (refl, (tt, tt)))
+      by_entries (e ∷ es) = ((refl, (tt, tt)), ([], refl, refl))
 
   given_fine : (k import : ℕ) (args : List Value) (who : Asker) (l : Left) (a : Answer) (s : Store) (pause : Option ℕ)
       → TurnFine (given a ∷ l.outcomes) (held_given k (call_note import args (store_at who) (stack_at p who) pause) a s l who)
-  given_fine k import args (inside task c) l a s pause = ((refl, (refl, tt)), (given a ∷ [], refl, refl))
+  given_fine k import args (inside task c) l a s pause = ((refl, (refl, (tt, tt))), (given a ∷ [], refl, refl))
   given_fine k import args (outermost old) l a s pause = by_entries l.entries
     where
       by_entries : (es : List Entry) → LeadsTo (given a ∷ l.outcomes) (call_note import args old [] pause ∷ note (answered a.value) s ∷ done_notes s es) (held_on s l es)
-      by_entries [] = (refl, (refl, tt))
-      by_entries (e ∷ es) = ((refl, (refl, tt)), (given a ∷ [], refl, refl))
+      by_entries [] = (refl, (refl, (refl, (tt, tt))))
+      by_entries (e ∷ es) = ((refl, (refl, (tt, tt))), (given a ∷ [], refl, refl))
 
   pauses_fine : (k import : ℕ) (args : List Value) (who : Asker) (l : Left) (a : Answer) (pause : Option ℕ)
       → TurnFine (given a ∷ l.outcomes) (held_pauses x plan k (call_note import args (store_at who) (stack_at p who) pause) import a l who)
@@ -218,13 +240,13 @@ module _ (p : Module) (x : Exports) (plan : Plan) where
 
   tested_fine : (k import : ℕ) (args : List Value) (who : Asker) (l : Left) (a : Answer) (o : Option End) (pause : Option ℕ) → NotFault o
       → TurnFine (given a ∷ l.outcomes) (held_tested p x plan k import args who l a o pause)
-  tested_fine k import args who l a (Some e) pause h = (refl, (h, tt))
+  tested_fine k import args who l a (Some e) pause h = (refl, (h, (tt, tt)))
   tested_fine k import args who l a None None h = given_fine k import args who l a (poked (store_at who) a.pokes) None
   tested_fine k import args who l a None (Some ticks) h = pauses_fine k import args who l a (Some ticks)
 
   asked_fine : (k import : ℕ) (args : List Value) (who : Asker) (l : Left) (os : List Outcome) → TurnFine os (held_asked p x plan k import args who l os)
   asked_fine k import args who l [] = (refl, tt)
-  asked_fine k import args who l (refused e ∷ os) = (refl, (tt, tt))
+  asked_fine k import args who l (refused e ∷ os) = (refl, (λ h. refl, (tt, tt)))
   asked_fine k import args who l (given a ∷ os) =
       tested_fine k import args who (with_outcomes l os) a (fault_of (func_type_at p import).results (length (store_at who).memory) plan (in_start who) import a) (pause_of a.ticks)
       (fault_not (func_type_at p import).results (length (store_at who).memory) plan (in_start who) import a)
@@ -239,18 +261,18 @@ module _ (p : Module) (x : Exports) (plan : Plan) where
   busy_fine (unwinds e i a) l (steps k d) = quiet l.outcomes
   busy_fine (rewinds e i a sp) l (steps k d) = quiet l.outcomes
   busy_fine (is_running task) l (asks k import args d) = asked_fine k import args (inside task d) l l.outcomes
-  busy_fine (unwinds e i a) l (asks k import args d) = (refl, tt)
+  busy_fine (unwinds e i a) l (asks k import args d) = (refl, (tt, tt))
   busy_fine (rewinds e i a sp) l (asks k import args d) = by_import (nat_eq import i)
     where
       by_import : (b : Bool) → TurnFine l.outcomes (if b then goes k [] (calling (rewinds e i a sp) d.store x.get_state [] (test_rewound d) l) else broken k 3 d.store)
       by_import true = quiet l.outcomes
-      by_import false = (refl, tt)
+      by_import false = (refl, (tt, tt))
   busy_fine (is_running task) l (returns k results s) = back_fine k task results s l
   busy_fine (unwinds e i a) l (returns k results s) = quiet l.outcomes
-  busy_fine (rewinds e i a sp) l (returns k results s) = (refl, tt)
-  busy_fine (is_running task) l (traps k trap s) = (trap_fine plan.area (is_running task) trap s, tt)
-  busy_fine (unwinds e i a) l (traps k trap s) = (trap_fine plan.area (unwinds e i a) trap s, tt)
-  busy_fine (rewinds e i a sp) l (traps k trap s) = (trap_fine plan.area (rewinds e i a sp) trap s, tt)
+  busy_fine (rewinds e i a sp) l (returns k results s) = (refl, (tt, tt))
+  busy_fine (is_running task) l (traps k trap s) = (trap_fine plan.area (is_running task) trap s, (tt, tt))
+  busy_fine (unwinds e i a) l (traps k trap s) = (trap_fine plan.area (unwinds e i a) trap s, (tt, tt))
+  busy_fine (rewinds e i a sp) l (traps k trap s) = (trap_fine plan.area (rewinds e i a sp) trap s, (tt, tt))
   busy_fine (is_running task) l stuck = tt
   busy_fine (unwinds e i a) l stuck = tt
   busy_fine (rewinds e i a sp) l stuck = tt
@@ -261,15 +283,15 @@ module _ (p : Module) (x : Exports) (plan : Plan) where
     where
       by_state : (b : Bool) → TurnFine l.outcomes (if b then goes k [] (calling (unwinds e i a) s x.stop_unwind [] pause_there l) else broken k 2 s)
       by_state true = quiet l.outcomes
-      by_state false = (refl, tt)
-  back_aside_fine k (unwinds e i a) pause_there l results s = ((refl, tt), ([], refl, refl))
+      by_state false = (refl, (tt, tt))
+  back_aside_fine k (unwinds e i a) pause_there l results s = ((refl, (tt, tt)), ([], refl, refl))
   back_aside_fine k (rewinds e i a sp) call_again l results s = quiet l.outcomes
   back_aside_fine k (rewinds e i a sp) (test_rewound c) l results s = by_state (is_state 2 results)
     where
       by_state : (b : Bool) → TurnFine l.outcomes (if b then goes k [] (calling (rewinds e i a sp) s x.stop_rewind [] (give_answer c) l) else broken k 4 s)
       by_state true = quiet l.outcomes
-      by_state false = (refl, tt)
-  back_aside_fine k (rewinds e i a sp) (give_answer c) l results s = ((refl, tt), ([], refl, refl))
+      by_state false = (refl, (tt, tt))
+  back_aside_fine k (rewinds e i a sp) (give_answer c) l results s = ((refl, (tt, tt)), ([], refl, refl))
   back_aside_fine k (is_running task) th l results s = tt
   back_aside_fine k (unwinds e i a) call_again l results s = tt
   back_aside_fine k (unwinds e i a) (test_rewound c) l results s = tt
@@ -280,9 +302,9 @@ module _ (p : Module) (x : Exports) (plan : Plan) where
 
   aside_fine : (ph : Phase) (th : Then) (l : Left) (o : Next) → TurnFine l.outcomes (aside_step p x plan ph th l o)
   aside_fine ph th l (steps k d) = quiet l.outcomes
-  aside_fine ph th l (asks k import args d) = (refl, tt)
+  aside_fine ph th l (asks k import args d) = (refl, (tt, tt))
   aside_fine ph th l (returns k results s) = back_aside_fine k ph th l results s
-  aside_fine ph th l (traps k trap s) = (trap_fine plan.area ph trap s, tt)
+  aside_fine ph th l (traps k trap s) = (trap_fine plan.area ph trap s, (tt, tt))
   aside_fine ph th l stuck = tt
 
   enters_fine : (ph : Phase) (e : Entry) (s : Store) (l : Left) (o : Option Func) → TurnFine l.outcomes (busy_enters ph e s l o)
@@ -321,12 +343,12 @@ module _ (p : Module) (x : Exports) (plan : Plan) where
   tail_of n r = r.events ++ unless_over n r.last
 
   stays_fine : (n : ℕ) (t : Held) → Fine (left_in t) (unless_over n t)
-  stays_fine n (free s l) = (refl, tt)
-  stays_fine n (starting f s l) = (refl, tt)
-  stays_fine n (busy ph c l) = (refl, tt)
-  stays_fine n (calling ph s f args th l) = (refl, tt)
-  stays_fine n (aside ph c th l) = (refl, tt)
-  stays_fine n (entering ph e s l) = (refl, tt)
+  stays_fine n (free s l) = (refl, (tt, tt))
+  stays_fine n (starting f s l) = (refl, (tt, tt))
+  stays_fine n (busy ph c l) = (refl, (tt, tt))
+  stays_fine n (calling ph s f args th l) = (refl, (tt, tt))
+  stays_fine n (aside ph c th l) = (refl, (tt, tt))
+  stays_fine n (entering ph e s l) = (refl, (tt, tt))
   stays_fine n (over s) = (tt, tt)
 
   behind_takes : (os left : List Outcome) (es fs : List Note) → Fine os es → Takes os es left → Fine left fs → Fine os (es ++ fs)
@@ -366,17 +388,20 @@ module _ (p : Module) (x : Exports) (plan : Plan) where
           by_cost false = stays_fine m t
 
   begun_fine : (start : Option ℕ) (l : Left) (o : Opening) → NotFailed o → LeadsTo l.outcomes (held_begun start l o).events (held_begun start l o).last
-  begun_fine start l (fails_as e) h = (h, tt)
+  begun_fine start l (fails_as e) h = (h, (tt, tt))
   begun_fine None l (opens s) h = on_fine s l l.entries
   begun_fine (Some f) l (opens s) h = quiet l.outcomes
 
 -- A story tells a device's failure only behind a call that was refused so.
-pub story_fine : (w : Program) (os : List Outcome) → Inner os (protocol_story w os)
-story_fine w os =
+pub story_told : (w : Program) (os : List Outcome) → Fine os (protocol_story w os)
+story_told w os =
     let p : Module = w.source in
     let x : Exports = exports_of p in
     let r : Ran Held Note = held_begun p.start (all_left w.plan os) (opening p w.plan.globals) in
     let rest : Ran Held Note = run (protocol p x w.plan) w.steps r.last in
     let fine = behind_fine p x w.plan w.steps os r.events r.last rest (begun_fine p x w.plan p.start (all_left w.plan os) (opening p w.plan.globals) (opening_not p w.plan.globals))
     (run_fine p x w.plan w.steps w.steps w.steps r.last) (λ s e. subst (λ (v : Held). run (protocol p x w.plan) w.steps v ≡ still v) (sym e) (over_still p x w.plan w.steps w.steps s)) in
-    subst (Inner os) (sym (append_assoc r.events rest.events (unless_over w.steps rest.last))) fine.1
+    subst (Fine os) (sym (append_assoc r.events rest.events (unless_over w.steps rest.last))) fine
+
+pub story_fine : (w : Program) (os : List Outcome) → Inner os (protocol_story w os)
+story_fine w os = (story_told w os).1

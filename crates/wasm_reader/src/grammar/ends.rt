@@ -17,6 +17,7 @@ pub(crate) enum Closing {
 }
 
 /// How this goal, the first one, stands to a place.
+#[inline(always)]
 pub(crate) fn closing_at(goal: Goal, at: u64) -> Closing
     ensures { (later here : Option (List Wanted)) → passed at (closing (goal_of goal)) later here ≡ by_closing result later here }
 {
@@ -40,6 +41,7 @@ pub(crate) fn closing_at(goal: Goal, at: u64) -> Closing
 }
 
 /// The end of a goal's content.
+#[inline(always)]
 pub(crate) fn end_of(goal: Goal) -> Option<u64>
     ensures { result ≡ end_of (goal_of goal) }
 {
@@ -50,6 +52,7 @@ pub(crate) fn end_of(goal: Goal) -> Option<u64>
 }
 
 /// The least of an end and of those behind it, whose least is on top.
+#[inline(always)]
 pub(crate) fn least_with(end: u64, ends: &[u64]) -> u64
     ensures { lowered (Some end) (reverse ends.now) ≡ result ∷ reverse ends.now }
 {

@@ -1,14 +1,14 @@
 ghost use Rattle.std.specs.Prelude.{◌≡◌, ℕ, Bool, List, ◌∷◌, ◌<◌, ◌≤◌, ◌-◌, ◌++◌, length, take, drop, OnOk, IfOk, IfErr, MatchBool};
 ghost use Rattle.std.specs.Bool.{OnTrue};
-ghost use Rattle.wa_types.specs.Begun.{Begun, IsWhole, wants, Inside, code, Goal as Wanted};
-ghost use Rattle.wasm_reader.specs.Goals.{goal_of};
+ghost use Rattle.wa_types.specs.Begun.{Begun, IsWhole, wants, Inside, code, entries, some_runs, Goal as Wanted};
+ghost use Rattle.wasm_reader.specs.Goals.{goal_of, kind_of};
 ghost use Rattle.wasm_reader.specs.Items.{FrontIs};
 ghost use Rattle.wasm_reader.specs.Machine.{Stands, Waits, IsFault, IsCause};
 ghost use Rattle.wasm_reader.specs.Passing.{Below};
 
-use crate::grammar::goals::Goal;
+use crate::grammar::goals::{Goal, Kind};
 use crate::grammar::items::{Front, read_item, wants};
-use crate::grammar::short::{closes, opened, pass_short, short_entries};
+use crate::grammar::short::{closes, opened, pass_short, short_entries, short_runs};
 use crate::grammar::stack::Goals;
 use std::alloc::{AllocError, Global};
 use thiserror::Error;
@@ -105,7 +105,7 @@ impl Machine {
         Ok(())
     }
 
-    // Takes entries of one byte each, with one left.
+    // Takes entries of one byte each, or runs of two, with one left.
     fn pass_entries(&mut self, alloc: Global, bytes: &[u8], stop: usize) -> Result<(), AllocError>
         requires stands { Stands bytes.now self.old.at self.old.goals }
         requires below { Below stop self.old.goals }
@@ -118,18 +118,64 @@ impl Machine {
             return Ok(());
         };
         match goal {
-            Goal::Entries(kind, n) => {
-                let passed = short_entries(kind, n, bytes, self.at, stop);
-                if passed == 0 {
-                    return Ok(());
-                }
-                self.goals.pop();
-                self.goals.push(alloc, Goal::Entries(kind, n - passed))?;
-                self.at += passed as usize;
-                Ok(())
-            }
+            Goal::Entries(Kind::Runs, n) => self.pass_runs(alloc, bytes, stop, n),
+            Goal::Entries(kind, n) => self.pass_single(alloc, bytes, stop, kind, n),
             _ => Ok(()),
         }
+    }
+
+    // Takes entries of one byte each, of so many, with one left.
+    fn pass_single(
+        &mut self,
+        alloc: Global,
+        bytes: &[u8],
+        stop: usize,
+        kind: Kind,
+        n: u32,
+    ) -> Result<(), AllocError>
+        requires stands { Stands bytes.now self.old.at self.old.goals }
+        requires below { Below stop self.old.goals }
+        requires stop { stop ≤ length bytes.now }
+        requires top { self.old.goals ≡ entries (kind_of kind) n ∷ drop 1 self.old.goals }
+        ensures ok { OnOk result (Stands bytes.now self.new.at self.new.goals) }
+        ensures below { OnOk result (Below stop self.new.goals) }
+        ensures ahead { self.old.at ≤ self.new.at }
+    {
+        let passed = short_entries(kind, n, bytes, self.at, stop);
+        if passed == 0 {
+            return Ok(());
+        }
+        self.goals.pop();
+        self.goals.push(alloc, Goal::Entries(kind, n - passed))?;
+        self.at += passed as usize;
+        Ok(())
+    }
+
+    // Takes runs of two bytes each, of so many, with one left.
+    fn pass_runs(
+        &mut self,
+        alloc: Global,
+        bytes: &[u8],
+        stop: usize,
+        n: u32,
+    ) -> Result<(), AllocError>
+        requires stands { Stands bytes.now self.old.at self.old.goals }
+        requires below { Below stop self.old.goals }
+        requires stop { stop ≤ length bytes.now }
+        requires top { self.old.goals ≡ entries some_runs n ∷ drop 1 self.old.goals }
+        ensures ok { OnOk result (Stands bytes.now self.new.at self.new.goals) }
+        ensures below { OnOk result (Below stop self.new.goals) }
+        ensures ahead { self.old.at ≤ self.new.at }
+    {
+        let passed = short_runs(n, bytes, self.at, stop);
+        if passed == 0 {
+            return Ok(());
+        }
+        self.goals.pop();
+        self.goals
+            .push(alloc, Goal::Entries(Kind::Runs, n - passed))?;
+        self.at += 2 * passed as usize;
+        Ok(())
     }
 
     // Takes short instructions of one level, and opens or closes a level behind them; false where neither stands there.

@@ -26,6 +26,7 @@ pub(crate) enum Operands {
 /// The goals in the place of one whose item has this value and ends at this place; none where the value is
 /// wrong.
 #[tactic(auto, unfolding(wa_types::specs::Begun::next))]
+#[inline(always)]
 pub(crate) fn next(goal: Goal, value: u32, at: u64) -> Option<Few>
     requires { at < 2 ^ 63 }
     ensures { new_of result ≡ next (goal_of goal) value at }
@@ -67,6 +68,7 @@ pub(crate) fn next(goal: Goal, value: u32, at: u64) -> Option<Few>
 }
 
 // One goal.
+#[inline(always)]
 fn one(goal: Goal) -> Few
     ensures { few_of result ≡ goal_of goal ∷ [] }
 {
@@ -74,6 +76,7 @@ fn one(goal: Goal) -> Few
 }
 
 // Nothing more, where something holds.
+#[inline(always)]
 fn when(holds: bool) -> Option<Few>
     ensures { new_of result ≡ where_true holds [] }
 {
@@ -85,6 +88,7 @@ fn when(holds: bool) -> Option<Few>
 }
 
 // So many bytes of a name.
+#[inline(always)]
 fn name_of(count: u32) -> Option<Goal>
     ensures { list_of result ≡ name_of count }
 {
@@ -96,6 +100,7 @@ fn name_of(count: u32) -> Option<Goal>
 }
 
 // So many entries.
+#[inline(always)]
 fn some_of(kind: Kind, n: u32) -> Option<Goal>
     ensures { list_of result ≡ some_of (kind_of kind) n }
 {
@@ -107,6 +112,7 @@ fn some_of(kind: Kind, n: u32) -> Option<Goal>
 }
 
 // The entries that are left behind one of so many.
+#[inline(always)]
 fn others(kind: Kind, n: u32) -> Option<Goal>
     ensures { list_of result ≡ others (kind_of kind) n }
 {
@@ -196,6 +202,7 @@ fn bodies(owed: u32, end: u64, value: u32) -> Option<Few>
 }
 
 // Behind the first item of an entry (standard, sections 5.3 and 5.5.4 to 5.5.14).
+#[inline(always)]
 fn entry(kind: Kind, n: u32, value: u32, at: u64) -> Option<Few>
     requires { at < 2 ^ 63 }
     ensures { new_of result ≡ and_then (entry (kind_of kind) value at) (others (kind_of kind) n) }
@@ -231,6 +238,7 @@ fn entry(kind: Kind, n: u32, value: u32, at: u64) -> Option<Few>
 }
 
 // These goals, where something holds.
+#[inline(always)]
 fn if_so(holds: bool, goals: Few) -> Option<Few>
     ensures { new_of result ≡ where_true holds (few_of goals) }
 {

@@ -1,9 +1,9 @@
 // Runs of short items, taken at once. They stop before the end of a content.
-ghost use Rattle.std.specs.Prelude.{ℕ, ◌≡◌, ◌+◌, ◌-◌, ◌<◌, ◌≤◌, length, take, drop, get_or, IfSome};
+ghost use Rattle.std.specs.Prelude.{ℕ, ◌≡◌, ◌+◌, ◌-◌, ◌*◌, ◌<◌, ◌≤◌, length, take, drop, get_or, IfSome};
 ghost use Rattle.std.specs.Bool.{OnTrue};
-ghost use Rattle.wa_types.specs.Opcodes.{is_block_type};
+ghost use Rattle.wa_types.specs.Opcodes.{is_block_type, is_value_type};
 ghost use Rattle.wasm_reader.specs.Goals.{kind_of};
-ghost use Rattle.wasm_reader.specs.Passing.{IsShort, AreShort, Passes, Opens, Closes, PassesEntries, IsAlone};
+ghost use Rattle.wasm_reader.specs.Passing.{IsShort, AreShort, Passes, Opens, Closes, PassesEntries, IsAlone, PassesRuns, IsShortRun};
 
 use crate::grammar::goals::Kind;
 use crate::opcodes::{Shape, operand_shape};
@@ -125,6 +125,14 @@ pub(crate) fn closes(bytes: &[u8], at: usize, stop: usize) -> bool
     bytes[at] == 0x0B
 }
 
+// Whether this byte is a value type (standard, section 5.3.1).
+#[inline(always)]
+fn is_value_type(byte: u8) -> bool
+    ensures { result ≡ is_value_type byte }
+{
+    0x7C <= byte && byte <= 0x7F
+}
+
 // Whether an entry is this byte alone.
 #[inline(always)]
 fn is_alone(kind: Kind, byte: u8) -> bool
@@ -134,6 +142,7 @@ fn is_alone(kind: Kind, byte: u8) -> bool
         Kind::Bytes => true,
         Kind::Indices => byte < 128,
         Kind::Functions => byte < 128,
+        Kind::ValueTypes => is_value_type(byte),
         _ => false,
     }
 }
@@ -150,6 +159,32 @@ pub(crate) fn short_entries(kind: Kind, n: u32, bytes: &[u8], at: usize, stop: u
     let most = room.min(n.saturating_sub(1) as usize);
     for index in 0..most {
         if !is_alone(kind, bytes[at + index]) {
+            return index as u32;
+        }
+    }
+    most as u32
+}
+
+// Whether these two bytes are a run of fewer than 128 locals (standard, section 5.5.13).
+#[inline(always)]
+fn is_short_run(count: u8, ty: u8) -> bool
+    ensures { OnTrue result (IsShortRun count ty) }
+{
+    count < 128 && is_value_type(ty)
+}
+
+/// How many runs of so many can be passed over, each of two bytes, with one left.
+#[inline]
+pub(crate) fn short_runs(n: u32, bytes: &[u8], at: usize, stop: usize) -> u32
+    requires { stop ≤ length bytes.now }
+    ensures room { 0 < result → at + 2 * result < stop }
+    ensures fewer { result ≤ n }
+    ensures passes { PassesRuns bytes.now n at result stop }
+{
+    let room = stop.saturating_sub(at).saturating_sub(1) / 2;
+    let most = room.min(n.saturating_sub(1) as usize);
+    for index in 0..most {
+        if !is_short_run(bytes[at + 2 * index], bytes[at + 2 * index + 1]) {
             return index as u32;
         }
     }

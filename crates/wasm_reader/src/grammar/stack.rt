@@ -110,6 +110,7 @@ impl Goals {
 
     /// Goes on from the first goal, this one, behind an item of this value that ends at this place; false where
     /// that leads nowhere.
+    #[inline(always)]
     pub(crate) fn step(
         &mut self,
         alloc: Global,
@@ -167,6 +168,7 @@ impl Goals {
     }
 
     // Puts a goal before the others, where there is one.
+    #[inline(always)]
     fn push_some(&mut self, alloc: Global, goal: Option<Goal>) -> Result<(), AllocError>
         ensures { OnOk result (self.new ≡ list_of goal ++ self.old) }
     {
@@ -177,6 +179,7 @@ impl Goals {
     }
 
     // Puts goals before the others.
+    #[inline(always)]
     fn put(&mut self, alloc: Global, goals: Few) -> Result<(), AllocError>
         ensures { OnOk result (self.new ≡ few_of goals ++ self.old) }
     {
@@ -187,6 +190,7 @@ impl Goals {
     }
 
     /// Takes the first goal away.
+    #[inline(always)]
     pub(crate) fn pop(&mut self)
         ensures { self.new ≡ drop 1 self.old }
     {
@@ -198,6 +202,7 @@ impl Goals {
     }
 
     // Takes the goals away whose content ends at this place; false where one is complete before its end.
+    #[inline(always)]
     fn settle(&mut self, at: u64) -> bool
         ensures yes { OnTrue result (settled at self.old ≡ Some self.new) }
         ensures no { OnFalse result (settled at self.old ≡ None) }

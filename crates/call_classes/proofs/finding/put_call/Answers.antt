@@ -2,11 +2,13 @@ use Rattle.std.proofs.Common.{◌++◌, ◌∷◌, [], ap, arith, sym, subst, �
 use Rattle.std.proofs.lemmas.Result.{on_ok_weaker}
 use Rattle.call_frames.specs.PlainFrames.{at_these}
 use Rattle.call_classes.specs.declared.frames.CallClass.{CallClass}
-use Rattle.call_classes.specs.Classes.{IsIndex, KeepSets, with_call}
+use Rattle.call_classes.specs.CallParts.{joined}
+use Rattle.call_classes.specs.Classes.{HasFields, IsIndex, KeepSets, found_at, with_call}
 use Rattle.call_classes.specs.Views.{class_parts, fields_of}
 use Rattle.call_classes.proofs.ClassLemmas.{classes_only, keep_new, keep_none, keep_with}
-use Rattle.call_classes.proofs.FoundClasses.{class_with, has_within, no_fields, parts_count, some_fields}
+use Rattle.call_classes.proofs.FoundClasses.{class_with, has_within, no_fields, none_some, parts_count, some_fields}
 use Rattle.call_classes.proofs.IndexLemmas.{index_new, index_with}
+use Rattle.call_classes.proofs.PartLemmas.{joined_found, joined_new}
 use Rattle.call_classes.proofs.finding.put_call.Goals as goal
 
 pub index_mut-requires : goal.index_mut-requires
@@ -21,6 +23,7 @@ returns-then-is_empty-clause-more c =
     record {
       index = c.requires.index;
       keeps = λ sets e h. keep_none c.args.types.now sets c.args.set.now (class_parts c.args.classes.now.items) (classes_only c.args.classes.now.items) none h;
+      joins = sym (ap (λ fs. joined c.args.call fs (class_parts c.args.classes.now.items)) none);
     }
 
 pub returns-in-Some-clause-more : goal.returns-in-Some-clause-more
@@ -40,6 +43,7 @@ returns-in-Some-clause-more c =
       index = subst (IsIndex types c.args.found.now) (sym is) (index_with types c.args.found.now (class_parts cs) n c.args.call c.requires.index);
       keeps = λ sets at h. subst (KeepSets types (sets ++ set ∷ [])) (sym is)
           (subst (λ m. KeepSets types (sets ++ set ∷ []) (with_call n m (class_parts cs))) at (keep_with types sets set n (class_parts cs) (classes_only cs) has h));
+      joins = is ∙ joined_found n c.args.call (class_parts cs) _ c.requires.index.apart has;
     })
     c.put_number.ensures.calls
 
@@ -58,6 +62,9 @@ returns-in_ok-insert-in-None-clause-more c =
           c.requires.size (sym c.in-None.ensures.value) c.in_ok-insert-in-None.ensures.updates c.requires.index);
       keeps = λ sets at h. subst (KeepSets types (sets ++ set ∷ [])) (sym is)
           (subst (λ m. KeepSets types (sets ++ set ∷ []) (class_parts cs ++ at_these (m ∷ []) fs ∷ [])) at (keep_new types sets set fs (class_parts cs) (classes_only cs) keeps_it some h));
+      joins = is ∙ joined_new c.args.call (class_parts cs) fs
+          (λ n h. none_some (found_at c.args.found.now c.args.set) n (sym c.in-None.ensures.value) (c.requires.index.all c.args.set n c.requires.size (subst (HasFields n (class_parts cs)) keeps_it h)))
+          some ∙ ap (λ gs. joined c.args.call gs (class_parts cs)) keeps_it;
     })
     c.put_class.ensures.part
 

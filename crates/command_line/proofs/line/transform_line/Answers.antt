@@ -1,21 +1,23 @@
--- A `transform` has an option, two flags and two files.
-use Rattle.std.proofs.Common.{◌∙◌, ◌||◌, Bool, false, ap, ap₂, codes}
+-- A `transform` has two options, two flags and two files.
+use Rattle.std.proofs.Common.{◌∙◌, ◌||◌, Bool, false, ap, codes}
 use Rattle.std.proofs.lemmas.Result.{IfOk-weaker}
 use Rattle.clap.specs.Simple.{App, with_rule}
-use Rattle.word_grammar.specs.Grammar.{flag_rule, placed_rule}
+use Rattle.word_grammar.specs.Grammar.{flag_rule, option_rule, placed_rule}
 use Rattle.command_line.proofs.line.transform_line.Goals as goal
 
 pub returns-clause-shape : goal.returns-clause-shape
 returns-clause-shape c =
-    let first = c.in_ok-line.ensures.shape c.option_arg.ensures.local ∙ ap₂ with_rule c.new.ensures.app c.option_arg.ensures.rule in
+    let first = c.in_ok-line.ensures.shape ∙ ap (λ (a : App). with_rule a (option_rule (codes "imports"))) c.new.ensures.app in
     let second = c.in_ok-line-2.ensures.shape ∙ ap (λ (a : App). with_rule a (flag_rule (codes "ignore-imports"))) first in
     let third = c.in_ok-line-3.ensures.shape ∙ ap (λ (a : App). with_rule a (flag_rule (codes "ignore-indirect"))) second in
-    IfOk-weaker c.with_places.result _ _ (λ r h. ap (λ (a : App). a.top) (h ∙ ap (λ (a : App). with_rule (with_rule a (placed_rule (codes "input"))) (placed_rule (codes "output"))) third))
+    let fourth = c.in_ok-line-4.ensures.shape ∙ ap (λ (a : App). with_rule a (option_rule (codes "save"))) third in
+    IfOk-weaker c.with_places.result _ _ (λ r h. ap (λ (a : App). a.top) (h ∙ ap (λ (a : App). with_rule (with_rule a (placed_rule (codes "input"))) (placed_rule (codes "output"))) fourth))
     c.with_places.ensures.shape
 
 pub returns-clause-local : goal.returns-clause-local
 returns-clause-local c =
     let or_not = λ (x : Bool). x || false in
-    let first = c.in_ok-line.ensures.globals ∙ ap₂ (λ (x y : Bool). x || y) c.new.ensures.local c.option_arg.ensures.local in
+    let first = c.in_ok-line.ensures.local ∙ ap or_not c.new.ensures.local in
     let third = c.in_ok-line-3.ensures.local ∙ ap or_not (c.in_ok-line-2.ensures.local ∙ ap or_not first) in
-    IfOk-weaker c.with_places.result _ _ (λ r h. h ∙ ap (λ (x : Bool). (x || false) || false) third) c.with_places.ensures.local
+    let fourth = c.in_ok-line-4.ensures.local ∙ ap or_not third in
+    IfOk-weaker c.with_places.result _ _ (λ r h. h ∙ ap (λ (x : Bool). (x || false) || false) fourth) c.with_places.ensures.local

@@ -1,17 +1,17 @@
 -- At each function: which it is, and what is put of it.
-use Rattle.std.proofs.Common.{arith, ap, sym, subst, length, Err, ◌<◌, ◌++◌, ◌^◌, ◌∙◌}
+use Rattle.std.proofs.Common.{arith, ap, sym, subst, length, Err}
 use Rattle.std.proofs.lemmas.List.{length-map}
 use Rattle.std.proofs.lemmas.Result.{err_from_is_err_and}
 use Rattle.wa_types.specs.declared.syntax.Module.{Module as ModuleValue}
+use Rattle.wa_types.specs.Syntax.{Func}
 use Rattle.wa_types.specs.Validity.{Valid}
 use Rattle.wa_types.specs.View.{func_of, module_of}
 use Rattle.call_graph.specs.Settings.{settings_of}
 use Rattle.func_rewrite.specs.Frames.{IsFlattened}
-use Rattle.rewrite_form.specs.Emitted.{written_func}
-use Rattle.wasm_entries.specs.Locals.{local_count}
-use Rattle.wasm_encode.specs.Around.{code_entry}
-use Rattle.module_bytes.specs.Emitting.{Emits}
-use Rattle.module_bytes.proofs.EntryLemmas.{here, going_first, going_keep, going_written, going_end, going_stop, is_flattened, written_small, written_short, entry_short, locals_small}
+use Rattle.live_bytes.specs.PolicyBytes.{IsShortEntry}
+use Rattle.live_form.specs.EmittedAs.{IsWritten}
+use Rattle.module_bytes.specs.Emitting.{Emits, PutsWritten}
+use Rattle.module_bytes.proofs.EntryLemmas.{here, going_first, going_keep, going_written, going_end, going_stop, is_flattened, written_is_short, entry_short, locals_small}
 use Rattle.module_bytes.proofs.emitting.emit_funcs.Goals as goal
 
 pub loop-index-init : goal.loop-index-init
@@ -52,18 +52,6 @@ put_written-requires-clause-flat c =
     (is_flattened (module_of c.args.valid.now) (settings_of c.args.settings.now) c.args.which.now c.loop-index.index _ c.loop-index.out.items c.loop-index.invariant
     (func_of f) p c.in_ok-flat.flat _ p.place (c.in_ok-flat.ensures (func_of f) p.is))
 
-pub put_written-requires-clause-locals : goal.put_written-requires-clause-locals
-put_written-requires-clause-locals c =
-    let f = c.index-source.result.now in
-    let s = settings_of c.args.settings.now in
-    let which = c.args.which.now in
-    let same = c.module-module.ensures.same in
-    let p = here _ _ _ _ _ _ _ c.module-module.ensures.same c.requires.which c.len.ensures c.len-index-end.ensures c.loop-index-test.true c.index-source.ensures in
-    let valid = subst (λ (z : ModuleValue). Valid (module_of z)) same c.module-module.ensures.valid in
-    subst (λ (z : ModuleValue). local_count (written_func (module_of z) s which c.in_ok-flat.flat.func.func (func_of f)).locals < 2 ^ 32) (sym same)
-    (written_small (module_of c.args.valid.now) s which c.loop-index.index _ c.loop-index.out.items c.loop-index.invariant
-    (func_of f) p c.in_ok-flat.flat _ p.place (c.in_ok-flat.ensures (func_of f) p.is) valid c.requires.sizes)
-
 pub put_written-requires-clause-short : goal.put_written-requires-clause-short
 put_written-requires-clause-short c =
     let f = c.index-source.result.now in
@@ -72,9 +60,9 @@ put_written-requires-clause-short c =
     let same = c.module-module.ensures.same in
     let p = here _ _ _ _ _ _ _ c.module-module.ensures.same c.requires.which c.len.ensures c.len-index-end.ensures c.loop-index-test.true c.index-source.ensures in
     let valid = subst (λ (z : ModuleValue). Valid (module_of z)) same c.module-module.ensures.valid in
-    subst (λ (z : ModuleValue). length (code_entry (written_func (module_of z) s which c.in_ok-flat.flat.func.func (func_of f))) < 2 ^ 64) (sym same)
-    (written_short (module_of c.args.valid.now) s which c.loop-index.index _ c.loop-index.out.items c.loop-index.invariant
-    (func_of f) p c.in_ok-flat.flat _ p.place (c.in_ok-flat.ensures (func_of f) p.is) valid c.requires.sizes)
+    subst (λ (z : ModuleValue). (g : Func) → IsWritten (module_of z) s which c.in_ok-flat.flat.func.func (func_of f) g → IsShortEntry g) (sym same)
+    (written_is_short (module_of c.args.valid.now) s which c.loop-index.index _ c.loop-index.out.items c.loop-index.invariant
+    (func_of f) p c.in_ok-flat.flat _ p.place (c.in_ok-flat.ensures (func_of f) p.is) valid c.requires.sizes c.requires.tells c.requires.short c.if-not-which-imports.false)
 
 pub loop-index-preserved : goal.loop-index-preserved
 loop-index-preserved c =
@@ -82,8 +70,8 @@ loop-index-preserved c =
     let s = settings_of c.args.settings.now in
     let which = c.args.which.now in
     let p = here _ _ _ _ _ _ _ c.module-module.ensures.same c.requires.which c.len.ensures c.len-index-end.ensures c.loop-index-test.true c.index-source.ensures in
-    let put = c.in_ok-put_written.ensures
-    ∙ ap (λ (z : ModuleValue). c.loop-index.out.items ++ code_entry (written_func (module_of z) s which c.in_ok-flat.flat.func.func (func_of f))) c.module-module.ensures.same in
+    let put = subst (λ (z : ModuleValue). PutsWritten (module_of z) s which c.in_ok-flat.flat.func.func (func_of f) c.loop-index.out.items c.put_written.new.out.items)
+    c.module-module.ensures.same c.in_ok-put_written.ensures in
     going_written (module_of c.args.valid.now) s which c.loop-index.index _ c.loop-index.out.items c.loop-index.invariant
     (func_of f) p c.in_ok-flat.flat _ p.place (c.in_ok-flat.ensures (func_of f) p.is) _ c.if-not-which-imports.false put
 

@@ -1,5 +1,5 @@
 -- The module with the runtime's parts stands around the entries; what is written is the emitted module.
-use Rattle.std.proofs.Common.{◌≡◌, ◌<◌, ◌^◌, ◌∙◌, Ok, Err, ap, arith, length, subst, sym}
+use Rattle.std.proofs.Common.{◌≡◌, ◌<◌, ◌^◌, ◌∙◌, Err, ap, arith, length, subst, sym}
 use Rattle.std.proofs.lemmas.List.{length-map}
 use Rattle.std.proofs.lemmas.Result.{err_from_is_err_and}
 use Rattle.wa_types.specs.declared.syntax.Module.{Module as ModuleValue}
@@ -7,9 +7,9 @@ use Rattle.wa_types.specs.Runtime.{func_space, global_space, with_runtime}
 use Rattle.wa_types.specs.Validity.{Valid}
 use Rattle.wa_types.specs.View.{func_of, module_of}
 use Rattle.call_graph.specs.Settings.{settings_of}
-use Rattle.rewrite_form.specs.Emitted.{asyncified}
+use Rattle.live_form.proofs.PolicyCases.{functions_law}
 use Rattle.module_rewrite.proofs.WholeLemmas.{globals_small, space_small}
-use Rattle.module_bytes.specs.Emitting.{Emits}
+use Rattle.module_bytes.specs.Emitting.{AllEmitted}
 use Rattle.module_bytes.specs.Whole.{EmitsModule}
 use Rattle.module_bytes.proofs.Parts.{parts_around, parts_locals, parts_short, text_fault}
 use Rattle.module_bytes.proofs.whole.emit_module.Goals as goal
@@ -36,12 +36,13 @@ put_funcs-requires-clause-locals c =
     let s = settings_of c.args.settings.now in
     let which = c.in_ok-which.which.items in
     let valid = subst (λ (z : ModuleValue). Valid (module_of z)) c.module.ensures.same c.module.ensures.valid in
-    let e = subst (λ w. Emits m s w (Ok c.in_ok-entries.entries)) c.deref.ensures.value c.in_ok-entries.ensures in
+    let e = subst (λ w. AllEmitted m s w c.in_ok-entries.entries.bytes.items) c.deref.ensures.value c.in_ok-entries.ensures in
     let with = c.in_ok-with.ensures.done ∙ ap (λ (z : ModuleValue). with_runtime (module_of z)) c.into_module-module.ensures.same in
     let many = ap (λ (z : ModuleValue). length z.funcs.items) c.into_module-module.ensures.same in
     let len = length-map c.args.valid.funcs.items func_of in
     let own : c.len-own.result ≡ length m.funcs = omega (arith, c.len-own.ensures, many, len) in
-    parts_locals m s which valid c.requires.sizes e.1 c.requires.few c.requires.short c.in_ok-with.with with c.len-own.result own c.deref-3.result.now c.deref-3.ensures.value
+    parts_locals m s which e.funcs e.emitted valid c.requires.sizes c.in_ok-which.ensures e.few c.requires.few c.requires.short
+    c.in_ok-with.with with c.len-own.result own c.deref-3.result.now c.deref-3.ensures.value
 
 pub put_funcs-requires-clause-short : goal.put_funcs-requires-clause-short
 put_funcs-requires-clause-short c =
@@ -49,12 +50,13 @@ put_funcs-requires-clause-short c =
     let s = settings_of c.args.settings.now in
     let which = c.in_ok-which.which.items in
     let valid = subst (λ (z : ModuleValue). Valid (module_of z)) c.module.ensures.same c.module.ensures.valid in
-    let e = subst (λ w. Emits m s w (Ok c.in_ok-entries.entries)) c.deref.ensures.value c.in_ok-entries.ensures in
+    let e = subst (λ w. AllEmitted m s w c.in_ok-entries.entries.bytes.items) c.deref.ensures.value c.in_ok-entries.ensures in
     let with = c.in_ok-with.ensures.done ∙ ap (λ (z : ModuleValue). with_runtime (module_of z)) c.into_module-module.ensures.same in
     let many = ap (λ (z : ModuleValue). length z.funcs.items) c.into_module-module.ensures.same in
     let len = length-map c.args.valid.funcs.items func_of in
     let own : c.len-own.result ≡ length m.funcs = omega (arith, c.len-own.ensures, many, len) in
-    parts_short m s which valid c.requires.sizes e.1 c.requires.few c.requires.short c.in_ok-with.with with c.len-own.result own c.deref-3.result.now c.deref-3.ensures.value
+    parts_short m s which e.funcs e.emitted valid c.requires.sizes c.in_ok-which.ensures e.few c.requires.few c.requires.short
+    c.in_ok-with.with with c.len-own.result own c.deref-3.result.now c.deref-3.ensures.value
 
 pub encode_around-requires : goal.encode_around-requires
 encode_around-requires c =
@@ -62,14 +64,15 @@ encode_around-requires c =
     let s = settings_of c.args.settings.now in
     let which = c.in_ok-which.which.items in
     let valid = subst (λ (z : ModuleValue). Valid (module_of z)) c.module.ensures.same c.module.ensures.valid in
-    let e = subst (λ w. Emits m s w (Ok c.in_ok-entries.entries)) c.deref.ensures.value c.in_ok-entries.ensures in
+    let e = subst (λ w. AllEmitted m s w c.in_ok-entries.entries.bytes.items) c.deref.ensures.value c.in_ok-entries.ensures in
     let with = c.in_ok-with.ensures.done ∙ ap (λ (z : ModuleValue). with_runtime (module_of z)) c.into_module-module.ensures.same in
     let many = ap (λ (z : ModuleValue). length z.funcs.items) c.into_module-module.ensures.same in
     let len = length-map c.args.valid.funcs.items func_of in
     let own : c.len-own.result ≡ length m.funcs = omega (arith, c.len-own.ensures, many, len) in
-    let a = parts_around m s which valid c.requires.sizes e.1 c.requires.few c.requires.short c.in_ok-with.with with c.len-own.result own c.deref-3.result.now c.deref-3.ensures.value
-    c.in_ok-entries.entries.bytes.items c.as_slice.result.now e.0 (c.as_slice.ensures ∙ c.in_ok-put_funcs.ensures) in
-    (asyncified m s which, a)
+    let a = parts_around m s which e.funcs e.emitted valid c.requires.sizes c.in_ok-which.ensures e.few c.requires.few c.requires.short
+    c.in_ok-with.with with c.len-own.result own c.deref-3.result.now c.deref-3.ensures.value
+    c.in_ok-entries.entries.bytes.items c.as_slice.result.now e.entries_are (c.as_slice.ensures ∙ c.in_ok-put_funcs.ensures) in
+    (with_runtime (record m { funcs = e.funcs }), a)
 
 pub returns-in_err-text : goal.returns-in_err-text
 returns-in_err-text c =
@@ -77,16 +80,18 @@ returns-in_err-text c =
     let s = settings_of c.args.settings.now in
     let which = c.in_ok-which.which.items in
     let valid = subst (λ (z : ModuleValue). Valid (module_of z)) c.module.ensures.same c.module.ensures.valid in
-    let e = subst (λ w. Emits m s w (Ok c.in_ok-entries.entries)) c.deref.ensures.value c.in_ok-entries.ensures in
+    let e = subst (λ w. AllEmitted m s w c.in_ok-entries.entries.bytes.items) c.deref.ensures.value c.in_ok-entries.ensures in
     let with = c.in_ok-with.ensures.done ∙ ap (λ (z : ModuleValue). with_runtime (module_of z)) c.into_module-module.ensures.same in
     let many = ap (λ (z : ModuleValue). length z.funcs.items) c.into_module-module.ensures.same in
     let len = length-map c.args.valid.funcs.items func_of in
     let own : c.len-own.result ≡ length m.funcs = omega (arith, c.len-own.ensures, many, len) in
-    let a = parts_around m s which valid c.requires.sizes e.1 c.requires.few c.requires.short c.in_ok-with.with with c.len-own.result own c.deref-3.result.now c.deref-3.ensures.value
-    c.in_ok-entries.entries.bytes.items c.as_slice.result.now e.0 (c.as_slice.ensures ∙ c.in_ok-put_funcs.ensures) in
+    let a = parts_around m s which e.funcs e.emitted valid c.requires.sizes c.in_ok-which.ensures e.few c.requires.few c.requires.short
+    c.in_ok-with.with with c.len-own.result own c.deref-3.result.now c.deref-3.ensures.value
+    c.in_ok-entries.entries.bytes.items c.as_slice.result.now e.entries_are (c.as_slice.ensures ∙ c.in_ok-put_funcs.ensures) in
     let r = err_from_is_err_and c.from_residual-in_err-text.result c.from_residual-in_err-text.ensures.1 in
     subst (EmitsModule m s) (sym r.1) (subst (λ z. EmitsModule m s (Err z)) (sym r.2)
-    (text_fault m s which c.in_err-text.field-0.0 (record { tells = c.in_ok-which.ensures; few = e.1 }) (c.in_err-text.ensures.fault (asyncified m s which) a)))
+    (text_fault m s which (with_runtime (record m { funcs = e.funcs })) c.in_err-text.field-0.0 (record { tells = c.in_ok-which.ensures; few = e.few }) (functions_law m s which e.funcs e.emitted)
+    (c.in_err-text.ensures.fault (with_runtime (record m { funcs = e.funcs })) a)))
 
 pub returns : goal.returns
 returns c =
@@ -94,15 +99,18 @@ returns c =
     let s = settings_of c.args.settings.now in
     let which = c.in_ok-which.which.items in
     let valid = subst (λ (z : ModuleValue). Valid (module_of z)) c.module.ensures.same c.module.ensures.valid in
-    let e = subst (λ w. Emits m s w (Ok c.in_ok-entries.entries)) c.deref.ensures.value c.in_ok-entries.ensures in
+    let e = subst (λ w. AllEmitted m s w c.in_ok-entries.entries.bytes.items) c.deref.ensures.value c.in_ok-entries.ensures in
     let with = c.in_ok-with.ensures.done ∙ ap (λ (z : ModuleValue). with_runtime (module_of z)) c.into_module-module.ensures.same in
     let many = ap (λ (z : ModuleValue). length z.funcs.items) c.into_module-module.ensures.same in
     let len = length-map c.args.valid.funcs.items func_of in
     let own : c.len-own.result ≡ length m.funcs = omega (arith, c.len-own.ensures, many, len) in
-    let a = parts_around m s which valid c.requires.sizes e.1 c.requires.few c.requires.short c.in_ok-with.with with c.len-own.result own c.deref-3.result.now c.deref-3.ensures.value
-    c.in_ok-entries.entries.bytes.items c.as_slice.result.now e.0 (c.as_slice.ensures ∙ c.in_ok-put_funcs.ensures) in
+    let a = parts_around m s which e.funcs e.emitted valid c.requires.sizes c.in_ok-which.ensures e.few c.requires.few c.requires.short
+    c.in_ok-with.with with c.len-own.result own c.deref-3.result.now c.deref-3.ensures.value
+    c.in_ok-entries.entries.bytes.items c.as_slice.result.now e.entries_are (c.as_slice.ensures ∙ c.in_ok-put_funcs.ensures) in
     record {
-      can = record { tells = c.in_ok-which.ensures; few = e.1 };
-      text = c.in_ok-text.ensures.ok (asyncified m s which) a;
-      short = c.in_ok-text.ensures.short (asyncified m s which) a;
+      can = record { tells = c.in_ok-which.ensures; few = e.few };
+      written = with_runtime (record m { funcs = e.funcs });
+      emitted = functions_law m s which e.funcs e.emitted;
+      text = c.in_ok-text.ensures.ok (with_runtime (record m { funcs = e.funcs })) a;
+      short = c.in_ok-text.ensures.short (with_runtime (record m { funcs = e.funcs })) a;
     }

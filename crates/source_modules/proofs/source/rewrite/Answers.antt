@@ -1,12 +1,12 @@
 -- A source keeps the size rule, reserves nothing, and is so short that what is written of it can be counted.
-use Rattle.std.proofs.Common.{◌≡◌, None, ap, arith, drop, length, rules}
+use Rattle.std.proofs.Common.{◌≡◌, None, arith, drop, length, rules}
 use Rattle.std.specs.Prelude.{count_by}
 use Rattle.std.proofs.lemmas.List.{length-map}
 use Rattle.wa_types.specs.Marks.{first_above}
 use Rattle.wa_types.specs.Modules.{func_imports}
 use Rattle.wa_types.specs.Syntax.{Module}
 use Rattle.wa_types.specs.View.{module_of}
-use Rattle.call_graph.specs.Settings.{policy_of, settings_of}
+use Rattle.call_graph.specs.Settings.{settings_of}
 use Rattle.source_modules.specs.Sources.{rewritten_counts}
 use Rattle.source_modules.proofs.Accepted.{strict, few_bytes, few_functions, few_written, none_passes, emit_refused, source_prepared}
 use Rattle.source_modules.proofs.FreeNames.{sources_rewritten}
@@ -40,11 +40,12 @@ returns-clause-done c =
     let count : c.told_count-instrumented.result ≡ count_by (λ b. b) which = rw c.deref.ensures.value at c.told_count-instrumented.ensures in (
       m,
       which,
-      record { rewritable = record { accepted = c.in_ok-valid.ensures.source; tells = e.can.tells; few = few }; short = e.short },
+      e.written,
+      record { rewritable = record { accepted = c.in_ok-valid.ensures.source; tells = e.can.tells; few = few }; emitted = e.emitted; short = e.short },
       functions,
       count,
       e.text,
-      source_prepared c.args.bytes.now m c.in_ok-valid.ensures.source s which few (λ i. omega (arith, c.type_inv.bytes i)) e.short,
-      sources_rewritten m s which c.in_ok-valid.ensures.source.valid c.in_ok-valid.ensures.source.unreserved.free (strict c.args.bytes.now m c.in_ok-valid.ensures.source)
-          (few_written m which few) (ap policy_of c.requires) e.can.tells,
+      source_prepared c.args.bytes.now m c.in_ok-valid.ensures.source s which few e.can.tells e.written e.emitted (λ i. omega (arith, c.type_inv.bytes i)) e.short,
+      sources_rewritten m s which e.written e.emitted c.in_ok-valid.ensures.source.valid c.in_ok-valid.ensures.source.unreserved.free
+          (strict c.args.bytes.now m c.in_ok-valid.ensures.source) (few_written m which few) e.can.tells,
     )

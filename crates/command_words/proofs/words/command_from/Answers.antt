@@ -1,0 +1,16 @@
+-- The matches of a `host` or a `run` say its script.
+use Rattle.std.proofs.Common.{◌∙◌, refl}
+use Rattle.clap.specs.Words.{found_of, rows_of}
+use Rattle.word_grammar.specs.Grammar.{host_words, run_words}
+use Rattle.command_words.proofs.CommandMet.{met_spells}
+use Rattle.command_words.proofs.words.command_from.Goals as goal
+
+pub returns-in-Some-subcommand_matches-clause-command : goal.returns-in-Some-subcommand_matches-clause-command
+returns-in-Some-subcommand_matches-clause-command c =
+    λ spelling h. let met = c.in-Some-subcommand_matches in
+    met_spells host_words c.args.matches.now (rows_of (found_of met.matches.now)) spelling h (met.ensures.found.0 refl) met.ensures.rows ∙ c.in_ok-script.ensures.hosts
+
+pub returns-in-Some-subcommand_matches-2-clause-command : goal.returns-in-Some-subcommand_matches-2-clause-command
+returns-in-Some-subcommand_matches-2-clause-command c =
+    λ spelling h. let met = c.in-Some-subcommand_matches-2 in
+    met_spells run_words c.args.matches.now (rows_of (found_of met.matches.now)) spelling h (met.ensures.found.0 refl) met.ensures.rows ∙ c.in_ok-script-2.ensures.runs

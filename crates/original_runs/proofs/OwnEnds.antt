@@ -1,0 +1,203 @@
+-- A run with blocking imports ends by its own reductions, its answers or its instantiation, and never by what a host does.
+use Rattle.std.proofs.Common.{◌≡◌, ℕ, zero, suc, ◌*◌, List, [], ◌∷◌, length, map, replicate, Option, Some, None, Bool, true, false, All, refl}
+use Rattle.std.specs.Prelude.{nat_lt, if◌then◌else◌}
+use Rattle.std.proofs.lemmas.List.Elements.{All-nil, All-cons, All-head, All-tail}
+use Rattle.wa_types.specs.declared.values.ValType.{ValType}
+use Rattle.wa_types.specs.declared.values.Value.{Value}
+use Rattle.wa_types.specs.Base.{Base}
+use Rattle.wa_types.specs.Syntax.{Func, Module}
+use Rattle.wa_types.specs.Memory.{page_size}
+use Rattle.wa_types.specs.Modules.{all_memories, all_tables, func_imports, func_type_at, defined_at}
+use Rattle.wa_model.specs.declared.answers.Area.{Area}
+use Rattle.wa_model.specs.declared.events.End.{End}
+use Rattle.wa_model.specs.declared.events.End.TheVariants.{Done, Trapped, UnwindTrap, RewindTrap, BadAnswer, BadPoke, StepsSpent, Broken}
+use Rattle.wa_model.specs.Outside.{Poke, Answer, Event, answered, returned, ended}
+use Rattle.wa_model.specs.Machine.{Turn, stops}
+use Rattle.wa_model.specs.Store.{Store}
+use Rattle.wa_model.specs.Step.{Next, steps, asks, returns, traps, stuck, step}
+use Rattle.wa_model.specs.Plan.{Entry, Plan, Outcome, given, refused, OutcomeFits, IsRefusal}
+use Rattle.wa_model.specs.Instantiation.{Piece, elem_piece, byte_piece, first_out, all_values, least_of, bytes_checked, elems_checked, opened_by, Opening, fails_as, opens, opening}
+use Rattle.wa_model.specs.Blocking.{Note, note, no_store, call_note, value_of_results, answers, poke_fits, bad_poke, is_unlisted, bad_pause, or_else}
+use Rattle.wa_model.specs.Blocking.{fault_of, pause_of, poked, done_notes, Task, the_start, an_entry, Left, with_outcomes, Asker, inside, outermost}
+use Rattle.wa_model.specs.Blocking.{store_at, stack_at, in_start, State, between, begins, runs, halts, on_to, task_back, go_on, tested, asked}
+use Rattle.wa_model.specs.Blocking.{by_step, enters, enter_next, start_called, next_entry, blocking, all_left, begun, Blocking}
+use Rattle.wa_model.proofs.Invariants.{TurnKeeps, RanKeeps, after_keeps}
+
+-- ends that come of the host's protocol, or of the number of steps
+abbrev pub is_hosts : End → Bool
+is_hosts (UnwindTrap trap used len) = true
+is_hosts (RewindTrap trap) = true
+is_hosts (StepsSpent n) = true
+is_hosts (Broken rule) = true
+is_hosts _ = false
+
+abbrev pub ends_hosts : Event → Bool
+ends_hosts (ended how) = is_hosts how
+ends_hosts _ = false
+
+abbrev pub Own : Note → Type 0
+Own x = ends_hosts x.event ≡ false
+
+-- ---- ends of a run with blocking imports
+
+abbrev OwnEnd : Option End → Type 0
+OwnEnd None = Unit {0}
+OwnEnd (Some e) = is_hosts e ≡ false
+
+pokes_own : (size : ℕ) (area : Area) (ps : List Poke) → OwnEnd (bad_poke size area ps)
+pokes_own size area [] = tt
+pokes_own size area (p ∷ ps) = by_fit (poke_fits size area p) (pokes_own size area ps)
+  where
+    by_fit : (b : Bool) → OwnEnd (bad_poke size area ps) → OwnEnd (if b then bad_poke size area ps else Some (BadPoke p.at (length p.bytes)))
+    by_fit true h = h
+    by_fit false h = refl
+
+pause_own : (start unlisted : Bool) (import ticks : ℕ) → OwnEnd (bad_pause start unlisted import ticks)
+pause_own start unlisted import zero = tt
+pause_own true unlisted import (suc ticks) = refl
+pause_own false true import (suc ticks) = refl
+pause_own false false import (suc ticks) = tt
+
+else_own : (a b : Option End) → OwnEnd a → OwnEnd b → OwnEnd (or_else a b)
+else_own None b x y = y
+else_own (Some e) b x y = x
+
+fault_own : (results : List ValType) (size : ℕ) (plan : Plan) (start : Bool) (import : ℕ) (a : Answer) → OwnEnd (fault_of results size plan start import a)
+fault_own results size plan start import a =
+    else_own (if answers results a.value then None else Some (BadAnswer import a.value))
+    (or_else (bad_poke size plan.area a.pokes) (bad_pause start (is_unlisted plan.listed import) import a.ticks))
+    (by_value (answers results a.value))
+    (else_own (bad_poke size plan.area a.pokes) (bad_pause start (is_unlisted plan.listed import) import a.ticks) (pokes_own size plan.area a.pokes)
+    (pause_own start (is_unlisted plan.listed import) import a.ticks))
+  where
+    by_value : (b : Bool) → OwnEnd (if b then None else Some (BadAnswer import a.value))
+    by_value true = tt
+    by_value false = refl
+
+refusal_own : (e : End) → IsRefusal e → is_hosts e ≡ false
+refusal_own (UnwindTrap trap used len) h = absurd h
+refusal_own (RewindTrap trap) h = absurd h
+refusal_own (StepsSpent n) h = absurd h
+refusal_own (Broken rule) h = absurd h
+refusal_own _ h = refl
+
+abbrev Lawful : State → Type 0
+Lawful (between s l) = All OutcomeFits l.outcomes
+Lawful (begins x s l) = All OutcomeFits l.outcomes
+Lawful (runs task c l) = All OutcomeFits l.outcomes
+Lawful (halts s) = Unit {0}
+
+no_notes : All Own []
+no_notes = All-nil Own
+
+one_note : (x : Note) → Own x → All Own (x ∷ [])
+one_note x h = All-cons Own x [] h no_notes
+
+two_notes : (x y : Note) → Own x → Own y → All Own (x ∷ y ∷ [])
+two_notes x y h k = All-cons Own x (y ∷ []) h (one_note y k)
+
+done_own : (s : Store) (es : List Entry) → All Own (done_notes s es)
+done_own s [] = one_note (note (ended Done) s) refl
+done_own s (e ∷ es) = no_notes
+
+abbrev OwnOpening : Opening → Type 0
+OwnOpening (fails_as e) = is_hosts e ≡ false
+OwnOpening (opens s) = Unit {0}
+
+bytes_own : (globals : List Value) (memory : List ℕ) (table : List (Option ℕ)) (elems : List (Piece (Option ℕ))) (bytes : List (Piece ℕ)) (o : Option ℕ)
+    → OwnOpening (bytes_checked globals memory table elems bytes o)
+bytes_own globals memory table elems bytes None = tt
+bytes_own globals memory table elems bytes (Some i) = refl
+
+elems_own : (globals : List Value) (memory : List ℕ) (table : List (Option ℕ)) (elems : List (Piece (Option ℕ))) (bytes : List (Piece ℕ)) (o : Option ℕ)
+    → OwnOpening (elems_checked globals memory table elems bytes o)
+elems_own globals memory table elems bytes None = bytes_own globals memory table elems bytes (first_out (length memory) 0 bytes)
+elems_own globals memory table elems bytes (Some i) = refl
+
+opened_own : (m : Module) (globals : List Value) (pages entries : ℕ) (a b : Bool) → OwnOpening (opened_by m globals pages entries a b)
+opened_own m globals pages entries true b = refl
+opened_own m globals pages entries false true = refl
+opened_own m globals pages entries false false =
+    elems_own globals (replicate (pages * page_size) 0) (replicate entries None) (map (elem_piece globals) m.elems) (map (byte_piece globals) m.segments)
+    (first_out (length (replicate entries None)) 0 (map (elem_piece globals) m.elems))
+
+opening_own : (m : Module) (imports : List Value) → OwnOpening (opening m imports)
+opening_own m imports =
+    opened_own m (all_values imports m) (least_of (all_memories m)) (least_of (all_tables m)) (nat_lt 1024 (least_of (all_memories m))) (nat_lt 100000 (least_of (all_tables m)))
+
+module _ (m : Module) (plan : Plan) where
+  abbrev Keeps : Turn State Note → Type 0
+  Keeps t = TurnKeeps (blocking m plan) Lawful Own t
+
+  on_lawful : (s : Store) (l : Left) (es : List Entry) → All OutcomeFits l.outcomes → Lawful (on_to s l es)
+  on_lawful s l [] h = tt
+  on_lawful s l (e ∷ es) h = h
+
+  back_keeps : (k : ℕ) (task : Task) (results : List Value) (s : Store) (l : Left) → All OutcomeFits l.outcomes → Keeps (task_back k task results s l)
+  back_keeps k the_start results s l h = (done_own s l.entries, on_lawful s l l.entries h)
+  back_keeps k (an_entry e) results s l h =
+      (All-cons Own (note (returned l.number (value_of_results results)) s) (done_notes s l.entries) refl (done_own s l.entries), on_lawful s (next_entry l) l.entries h)
+
+  given_keeps : (k import : ℕ) (args : List Value) (who : Asker) (l : Left) (a : Answer) (pause : Option ℕ) → All OutcomeFits l.outcomes
+      → Keeps (go_on k (call_note import args (store_at who) (stack_at m who) pause) a (poked (store_at who) a.pokes) l who)
+  given_keeps k import args (inside task c) l a pause h =
+      (two_notes (call_note import args c.store (stack_at m (inside task c)) pause) (note (answered a.value) (poked c.store a.pokes)) refl refl, h)
+  given_keeps k import args (outermost old) l a pause h = (
+    All-cons Own (call_note import args old [] pause) (note (answered a.value) (poked old a.pokes) ∷ done_notes (poked old a.pokes) l.entries) refl
+        (All-cons Own (note (answered a.value) (poked old a.pokes)) (done_notes (poked old a.pokes) l.entries) refl (done_own (poked old a.pokes) l.entries)),
+    on_lawful (poked old a.pokes) l l.entries h,
+  )
+
+  tested_keeps : (k import : ℕ) (args : List Value) (who : Asker) (l : Left) (a : Answer) (o : Option End) → All OutcomeFits l.outcomes → OwnEnd o → Keeps (tested m k import args who l a o)
+  tested_keeps k import args who l a (Some e) h r =
+      (two_notes (call_note import args (store_at who) (stack_at m who) None) (note (ended e) (store_at who)) refl r, tt)
+  tested_keeps k import args who l a None h r = given_keeps k import args who l a (pause_of a.ticks) h
+
+  asked_keeps : (k import : ℕ) (args : List Value) (who : Asker) (l : Left) (os : List Outcome) → All OutcomeFits os → Keeps (asked m plan k import args who l os)
+  asked_keeps k import args who l [] h = (one_note (call_note import args (store_at who) (stack_at m who) None) refl, tt)
+  asked_keeps k import args who l (refused e ∷ os) h =
+      (two_notes (call_note import args (store_at who) (stack_at m who) None) (note (ended e) (store_at who)) refl (refusal_own e (All-head OutcomeFits (refused e) os h)), tt)
+  asked_keeps k import args who l (given a ∷ os) h =
+      tested_keeps k import args who (with_outcomes l os) a (fault_of (func_type_at m import).results (length (store_at who).memory) plan (in_start who) import a)
+      (All-tail OutcomeFits (given a) os h) (fault_own (func_type_at m import).results (length (store_at who).memory) plan (in_start who) import a)
+
+  step_keeps : (task : Task) (l : Left) (o : Next) → All OutcomeFits l.outcomes → Keeps (by_step m plan task l o)
+  step_keeps task l (steps k d) h = (no_notes, h)
+  step_keeps task l (asks k import args d) h = asked_keeps k import args (inside task d) l l.outcomes h
+  step_keeps task l (returns k results s) h = back_keeps k task results s l h
+  step_keeps task l (traps k trap s) h = (one_note (note (ended (Trapped trap)) s) refl, tt)
+  step_keeps task l stuck h = tt
+
+  enters_keeps : (e : Entry) (s : Store) (l : Left) (o : Option Func) → All OutcomeFits l.outcomes → Keeps (enters e s l o)
+  enters_keeps e s l None h = tt
+  enters_keeps e s l (Some f) h = (no_notes, h)
+
+  next_keeps : (s : Store) (l : Left) (es : List Entry) → All OutcomeFits l.outcomes → Keeps (enter_next m s l es)
+  next_keeps s l [] h = tt
+  next_keeps s l (e ∷ es) h = enters_keeps e s (record { number = l.number; entries = es; outcomes = l.outcomes }) (defined_at m e.func) h
+
+  start_keeps : (x : ℕ) (s : Store) (l : Left) (o : Option Func) → All OutcomeFits l.outcomes → Keeps (start_called m plan x s l o)
+  start_keeps x s l (Some f) h = (no_notes, h)
+  start_keeps x s l None h = by_import (nat_lt x (func_imports m))
+    where
+      by_import : (b : Bool) → Keeps (if b then asked m plan 0 x [] (outermost s) l l.outcomes else stops)
+      by_import true = asked_keeps 0 x [] (outermost s) l l.outcomes h
+      by_import false = tt
+
+  turn_keeps : (t : State) → Lawful t → Keeps (blocking m plan t)
+  turn_keeps (between s l) h = next_keeps s l l.entries h
+  turn_keeps (begins x s l) h = start_keeps x s l (defined_at m x) h
+  turn_keeps (runs task c l) h = step_keeps task l (step m c) h
+  turn_keeps (halts s) h = tt
+
+  begun_keeps : (start : Option ℕ) (l : Left) (o : Opening) → OwnOpening o → All OutcomeFits l.outcomes → RanKeeps (blocking m plan) Lawful Own (begun start l o)
+  begun_keeps start l (fails_as e) r h = (one_note (note (ended e) no_store) r, tt)
+  begun_keeps None l (opens s) r h = (done_own s l.entries, on_lawful s l l.entries h)
+  begun_keeps (Some x) l (opens s) r h = (no_notes, h)
+
+-- Such a run makes no end that the host makes.
+pub blocking_own : (m : Module) (plan : Plan) (os : List Outcome) (n : ℕ) → All OutcomeFits os → All Own (Blocking m plan os n).events
+blocking_own m plan os n h =
+    let b : Module = Base m in
+    (after_keeps (blocking b plan) Lawful Own (turn_keeps b plan) n (begun b.start (all_left plan os) (opening b plan.globals))
+    (begun_keeps b plan b.start (all_left plan os) (opening b plan.globals) (opening_own b plan.globals) h)).0

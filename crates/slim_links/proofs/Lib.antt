@@ -1,0 +1,3 @@
+pub mod QuietSteps
+pub mod SlimLinks
+pub mod SlimStretches

@@ -1,0 +1,5 @@
+pub mod UnitSizes
+pub mod UnitsAlike
+pub mod UnitsPassed
+pub mod UnitsSlim
+pub mod UnitsTyped
