@@ -20,7 +20,7 @@ use Rattle.wa_types.specs.Syntax.{Basic, nop, drop, select, const, num, global_g
 use Rattle.wa_types.proofs.SizeBounds.{weight_fits}
 use Rattle.wa_model.specs.FlatFits.{one_run}
 use Rattle.wa_model.specs.Rewrites.{instructions_and_labels}
-use Rattle.flat_laws.specs.FlatModule.{extra_types}
+use Rattle.rewrite_form.specs.FlatModule.{extra_types}
 use Rattle.wasm_entries.specs.Locals.{local_count}
 use Rattle.wasm_encode.specs.Modules.{FewLocals}
 use Rattle.wasm_encode.proofs.AroundLemmas.{same_sort_bytes}

@@ -1,3 +1,6 @@
+pub use Rattle.rewrite_runs.proofs.Asyncified
+pub use Rattle.rewrite_runs.proofs.EmittedSo
+pub use Rattle.rewrite_runs.proofs.FitsBy
 pub mod CallCounts
 pub mod LiveHold
 pub mod LiveModules

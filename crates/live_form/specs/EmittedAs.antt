@@ -5,8 +5,8 @@ use Rattle.wa_types.specs.Pausing.{Policy, Settings, is_told, save_all, save_liv
 use Rattle.wa_types.specs.Runtime.{with_runtime}
 use Rattle.wa_types.specs.Syntax.{Func, Module}
 use Rattle.call_frames.specs.PlainFrames.{SavedParts}
-use Rattle.rewrite_form.specs.Emitted.{asyncified, written_func}
-use Rattle.rewrite_form.specs.EmittedBy.{written_by}
+use Rattle.rewrite_runs.specs.Emitted.{asyncified, written_func}
+use Rattle.rewrite_runs.specs.EmittedBy.{written_by}
 use Rattle.live_form.specs.LiveParts.{AllLiveParts, LiveParts, live_asyncified, live_codes}
 
 -- ---- one function

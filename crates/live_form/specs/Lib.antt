@@ -1,3 +1,5 @@
+pub use Rattle.call_frames.specs.PlainFrames
+pub use Rattle.live_guards.specs.LiveFrames
 pub mod EmittedAs
 pub mod Laws
 pub mod LiveParts

@@ -1,3 +1,5 @@
+pub use Rattle.flat_fits.proofs.Calls
+pub use Rattle.flat_fits.proofs.Whole
 pub mod Emitted
 pub mod EmittedBy
 pub mod EmittedRewritten

@@ -1,3 +1,9 @@
+pub use Rattle.flat_laws.specs.FlatModule
+pub use Rattle.flat_laws.specs.Flatten
+pub use Rattle.frame_laws.specs.Layout
+pub use Rattle.guard_form.specs.Functions
+pub use Rattle.guard_form.specs.Guarded
+pub use Rattle.guard_form.specs.Pieces
 pub mod CodesHold
 pub mod Emitted
 pub mod EmittedBy

@@ -21,18 +21,18 @@ use Rattle.flat_laws.specs.FlatModule.{extra_types, flat_func}
 use Rattle.flat_laws.specs.Flatten.{flattened}
 use Rattle.flat_laws.proofs.FlatModules.{is_flat}
 use Rattle.flat_laws.proofs.RuntimeModules.{base_flattened, base_results, base_slots}
-use Rattle.flat_fits.proofs.Calls.{calls_stay}
-use Rattle.flat_fits.proofs.Whole.{counted, meets}
-use Rattle.guard_form.specs.Functions.{GuardedFunc, with_guards, written_code}
-use Rattle.slim_modules.specs.SlimModule.{Pieces, SlimPieces, plain_pieces}
-use Rattle.slim_modules.proofs.SlimModules.{plain_slim}
+use Rattle.emitted_bytes.proofs.Calls.{calls_stay}
+use Rattle.emitted_bytes.proofs.Whole.{counted, meets}
+use Rattle.flat_guards.specs.Functions.{GuardedFunc, with_guards, written_code}
+use Rattle.flat_guards.specs.SlimModule.{Pieces, SlimPieces, plain_pieces}
+use Rattle.flat_guards.proofs.SlimModules.{plain_slim}
 use Rattle.flat_guards.specs.Emitted.{Emitted, WrittenAs, guarded_of, Framing}
 use Rattle.flat_guards.proofs.PairedFlat.{base_defined, defined_by}
-use Rattle.rewrite_form.specs.CodesHold.{AllCodesHold}
-use Rattle.rewrite_form.specs.EmittedBy.{FrameCode, asyncified_by, func_by, guarded_by, written_by}
-use Rattle.rewrite_form.specs.Sizes.{FewWritten}
-use Rattle.rewrite_form.proofs.EmittedBy.{emitted_at, funcs_are, inner, not_told, runtime, same_sorts, told}
-use Rattle.rewrite_form.proofs.EmittedRewritten.{rewritten_but_runs}
+use Rattle.emitted_bytes.specs.CodesHold.{AllCodesHold}
+use Rattle.emitted_bytes.specs.EmittedBy.{FrameCode, asyncified_by, func_by, guarded_by, written_by}
+use Rattle.emitted_bytes.specs.Sizes.{FewWritten}
+use Rattle.emitted_bytes.proofs.EmittedBy.{emitted_at, funcs_are, inner, not_told, runtime, same_sorts, told}
+use Rattle.emitted_bytes.proofs.EmittedRewritten.{rewritten_but_runs}
 
 -- ---- lists
 

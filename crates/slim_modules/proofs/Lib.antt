@@ -1,1 +1,10 @@
+pub use Rattle.flat_runs.proofs.Calls
+pub use Rattle.flat_runs.proofs.Slots
+pub use Rattle.flat_runs.proofs.Stretches
+pub use Rattle.flat_runs.proofs.WaitingCalls
+pub use Rattle.slim_runs.proofs.KeptSizes
+pub use Rattle.slim_runs.proofs.Running
+pub use Rattle.slim_units.proofs.UnitsAlike
+pub use Rattle.slim_units.proofs.UnitsPassed
+pub use Rattle.slim_units.proofs.UnitsSlim
 pub mod SlimModules

@@ -1,3 +1,4 @@
+pub use Rattle.guard_form.proofs.Grouped
 pub mod UnitSizes
 pub mod UnitsAlike
 pub mod UnitsPassed
