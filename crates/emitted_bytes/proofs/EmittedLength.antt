@@ -5,7 +5,7 @@ use Rattle.std.specs.List.{sum_by}
 use Rattle.std.proofs.lemmas.List.Sums.{sum_by-cons}
 use Rattle.wa_types.specs.Encoding.{Enc}
 use Rattle.wa_types.specs.Frames.{Count}
-use Rattle.wa_types.specs.Pausing.{Settings}
+use Rattle.wa_types.specs.Pausing.{Numbered, Settings}
 use Rattle.wa_types.specs.Sizes.{FuncSizes, StrictSizeRule}
 use Rattle.wa_types.specs.Syntax.{Func, Module}
 use Rattle.wa_types.specs.Validity.{Valid}
@@ -16,6 +16,7 @@ use Rattle.rewrite_form.specs.Emitted.{asyncified, layout_codes, written_func}
 use Rattle.rewrite_form.specs.Sizes.{FewWritten}
 use Rattle.rewrite_form.proofs.EmittedBy.{defined_where}
 use Rattle.rewrite_form.proofs.WrittenSizes.{layout_size}
+use Rattle.slim_modules.proofs.SlimModules.{plain_slim}
 use Rattle.emitted_bytes.proofs.FitsBy.{one_of_all}
 use Rattle.emitted_bytes.proofs.LengthBy.{AllCodesShort, entry, most}
 use Rattle.emitted_bytes.proofs.LengthBy as By
@@ -27,7 +28,7 @@ module _ (m : Module) (s : Settings) (which : List Bool) (v : Valid m) (x i : �
   written_entry =
       let z = layout_size m s which x f v i e in
       let w = weight_fits (2 ^ 31) (2 ^ 31) m f sizes in
-      let a = By.written_entry m s which (layout_codes m s which) x f sizes low 0 (omega (arith, z, w)) in omega (arith, a)
+      let a = By.written_entry m s which (layout_codes m s which) x f sizes low 0 (plain_slim m (Numbered m s which f) x f) (omega (arith, z, w)) in omega (arith, a)
 
   pub written_locals_few : local_count (written_func m s which x f).locals < 2 ^ 32
   written_locals_few = By.written_locals_few m s which (layout_codes m s which) x f sizes low
@@ -50,4 +51,4 @@ module _ (m : Module) (s : Settings) (which : List Bool) (v : Valid m) (strict :
 
   -- fewer bytes than a u64 numbers
   pub emitted_short : length m.funcs ≤ 100000 → length (Enc m) ≤ 2 ^ 60 → length (Enc (asyncified m s which)) < 2 ^ 64
-  emitted_short n l = By.emitted_short m s which (layout_codes m s which) strict few (λ (f : Func). 0) codes_short n l (omega (arith, none_more m.funcs))
+  emitted_short n l = By.emitted_short m s which (layout_codes m s which) strict few (λ (f : Func). 0) (λ x f is told. plain_slim m (Numbered m s which f) x f) codes_short n l (omega (arith, none_more m.funcs))

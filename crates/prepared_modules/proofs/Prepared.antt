@@ -178,7 +178,7 @@ module _ (m : Module) (s : Settings) (which : List Bool) (codes : (index : ℕ) 
           let y : ℕ = func_imports m + i in
           let g : Func = written_by m s which codes y f in
           let owed = hold y f (defined_of m i f e) b in
-          let a = written_depth m s which codes y f owed.restoring_quiet.depth owed.saving_quiet.depth in
+          let a = written_depth m s which codes y f owed.slim owed.restoring_quiet.depth owed.saving_quiet.depth in
           let c = pruned_flatter f.body in
           let n = written_length m s which codes y f v (sort_there m s which v i f e) (v.bodies i f e) in
           let k = locals_counted p g in

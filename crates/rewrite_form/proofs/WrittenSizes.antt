@@ -6,7 +6,7 @@ use Rattle.wa_types.specs.Bounds.{code_weight}
 use Rattle.wa_types.specs.Counts.{depth_of}
 use Rattle.wa_types.specs.Frames.{Pair, Place, SlotPairs, named_places, slot_places, Saved}
 use Rattle.wa_types.specs.Modules.{locals_of}
-use Rattle.wa_types.specs.Pausing.{save_all, Settings}
+use Rattle.wa_types.specs.Pausing.{save_all, Numbered, Settings}
 use Rattle.wa_types.specs.Pruned.{pruned}
 use Rattle.wa_types.specs.Syntax.{Code, done, Func, Module}
 use Rattle.wa_types.specs.Validity.{Valid}
@@ -20,6 +20,7 @@ use Rattle.rewrite_form.specs.Emitted.{is_kept, field_where, frame_layout, layou
 use Rattle.rewrite_form.proofs.EmittedBy.{defined_where}
 use Rattle.rewrite_form.proofs.Marks.{Marking, marks_of, marks_saving, marks_restoring, call_marking, calls_are, table_marking, lists_few}
 use Rattle.rewrite_form.proofs.SizesBy.{body_size, code_weighs, counts_less, inner_depths}
+use Rattle.slim_modules.proofs.SlimModules.{plain_slim}
 use Rattle.rewrite_form.proofs.SizesBy as By
 use Rattle.rewrite_form.proofs.WrittenTypes.{restoring_typed, saving_typed}
 
@@ -112,16 +113,17 @@ module _ (m : Module) (s : Settings) (which : List Bool) (x : ℕ) (f : Func) wh
   pub written_size : (v : Valid m) (i : ℕ) → slice_get m.funcs i ≡ Some f → instructions_and_labels (written_func m s which x f).body ≤ 25 * w + 6 * length (locals_of m f) + 45
   written_size v i e =
       let a = layout_size v i e in
-      let b = By.written_size m s which (layout_codes m s which) x f in omega arith
+      let b = By.written_size m s which (layout_codes m s which) x f (plain_slim m (Numbered m s which f) x f) in omega arith
 
   pub written_depth : depth_of (written_func m s which x f).body ≤ depth_of (pruned f.body) + 3
-  written_depth = By.written_depth m s which (layout_codes m s which) x f (restoring_depth (frame_layout m s which x f)) (saving_depth (frame_layout m s which x f))
+  written_depth = By.written_depth m s which (layout_codes m s which) x f (plain_slim m (Numbered m s which f) x f) (restoring_depth (frame_layout m s which x f)) (saving_depth (frame_layout m s which x f))
 
 pub layouts_hold : (m : Module) (s : Settings) (which : List Bool) → Valid m → AllCodesHold m s which (layout_codes m s which)
 layouts_hold m s which v x f is told =
     let at = defined_where m x f is in
     let z = layout_size m s which x f v at.0 at.1 in
     record {
+      slim = plain_slim m (Numbered m s which f) x f;
       restoring_typed = restoring_typed m s which x f;
       saving_typed = saving_typed m s which x f;
       restoring_quiet = restoring_quiet (frame_layout m s which x f);

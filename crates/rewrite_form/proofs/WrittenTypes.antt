@@ -7,7 +7,7 @@ use Rattle.wa_types.specs.declared.values.ValType.{ValType}
 use Rattle.wa_types.specs.declared.values.ValType.TheVariants.{I32}
 use Rattle.wa_types.specs.Frames.{Pair, Place, SlotPairs, ResultPairs, Count, place_onto, named_places, slot_places, places, Saved}
 use Rattle.wa_types.specs.Modules.{locals_of, around}
-use Rattle.wa_types.specs.Pausing.{save_all, Settings}
+use Rattle.wa_types.specs.Pausing.{save_all, Numbered, Settings}
 use Rattle.wa_types.specs.Runtime.{global_space}
 use Rattle.wa_types.specs.Syntax.{done, Func, Module}
 use Rattle.wa_types.specs.Typing.{Around, Types, Typed}
@@ -21,6 +21,7 @@ use Rattle.frame_laws.proofs.FrameTypes.{save_typed, restore_typed}
 use Rattle.rewrite_form.specs.CodesHold.{CodeTyped, three}
 use Rattle.rewrite_form.specs.Emitted.{is_kept, field_where, frame_layout, layout_codes, written_func}
 use Rattle.rewrite_form.proofs.Emitted.{emitted}
+use Rattle.slim_modules.proofs.SlimModules.{plain_slim}
 use Rattle.rewrite_form.proofs.WrittenBy as By
 
 -- ---- places of saved locals
@@ -124,4 +125,4 @@ module _ (m : Module) (s : Settings) (which : List Bool) (x : ℕ) (f : Func) wh
     written_length = By.written_length m s which (layout_codes m s which) x f v sort_there body
 
     pub written_typed : Typed around_written (written_func m s which x f).body
-    written_typed = By.written_typed m s which (layout_codes m s which) x f v sort_there body restoring_typed saving_typed
+    written_typed = By.written_typed m s which (layout_codes m s which) x f v sort_there body (plain_slim m (Numbered m s which f) x f) restoring_typed saving_typed

@@ -11,6 +11,7 @@ use Rattle.flat_laws.specs.Flatten.{flattened}
 use Rattle.flat_laws.specs.FlatModule.{stacks_in}
 use Rattle.frame_laws.specs.Layout.{FrameField, kept, gap, Layout, save_code, restore_code}
 use Rattle.guard_form.specs.Functions.{GuardedFunc, Role, as_is, with_guards}
+use Rattle.slim_modules.specs.SlimModule.{plain_pieces}
 use Rattle.rewrite_form.specs.EmittedBy.{FrameCode, asyncified_by, func_by, funcs_by, guarded_by, written_by}
 
 -- ---- frames
@@ -43,9 +44,9 @@ frame_layout m s which x f = record {
 
 -- ---- functions
 
--- its codes
+-- its pieces as flattening gives them, and its codes
 abbrev pub layout_codes : Module → Settings → (which : List Bool) → (index : ℕ) → Func → FrameCode
-layout_codes m s which x f = record { restoring = restore_code (frame_layout m s which x f) done; saving = save_code (frame_layout m s which x f) done }
+layout_codes m s which x f = record { pieces = plain_pieces (Numbered m s which f) (flattened m x f); restoring = restore_code (frame_layout m s which x f) done; saving = save_code (frame_layout m s which x f) done }
 
 -- A function that may pause: its flat statements in pieces and units by its numbered calls, with the code that restores and
 -- saves its frame.

@@ -29,6 +29,7 @@ use Rattle.flat_laws.specs.Flatten.{flattened, names, slots}
 use Rattle.flat_laws.proofs.RuntimeModules.{base_flattened, base_slots}
 use Rattle.flat_laws.proofs.Sizes.{stacks_are_slots}
 use Rattle.frame_laws.specs.Layout.{Layout, FrameField, restore_code, save_code}
+use Rattle.slim_modules.specs.SlimModule.{Pieces, plain_pieces}
 use Rattle.flat_guards.specs.Emitted.{Emitted, KeepsEnough, fields_of, layout_of, AllKeepEnough, Framing, kept_frames, lay_at, plain_at, plain_where}
 use Rattle.flat_guards.proofs.KeptFields.{all_places}
 use Rattle.flat_guards.proofs.PairedFlat.{base_defined, base_locals}
@@ -108,11 +109,13 @@ module _ (m : Module) (s : Settings) (which : List Bool) (valid : Valid m) where
     same_layout : frame_layout m s which x f ≡ layout_of m s which keep x f
     same_layout = ap (λ z. layout z (map (field_where (is_kept m s which x f)) (Saved m save_all f 0))) (sym same_flat) ∙ ap (layout (flattened (Base m) x f)) same_fields
 
-    abbrev codes_of : Layout → FrameCode
-    codes_of l = record { restoring = restore_code l done; saving = save_code l done }
+    abbrev codes_of : Pieces → Layout → FrameCode
+    codes_of pieces l = record { pieces = pieces; restoring = restore_code l done; saving = save_code l done }
 
-    same_codes : layout_codes m s which x f ≡ record { restoring = (frames x).restoring; saving = (frames x).saving }
-    same_codes = ap codes_of same_layout ∙ ap (λ o. codes_of (lay_at m s which keep x o)) (sym is)
+    same_codes : layout_codes m s which x f ≡ record { pieces = (frames x).pieces; restoring = (frames x).restoring; saving = (frames x).saving }
+    same_codes =
+        ap (λ z. codes_of (plain_pieces ps z) (frame_layout m s which x f)) (sym same_flat) ∙ ap (codes_of (plain_pieces ps (flattened (Base m) x f))) same_layout
+        ∙ ap (λ o. codes_of (plain_where m s which x o) (lay_at m s which keep x o)) (sym is)
 
     abbrev at_place : ℕ → ℕ → Bool
     at_place y place = list_any (nat_eq y) (or_none (slice_get (stacks_in (flattened m x f).body) place))
@@ -137,7 +140,7 @@ module _ (m : Module) (s : Settings) (which : List Bool) (valid : Valid m) where
     }
 
   pub emitted_so : FreeOfNames m → StrictSizeRule m → FewWritten m which → TellsMayPause m s which → Emitted m s which (kept_frames m s which (plain_at m s which) keep) (asyncified m s which)
-  emitted_so free sizes few tells = By.emitted_so m s which (layout_codes m s which) frames valid same_codes (λ x f is. ap (plain_where m s which x) is) (layouts_hold m s which valid) free sizes few tells
+  emitted_so free sizes few tells = By.emitted_so m s which (layout_codes m s which) frames valid same_codes (layouts_hold m s which valid) free sizes few tells
 
   pub all_keep_enough : AllKeepEnough m s which keep
   all_keep_enough x f is told = keeps x f is
