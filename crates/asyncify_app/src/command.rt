@@ -8,8 +8,8 @@ ghost use Rattle.wa_model.specs.Command.{OnTransform};
 ghost use Rattle.wa_model.specs.Spelled.{spelled};
 ghost use Rattle.wa_model.specs.Transcript.{read_fault, refusal_line, usage, write_fault};
 ghost use Rattle.printing.specs.Refused.{Prints, PrintsMemory};
-ghost use Rattle.transform_command.specs.Ends.{IsRefusal};
-ghost use Rattle.transform_command.specs.Transforms.{HasCause, HoldsSource, IsCutShort, IsTransformed, PrintsRefusal, PrintsDone, PrintsLess, RunsOutOfMemory};
+ghost use Rattle.script_command.specs.TransformEnds.{IsRefusal};
+ghost use Rattle.script_command.specs.Transforms.{HasCause, HoldsSource, IsCutShort, IsTransformed, PrintsRefusal, PrintsDone, PrintsLess, RunsOutOfMemory};
 ghost use Rattle.host_turns.specs.Supplies.{IsLent};
 ghost use Rattle.asyncify_app.specs.Devices.{counted_boxes};
 ghost use Rattle.asyncify_app.specs.Ends.{HasOneEnd, OffScript, OnScript, rewriting};
@@ -19,10 +19,9 @@ use command_words::{Command, WordsFault, read_words};
 use device_port::Device;
 use gen_command::run_generated;
 use printing::{out_of_memory, refuse};
-use script_opening::Way;
+use script_command::{Way, run_transform};
 use std::alloc::Global;
 use transcript::RefusalKind;
-use transform_command::run_transform;
 use vault_port::{Sink, Vault};
 
 /// Runs the command that the words spell, without the program's own name, over a vault of files, a sink for what it prints, and

@@ -6,8 +6,7 @@ ghost use Rattle.script_command.specs.Answers.{HasOneEnd};
 ghost use Rattle.script_command.specs.Ends.{IsStatus, call};
 
 use device_port::{Device, Devices};
-use script_command::play_script;
-use script_opening::Way;
+use script_command::{Way, play_script};
 use std::alloc::Global;
 use vault_port::{Sink, Vault};
 

@@ -4,7 +4,7 @@ use Rattle.std.specs.Prelude.{◌||◌, if◌then◌else◌}
 use Rattle.std.proofs.lemmas.Bool.{ne_eqb}
 use Rattle.std.proofs.lemmas.List.{append-nil, append_assoc, get_or_append_left, get_or_at}
 use Rattle.wa_types.specs.declared.values.ValType.{ValType}
-use Rattle.frame_laws.specs.Layout.{FrameField, kept_count}
+use Rattle.call_frames.specs.Layout.{FrameField, kept_count}
 use Rattle.call_frames.specs.PlainFrames.{SavedPart, at_every, at_these, is_one_of, call_fields, test_size}
 use Rattle.call_frames.specs.PlainLaws.{NameCalls, named_calls, sizes_size, parts_size}
 use Rattle.call_classes.specs.declared.frames.CallClass.{CallClass}

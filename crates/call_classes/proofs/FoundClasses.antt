@@ -12,7 +12,7 @@ use Rattle.std.specs.Ordering.{bool_cmp, is_eq}
 use Rattle.std.proofs.lemmas.Bool.{eqb-false}
 use Rattle.std.proofs.lemmas.List.{append-nil, map_more, map-append, take_more, take_all, length-take-le, length-map}
 use Rattle.wa_types.specs.declared.values.ValType.{ValType}
-use Rattle.frame_laws.specs.Layout.{FrameField, kept, kept_count}
+use Rattle.call_frames.specs.Layout.{FrameField, kept, kept_count}
 use Rattle.call_frames.specs.PlainFrames.{SavedPart, at_every, at_these}
 use Rattle.call_classes.specs.declared.frames.CallClass.{CallClass}
 use Rattle.call_classes.specs.declared.frames.KeptLocal.{KeptLocal}

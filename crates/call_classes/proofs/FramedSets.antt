@@ -4,8 +4,8 @@ use Rattle.std.specs.Prelude.{◌||◌, if◌then◌else◌, slice_get}
 use Rattle.wa_types.specs.declared.values.ValType.{ValType}
 use Rattle.wa_types.specs.declared.values.ValType.TheVariants.{I32, I64}
 use Rattle.wa_types.specs.Frames.{width}
-use Rattle.frame_laws.specs.Layout.{FrameField, kept, gap, fields_size, kept_count}
-use Rattle.frame_laws.specs.Typed.{FieldsTyped}
+use Rattle.call_frames.specs.Layout.{FrameField, kept, gap, fields_size, kept_count}
+use Rattle.call_frames.specs.Typed.{FieldsTyped}
 use Rattle.call_frames.specs.FrameParts.{fields_at, shared_size, own_size}
 use Rattle.call_frames.specs.PlainFrames.{SavedPart, at_every, at_these, is_one_of, call_fields, parts_of, frames_of, FramesSmall}
 use Rattle.call_frames.specs.PlainLaws.{NameCalls, PartsTyped, FieldsSmall, NumbersSmall, PartsSmall}

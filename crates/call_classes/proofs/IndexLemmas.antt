@@ -5,7 +5,7 @@ use Rattle.std.specs.BTreeMap.{BTreeMap, UpdatesBy}
 use Rattle.std.specs.Cmp.Lexicographic.{slice_cmp}
 use Rattle.std.specs.Ordering.{bool_cmp, is_eq}
 use Rattle.wa_types.specs.declared.values.ValType.{ValType}
-use Rattle.frame_laws.specs.Layout.{FrameField, kept, gap, kept_count}
+use Rattle.call_frames.specs.Layout.{FrameField, kept, gap, kept_count}
 use Rattle.call_frames.specs.PlainFrames.{SavedPart, at_these}
 use Rattle.call_classes.specs.Classes.{HasFields, with_call, found_at, AreApart, IsIndex}
 use Rattle.call_classes.specs.Views.{kept_where, fields_in}

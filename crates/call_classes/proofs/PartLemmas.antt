@@ -10,7 +10,7 @@ use Rattle.std.proofs.lemmas.List.Elements.{All-nil, All-cons, All-head, All-tai
 use Rattle.wa_types.specs.declared.values.ValType.{ValType}
 use Rattle.wa_types.specs.declared.values.ValType.TheVariants.{I32, I64}
 use Rattle.wa_types.specs.Encoding.{same_type}
-use Rattle.frame_laws.specs.Layout.{FrameField, kept, gap, kept_count}
+use Rattle.call_frames.specs.Layout.{FrameField, kept, gap, kept_count}
 use Rattle.call_frames.specs.PlainFrames.{SavedPart, at_every, at_these}
 use Rattle.call_classes.specs.CallParts.{equal_field, equal_fields, all_equal, with_part, joined, classed, call_parts, kept_by_sets}
 use Rattle.call_classes.specs.Classes.{AllAre, AreApart, HasFields, with_call}

@@ -3,7 +3,7 @@ use Rattle.std.specs.Prelude.{ℕ, suc, ◌++◌, ◌&&◌, List, [], ◌∷◌,
 use Rattle.std.specs.Cmp.Lexicographic.{pointwise}
 use Rattle.wa_types.specs.declared.values.ValType.{ValType}
 use Rattle.wa_types.specs.Encoding.{same_type}
-use Rattle.frame_laws.specs.Layout.{FrameField, kept, gap}
+use Rattle.call_frames.specs.Layout.{FrameField, kept, gap}
 use Rattle.call_frames.specs.PlainFrames.{SavedPart, at_every, at_these}
 use Rattle.call_classes.specs.Views.{fields_in}
 

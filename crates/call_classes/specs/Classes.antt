@@ -5,7 +5,7 @@ use Rattle.std.specs.BTreeMap.{BTreeMap, get_by}
 use Rattle.std.specs.Cmp.Lexicographic.{slice_cmp}
 use Rattle.std.specs.Ordering.{bool_cmp}
 use Rattle.wa_types.specs.declared.values.ValType.{ValType}
-use Rattle.frame_laws.specs.Layout.{FrameField, kept_count}
+use Rattle.call_frames.specs.Layout.{FrameField, kept_count}
 use Rattle.call_frames.specs.PlainFrames.{SavedPart, at_every, at_these, call_fields}
 use Rattle.call_frames.specs.PlainLaws.{NameCalls, named_calls, sizes_size, parts_size}
 use Rattle.call_classes.specs.CallParts.{joined}

@@ -5,8 +5,8 @@ use Rattle.wa_types.specs.declared.values.ValType.TheVariants.{I32}
 use Rattle.wa_types.specs.Syntax.{Code, done}
 use Rattle.wa_types.specs.Typing.{Around}
 use Rattle.wa_model.specs.Rewrites.{instructions_and_labels}
-use Rattle.frame_laws.specs.Function.{FrameCodes}
-use Rattle.frame_laws.specs.Layout.{kept_count}
+use Rattle.call_frames.specs.Function.{FrameCodes}
+use Rattle.call_frames.specs.Layout.{kept_count}
 use Rattle.call_frames.specs.ByCall.{by_call}
 use Rattle.call_frames.specs.FrameParts.{CallFrames, fields_at, saving_by_call, save_bound_at, restoring_by_call, restore_bound_at}
 use Rattle.call_frames.specs.PlainFrames.{frames_of}

@@ -2,7 +2,7 @@
 use Rattle.std.specs.Prelude.{ℕ, suc, ◌+◌, List, [], ◌∷◌, map, Bool, true, false, Vec}
 use Rattle.std.specs.declared.alloc.Global.{Global}
 use Rattle.wa_types.specs.declared.values.ValType.{ValType}
-use Rattle.frame_laws.specs.Layout.{FrameField, kept, kept_count}
+use Rattle.call_frames.specs.Layout.{FrameField, kept, kept_count}
 use Rattle.call_frames.specs.PlainFrames.{SavedPart, at_every, at_these, SavedParts}
 use Rattle.call_classes.specs.declared.frames.CallClass.{CallClass}
 use Rattle.call_classes.specs.declared.frames.FrameParts.{FrameParts}

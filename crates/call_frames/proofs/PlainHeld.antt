@@ -12,7 +12,7 @@ use Rattle.wa_types.specs.Frames.{width}
 use Rattle.wa_types.specs.Pausing.{calls_of}
 use Rattle.wa_types.specs.Sizes.{code_lists, CodeFits}
 use Rattle.wa_types.specs.Syntax.{const, num, global_get, basic, local_get, local_set, local_tee, unreachable, Code, done, plain, branch}
-use Rattle.guard_form.specs.Bounds.{plain_reads, reads}
+use Rattle.frame_laws.specs.Bounds.{plain_reads, reads}
 use Rattle.local_spill.specs.Spilling.{stored_value, loaded_value, location_of}
 use Rattle.frame_laws.specs.Layout.{FrameField, kept, gap, fields_size, stores, loads}
 use Rattle.call_frames.specs.CallTests.{at_call, at_either}

@@ -15,7 +15,7 @@ use Rattle.wa_model.specs.Keeping.{keeps}
 use Rattle.wa_model.specs.Store.{Store, with_memory, value_at}
 use Rattle.wa_model.specs.declared.answers.Area.{Area}
 use Rattle.wa_model.proofs.Alone.{Comes, none, on}
-use Rattle.guard_form.proofs.Walks.{walks}
+use Rattle.frame_laws.proofs.Walks.{walks}
 use Rattle.local_spill.specs.Spilling.{loaded_value, location_of, stored_value}
 use Rattle.frame_laws.specs.FrameMemory.{AreaAt, FieldsFit}
 use Rattle.frame_laws.specs.Function.{KeptWithin}

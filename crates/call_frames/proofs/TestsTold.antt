@@ -11,7 +11,7 @@ use Rattle.wa_model.specs.Keeping.{keeps}
 use Rattle.wa_model.specs.Store.{Store, value_at}
 use Rattle.wa_model.specs.declared.answers.Area.{Area}
 use Rattle.wa_model.proofs.Alone.{Comes, none, on}
-use Rattle.guard_form.proofs.Walks.{walks}
+use Rattle.frame_laws.proofs.Walks.{walks}
 use Rattle.frame_laws.specs.Function.{KeptWithin}
 use Rattle.frame_laws.proofs.OneFunction.{within_of, within_on}
 use Rattle.call_frames.specs.CallTests.{at_call, SizeClass, size_told, classes_told, sizes_told, classes_cost, CallsTell, EitherTells, ElsewhereTells, ClassesTell, SizesTell}

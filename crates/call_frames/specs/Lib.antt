@@ -1,3 +1,7 @@
+pub use Rattle.frame_laws.specs.FrameMemory
+pub use Rattle.frame_laws.specs.Function
+pub use Rattle.frame_laws.specs.Layout
+pub use Rattle.frame_laws.specs.Typed
 pub mod ByCall
 pub mod CallTests
 pub mod FrameParts

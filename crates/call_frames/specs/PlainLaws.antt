@@ -8,7 +8,7 @@ use Rattle.wa_types.specs.Typing.{Around, Types}
 use Rattle.wa_types.specs.declared.values.ValType.{ValType}
 use Rattle.wa_types.specs.declared.values.ValType.TheVariants.{I32}
 use Rattle.wa_model.specs.Rewrites.{instructions_and_labels}
-use Rattle.guard_form.specs.Bounds.{reads}
+use Rattle.frame_laws.specs.Bounds.{reads}
 use Rattle.frame_laws.specs.Layout.{FrameField, kept, gap, fields_size, kept_count}
 use Rattle.frame_laws.specs.Typed.{FieldsTyped}
 use Rattle.call_frames.specs.ByCall.{FramesTell}

@@ -1,3 +1,4 @@
+pub use Rattle.vault_port.specs.Counts
 pub mod Answers
 pub mod InMemory
 pub mod Journals

@@ -14,12 +14,12 @@ use Rattle.wa_types.specs.Typing.{Around, listed, sig, label}
 use Rattle.wa_model.specs.declared.flat.Operand.{Operand}
 use Rattle.wa_model.specs.declared.flat.Operand.TheVariants.{Local, Const}
 use Rattle.wa_model.specs.Flat.{Stmts, no_more, computes, copies, calls, leaps, leaps_if, leaps_by, nests, decides, halts, followed_by, got, all_got, set_to, slots_got, last_of, code_of, result_got}
-use Rattle.flat_laws.specs.Flatten.{Names, top, carry_to, carry, carry_all, arrive, flat_plain, flat}
-use Rattle.frame_laws.specs.Layout.{FrameField, kept, gap, fields_size, placed, Layout, save_code, restore_code}
+use Rattle.rewrite_form.specs.Flatten.{Names, top, carry_to, carry, carry_all, arrive, flat_plain, flat}
+use Rattle.rewrite_form.specs.Layout.{FrameField, kept, gap, fields_size, placed, Layout, save_code, restore_code}
 use Rattle.local_spill.specs.Spilling.{stored_value, loaded_value, locals_stored, locals_loaded}
 use Rattle.local_spill.specs.Spilling as Spilling
-use Rattle.guard_form.specs.Pieces.{Units, no_unit, call_unit, nest_unit, if_unit, numbers_in, call_to, numbered, holds_call, call_total, piece_call, first_piece, unit_call, units}
-use Rattle.guard_form.specs.Guarded.{GuardIndices, raised_plain, raised, guarded, sought, noted, choice, arm, front}
+use Rattle.rewrite_form.specs.Pieces.{Units, no_unit, call_unit, nest_unit, if_unit, numbers_in, call_to, numbered, holds_call, call_total, piece_call, first_piece, unit_call, units}
+use Rattle.rewrite_form.specs.Guarded.{GuardIndices, raised_plain, raised, guarded, sought, noted, choice, arm, front}
 
 -- what a basic instruction holds is in range
 abbrev pub PlainBasic : Plain → Type 0

@@ -9,7 +9,7 @@ use Rattle.wa_types.specs.Runtime.{global_space}
 use Rattle.wa_types.specs.Sizes.{WellFormed, StrictSizeRule}
 use Rattle.wa_types.specs.Syntax.{Module}
 use Rattle.wa_types.specs.Validity.{Valid}
-use Rattle.frame_laws.specs.Layout.{kept, gap, field_width, fields_size, Layout}
+use Rattle.rewrite_form.specs.Layout.{kept, gap, field_width, fields_size, Layout}
 use Rattle.rewrite_form.specs.Emitted.{is_kept, field_where, frame_layout, layout_codes, asyncified}
 use Rattle.rewrite_form.specs.Sizes.{FewWritten}
 use Rattle.rewrite_form.proofs.WrittenSizes.{layouts_hold, saved_count}

@@ -16,7 +16,7 @@ use Rattle.rewrite_form.specs.Emitted.{asyncified, layout_codes, written_func}
 use Rattle.rewrite_form.specs.Sizes.{FewWritten}
 use Rattle.rewrite_form.proofs.EmittedBy.{defined_where}
 use Rattle.rewrite_form.proofs.WrittenSizes.{layout_size}
-use Rattle.slim_modules.proofs.SlimModules.{plain_slim}
+use Rattle.rewrite_form.proofs.SlimModules.{plain_slim}
 use Rattle.emitted_bytes.proofs.FitsBy.{one_of_all}
 use Rattle.emitted_bytes.proofs.LengthBy.{AllCodesShort, entry, most}
 use Rattle.emitted_bytes.proofs.LengthBy as By

@@ -21,10 +21,10 @@ use Rattle.wa_model.specs.declared.flat.Operand.TheVariants.{Local}
 use Rattle.wa_model.specs.Flat.{Stmts, no_more, computes, copies, calls, leaps, leaps_if, leaps_by, nests, decides, halts, last_of}
 use Rattle.wa_model.specs.FlatFits.{one_run}
 use Rattle.wa_model.specs.Rewrites.{instructions_and_labels}
-use Rattle.flat_laws.specs.Flatten.{Names, names, top, carry_to, carry, carry_all, arrive, flat_plain, flat, flattened}
-use Rattle.flat_laws.specs.FlatModule.{extra_types}
-use Rattle.guard_form.specs.Functions.{GuardedFunc, indices_of}
-use Rattle.guard_form.specs.Pieces.{Units, nest_unit, if_unit, numbers_in, numbered, holds_call, call_total, first_piece, unit_call, units}
+use Rattle.rewrite_form.specs.Flatten.{Names, names, top, carry_to, carry, carry_all, arrive, flat_plain, flat, flattened}
+use Rattle.rewrite_form.specs.FlatModule.{extra_types}
+use Rattle.rewrite_form.specs.Functions.{GuardedFunc, indices_of}
+use Rattle.rewrite_form.specs.Pieces.{Units, nest_unit, if_unit, numbers_in, numbered, holds_call, call_total, first_piece, unit_call, units}
 use Rattle.rewrite_form.specs.CodesHold.{AllCodesHold, CodesHold, three}
 use Rattle.rewrite_form.specs.EmittedBy.{FrameCode, guarded_by, written_by, func_by, funcs_by, asyncified_by}
 use Rattle.rewrite_form.specs.Sizes.{FewWritten}
@@ -35,8 +35,8 @@ use Rattle.rewrite_form.proofs.WrittenBy.{written_length, written_typed}
 use Rattle.emitted_bytes.proofs.BasicCode.{BasicsFit, StmtsBasic, fits_basic, flat_fits, first_fits, units_fit, result_fits, front_fits}
 use Rattle.emitted_bytes.proofs.GrownFits.{grown_fits}
 use Rattle.emitted_bytes.proofs.SlimCode.{units_basic}
-use Rattle.slim_modules.specs.SlimModule.{flat_terms}
-use Rattle.slim_units.proofs.UnitsAlike.{units_alike}
+use Rattle.rewrite_form.specs.SlimModule.{flat_terms}
+use Rattle.rewrite_form.proofs.UnitsAlike.{units_alike}
 use Rattle.emitted_bytes.proofs.Spaces.{funcs_counted, globals_counted}
 use Rattle.emitted_bytes.proofs.TypedCode.{AroundFew, typed_fits}
 

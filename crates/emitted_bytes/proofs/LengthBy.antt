@@ -20,7 +20,7 @@ use Rattle.wa_types.specs.Syntax.{Basic, nop, drop, select, const, num, global_g
 use Rattle.wa_types.proofs.SizeBounds.{weight_fits}
 use Rattle.wa_model.specs.FlatFits.{one_run}
 use Rattle.wa_model.specs.Rewrites.{instructions_and_labels}
-use Rattle.flat_laws.specs.FlatModule.{extra_types}
+use Rattle.rewrite_form.specs.FlatModule.{extra_types}
 use Rattle.wasm_entries.specs.Locals.{local_count}
 use Rattle.wasm_encode.specs.Modules.{FewLocals}
 use Rattle.wasm_encode.proofs.AroundLemmas.{same_sort_bytes}
@@ -28,7 +28,7 @@ use Rattle.rewrite_form.specs.EmittedBy.{FrameCode, written_by, func_by, funcs_b
 use Rattle.rewrite_form.specs.Sizes.{FewWritten}
 use Rattle.rewrite_form.proofs.EmittedBy.{inner, told, not_told, same_sorts}
 use Rattle.rewrite_form.proofs.SizesBy.{written_size}
-use Rattle.slim_modules.specs.SlimModule.{SlimPieces}
+use Rattle.rewrite_form.specs.SlimModule.{SlimPieces}
 use Rattle.rewrite_form.specs.CodesHold.{AllCodesSlim, codes_size, three}
 use Rattle.rewrite_form.proofs.EmittedBy.{defined_of}
 use Rattle.emitted_bytes.proofs.FitsBy.{one_of_all}

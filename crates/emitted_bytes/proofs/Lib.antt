@@ -1,3 +1,13 @@
+pub use Rattle.rewrite_form.proofs.Calls
+pub use Rattle.rewrite_form.proofs.EmittedBy
+pub use Rattle.rewrite_form.proofs.EmittedRewritten
+pub use Rattle.rewrite_form.proofs.EmittedSizes
+pub use Rattle.rewrite_form.proofs.SizesBy
+pub use Rattle.rewrite_form.proofs.Whole
+pub use Rattle.rewrite_form.proofs.WiderTypes
+pub use Rattle.rewrite_form.proofs.WrittenBy
+pub use Rattle.rewrite_form.proofs.WrittenSizes
+pub use Rattle.rewrite_form.proofs.WrittenTypes
 pub mod BasicCode
 pub mod EmittedFits
 pub mod EmittedLength

@@ -2,10 +2,10 @@
 use Rattle.std.proofs.Common.{List, [], ◌∷◌, Some, None, ℕ}
 use Rattle.wa_types.specs.Syntax.{Code}
 use Rattle.wa_model.specs.Store.{gives}
-use Rattle.guard_form.specs.Pieces.{Units}
-use Rattle.slim_form.specs.Slim as S
-use Rattle.slim_form.specs.Slim.{Free, Shape, Slims, Terms, more, ends, does, keeps, uses, saves, narrows, forgets}
-use Rattle.slim_units.specs.SlimUnits.{SlimUnits, untouched, alone, before_call, before_block, before_loop, before_if}
+use Rattle.rewrite_form.specs.Pieces.{Units}
+use Rattle.rewrite_form.specs.Slim as S
+use Rattle.rewrite_form.specs.Slim.{Free, Shape, Slims, Terms, more, ends, does, keeps, uses, saves, narrows, forgets}
+use Rattle.rewrite_form.specs.SlimUnits.{SlimUnits, untouched, alone, before_call, before_block, before_loop, before_if}
 use Rattle.emitted_bytes.proofs.BasicCode.{BasicsFit, UnitsBasic}
 
 module _ (t : Terms) where

@@ -4,4 +4,5 @@
 mod body;
 mod start;
 
+pub use flat_constructs::label_local;
 pub use start::flat_body;

@@ -30,22 +30,22 @@ use Rattle.range_laws.proofs.BlockingRuns.{base_codes}
 use Rattle.range_laws.proofs.Host.{store_lower}
 use Rattle.range_laws.proofs.Openings.{openings_in}
 use Rattle.range_laws.proofs.ProtocolRuns.{fits_areas, fits_in}
-use Rattle.run_laws.specs.FittingStates.{ExportsTyped}
-use Rattle.run_laws.proofs.Exported.{exports_free, none_found, parts_exported}
-use Rattle.run_laws.proofs.PlanParts.{plans_fit_parts}
-use Rattle.run_laws.proofs.RuntimeTyped.{runtime_typed}
-use Rattle.run_laws.proofs.Stopping.{start_there}
-use Rattle.stack_laws.proofs.SpotRuns.{base_globals, listed_typed, start_takes_none}
-use Rattle.pause_laws.specs.RuntimeParts.{HasRuntime}
-use Rattle.headline_laws.specs.Emitted.{FirstStore, Whole}
-use Rattle.headline_laws.specs.LiveLaw.{LiveLaw}
-use Rattle.headline_laws.proofs.Headline.{headline}
-use Rattle.headline_laws.proofs.LiveSteps.{equal_lives}
-use Rattle.flat_links.specs.Core.{Core, CoreFits, table_in, world_of}
-use Rattle.flat_links.specs.Links.{GoodStore, L as Links, StandsLaw, W as WaitLinks}
-use Rattle.flat_links.proofs.Owed.{flat_law}
-use Rattle.flat_links.proofs.Spaces.{globals_same, sorts_same}
-use Rattle.flat_links.proofs.WrittenKnown.{Known, written_law}
+use Rattle.slim_links.specs.FittingStates.{ExportsTyped}
+use Rattle.slim_links.proofs.Exported.{exports_free, none_found, parts_exported}
+use Rattle.slim_links.proofs.PlanParts.{plans_fit_parts}
+use Rattle.slim_links.proofs.RuntimeTyped.{runtime_typed}
+use Rattle.slim_links.proofs.Stopping.{start_there}
+use Rattle.slim_links.proofs.SpotRuns.{base_globals, listed_typed, start_takes_none}
+use Rattle.slim_links.specs.RuntimeParts.{HasRuntime}
+use Rattle.slim_links.specs.Emitted.{FirstStore, Whole}
+use Rattle.slim_links.specs.LiveLaw.{LiveLaw}
+use Rattle.slim_links.proofs.Headline.{headline}
+use Rattle.slim_links.proofs.LiveSteps.{equal_lives}
+use Rattle.slim_links.specs.Core.{Core, CoreFits, table_in, world_of}
+use Rattle.slim_links.specs.Links.{GoodStore, L as Links, StandsLaw, W as WaitLinks}
+use Rattle.slim_links.proofs.Owed.{flat_law}
+use Rattle.slim_links.proofs.Spaces.{globals_same, sorts_same}
+use Rattle.slim_links.proofs.WrittenKnown.{Known, written_law}
 use Rattle.slim_links.proofs.SlimLinks.{law}
 use Rattle.flat_guards.specs.CoreOf.{RunsBeside, WaitsBeside, core_of, flat_core}
 use Rattle.flat_guards.specs.Emitted.{Framing, Emitted, slim_of, terms_of}

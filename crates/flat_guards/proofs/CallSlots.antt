@@ -9,9 +9,9 @@ use Rattle.flat_guards.proofs.NumberedStmts.{Kinds, place_told}
 use Rattle.guard_form.specs.Functions.{GuardedFunc}
 use Rattle.guard_form.specs.Grouping.{is_place}
 use Rattle.guard_form.specs.Pieces.{Units, no_unit, call_unit, nest_unit, if_unit, numbers_in, call_to, call_total, sole_callee, numbered, holds_call, first_piece, unit_call, units}
-use Rattle.slim_form.specs.Slim.{Free, Shape, Terms}
-use Rattle.slim_units.specs.SlimUnits.{SlimUnits, untouched, alone, before_call, before_block, before_loop, before_if}
-use Rattle.slim_units.proofs.UnitsAlike.{units_alike}
+use Rattle.slim_modules.specs.Slim.{Free, Shape, Terms}
+use Rattle.slim_modules.specs.SlimUnits.{SlimUnits, untouched, alone, before_call, before_block, before_loop, before_if}
+use Rattle.slim_modules.proofs.UnitsAlike.{units_alike}
 use Rattle.guard_form.specs.Places.{Enclosing, BodyPlace, at_start, past_call, past_block, past_loop, past_if, in_block, in_loop, in_then, in_else}
 
 -- ---- a fact of each numbered call among units, by its number

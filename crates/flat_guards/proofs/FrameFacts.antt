@@ -26,22 +26,22 @@ use Rattle.wa_model.proofs.FittingNames.{func_types_true}
 use Rattle.wa_model.proofs.FittingSteps.{body_typed}
 use Rattle.flat_laws.specs.Flatten.{Names, flattened, names, slots}
 use Rattle.flat_laws.proofs.GotLemmas.{last_reverse}
-use Rattle.flat_fits.proofs.Calls.{calls_stay}
-use Rattle.flat_runs.specs.Beside.{Locals}
-use Rattle.flat_runs.proofs.Slots.{slots_got}
-use Rattle.frame_laws.specs.Stack.{AllKept, slot_values}
+use Rattle.slim_modules.proofs.Calls.{calls_stay}
+use Rattle.slim_modules.specs.FlatBeside.{Locals}
+use Rattle.slim_modules.proofs.Slots.{slots_got}
+use Rattle.guard_sizes.specs.Stack.{AllKept, slot_values}
 use Rattle.guard_form.specs.Functions.{GuardedFunc}
 use Rattle.guard_form.specs.Numbers.{NumberedAt, calls_behind}
 use Rattle.guard_form.specs.Pieces.{Units, call_unit, first_piece, flat_units, units}
 use Rattle.guard_form.specs.Places.{BodyPlace, Enclosing, flat_labels}
 use Rattle.guard_form.proofs.Counting.{numbers_law, units_law}
 use Rattle.guard_form.proofs.Grouped.{free_law, joins_law}
-use Rattle.guard_frames.specs.Levels.{FlatFieldsFit}
-use Rattle.headline_laws.specs.FlatLaw.{LocalsFit}
-use Rattle.slim_form.specs.Slim.{Terms}
-use Rattle.slim_form.proofs.KeptSizes.{same_calls}
-use Rattle.slim_units.proofs.UnitsAlike.{pieces_call, units_alike}
-use Rattle.slim_units.proofs.UnitsSlim.{units_slim}
+use Rattle.slim_links.specs.Levels.{FlatFieldsFit}
+use Rattle.slim_links.specs.FlatLaw.{LocalsFit}
+use Rattle.slim_modules.specs.Slim.{Terms}
+use Rattle.slim_modules.proofs.KeptSizes.{same_calls}
+use Rattle.slim_modules.proofs.UnitsAlike.{pieces_call, units_alike}
+use Rattle.slim_modules.proofs.UnitsSlim.{units_slim}
 use Rattle.slim_modules.specs.SlimModule.{SlimPieces, flat_terms}
 use Rattle.flat_guards.specs.Emitted.{Emitted, Framing, fields_of, guarded_of, pieces_in}
 use Rattle.flat_guards.proofs.KeptFields.{fields_fit, kept_reverse, kept_take, saved_each, saved_slot, slots_kept, taken_is, typed_at}

@@ -19,14 +19,14 @@ use Rattle.wa_types.proofs.SlotLemmas.{own_pair, reverse_left, reverse_top, same
 use Rattle.wa_model.specs.Fitting.{types_of}
 use Rattle.wa_model.specs.Store.{value_at}
 use Rattle.flat_laws.specs.Flatten.{Names, past, place, slots}
-use Rattle.flat_runs.specs.Beside.{Holds}
-use Rattle.flat_runs.proofs.Stretches.{Gets}
-use Rattle.frame_laws.specs.FrameMemory.{IsKept}
-use Rattle.frame_laws.specs.Layout.{FrameField, gap, kept}
-use Rattle.frame_laws.specs.Stack.{AllKept, slot_values}
-use Rattle.frame_laws.specs.Suspended.{Lays, Tells}
-use Rattle.guard_frames.specs.Levels.{FlatFieldsFit}
-use Rattle.slot_laws.specs.SlotBounds.{StandOnce}
+use Rattle.slim_modules.specs.FlatBeside.{Holds}
+use Rattle.slim_modules.proofs.Stretches.{Gets}
+use Rattle.guard_sizes.specs.FrameMemory.{IsKept}
+use Rattle.guard_sizes.specs.Layout.{FrameField, gap, kept}
+use Rattle.guard_sizes.specs.Stack.{AllKept, slot_values}
+use Rattle.guard_sizes.specs.Suspended.{Lays, Tells}
+use Rattle.slim_links.specs.Levels.{FlatFieldsFit}
+use Rattle.guard_sizes.specs.SlotBounds.{StandOnce}
 use Rattle.flat_guards.specs.Emitted.{fields_of}
 
 -- ---- places, one by one

@@ -1,3 +1,6 @@
+pub use Rattle.range_laws.proofs.BlockingRuns
+pub use Rattle.slim_modules.proofs.SlimModules
+pub use Rattle.slim_modules.proofs.UnitsPassed
 pub mod Behaving
 pub mod CallPoints
 pub mod CallSlots

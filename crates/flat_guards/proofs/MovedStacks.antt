@@ -15,12 +15,12 @@ use Rattle.wa_model.specs.Plan.{Plan}
 use Rattle.wa_model.specs.Step.{result_count}
 use Rattle.flat_laws.specs.FlatModule.{flat_module}
 use Rattle.flat_laws.specs.Flatten.{names, top_of}
-use Rattle.flat_runs.specs.Beside.{Callers, Locals, above, above_same, host}
-use Rattle.guard_frames.specs.Joined.{CallFrame}
-use Rattle.guard_frames.specs.Returned.{AllSameFlat}
-use Rattle.slim_runs.specs.Beside as S
-use Rattle.slim_runs.specs.Beside.{Sides, Unders, moved}
-use Rattle.slim_runs.proofs.Running.{waiting_agrees, waits_with_any}
+use Rattle.slim_modules.specs.FlatBeside.{Callers, Locals, above, above_same, host}
+use Rattle.slim_links.specs.Joined.{CallFrame}
+use Rattle.slim_links.specs.Returned.{AllSameFlat}
+use Rattle.slim_modules.specs.Beside as S
+use Rattle.slim_modules.specs.Beside.{Sides, Unders, moved}
+use Rattle.slim_modules.proofs.Running.{waiting_agrees, waits_with_any}
 use Rattle.slim_links.specs.SlimBeside.{slim_sides}
 use Rattle.slim_modules.specs.SlimModule.{body_of_func, slim_module, with_body}
 use Rattle.slim_modules.proofs.SlimModules.{slim_found}

@@ -13,7 +13,7 @@ use Rattle.wa_model.specs.Fitting.{types_of, results_of}
 use Rattle.wa_model.specs.LawfulStacks.{LeadsTo}
 use Rattle.wa_model.specs.Step.{param_count, same_func_type}
 use Rattle.wa_model.proofs.FittingNames.{func_types_true, results_are}
-use Rattle.stack_laws.proofs.SpotSteps.{WaitsAtSpot}
+use Rattle.slim_links.proofs.SpotSteps.{WaitsAtSpot}
 
 -- ---- places that pass a test
 

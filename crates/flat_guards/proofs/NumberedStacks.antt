@@ -21,18 +21,18 @@ use Rattle.wa_model.proofs.BaseValid.{base_valid}
 use Rattle.wa_model.proofs.GrownSteps.{defined_below}
 use Rattle.wa_model.proofs.NamedModules.{valid_named}
 use Rattle.range_laws.specs.Ranges.{CodesIn}
-use Rattle.stack_laws.proofs.SpotPlaces.{at_call}
-use Rattle.stack_laws.proofs.SpotSteps.{CallersAtSpots}
-use Rattle.stack_laws.proofs.StandingPauses.{stack_chained}
-use Rattle.stack_laws.proofs.StandingStates.{CallersAt}
-use Rattle.flat_runs.specs.Beside.{Asked, Beside, Callers, above, above_same, host}
-use Rattle.guard_runs.specs.Alike.{Setting, sides_of}
-use Rattle.guard_runs.specs.Beside.{GoesTo, by_table, directly}
-use Rattle.guard_runs.specs.Stopped.{AllNumbered}
-use Rattle.headline_laws.specs.World.{setting}
-use Rattle.flat_links.specs.Core.{CoreFits, world_of}
-use Rattle.flat_links.specs.Links.{LinkedWaits}
-use Rattle.flat_links.proofs.Spaces.{func_type_same, funcs_are, grown_func_type}
+use Rattle.slim_links.proofs.SpotPlaces.{at_call}
+use Rattle.slim_links.proofs.SpotSteps.{CallersAtSpots}
+use Rattle.slim_links.proofs.StandingPauses.{stack_chained}
+use Rattle.slim_links.proofs.StandingStates.{CallersAt}
+use Rattle.slim_modules.specs.FlatBeside.{Asked, Beside, Callers, above, above_same, host}
+use Rattle.slim_links.specs.Alike.{Setting, sides_of}
+use Rattle.slim_links.specs.Beside.{GoesTo, by_table, directly}
+use Rattle.slim_links.specs.Stopped.{AllNumbered}
+use Rattle.slim_links.specs.World.{setting}
+use Rattle.slim_links.specs.Core.{CoreFits, world_of}
+use Rattle.slim_links.specs.Links.{LinkedWaits}
+use Rattle.slim_links.proofs.Spaces.{func_type_same, funcs_are, grown_func_type}
 use Rattle.flat_guards.specs.CoreOf.{core_of}
 use Rattle.flat_guards.specs.Emitted.{Framing, Emitted}
 use Rattle.flat_guards.proofs.NumberedCalls.{Took, called_took, listed_passes}

@@ -9,7 +9,7 @@ use Rattle.wa_types.specs.Modules.{around}
 use Rattle.wa_types.specs.Pausing.{Callee, direct, indirect, callee, callee_onto, calls_of, calls_in, places_from}
 use Rattle.wa_model.specs.Flat.{Stmts, no_more, computes, copies, calls, leaps, leaps_if, leaps_by, nests, decides, halts, code_of}
 use Rattle.flat_laws.specs.Flatten.{Names, names, carry_to, carry_all, arrive, flat, flat_plain, flattened}
-use Rattle.flat_fits.proofs.Calls.{calls_stay, calls_all, calls_calls, calls_computes}
+use Rattle.slim_modules.proofs.Calls.{calls_stay, calls_all, calls_calls, calls_computes}
 use Rattle.guard_form.specs.Functions.{Calls}
 use Rattle.guard_form.specs.Grouping.{StmtsNumbered, is_place}
 use Rattle.guard_form.specs.Pieces.{call_to, call_total}

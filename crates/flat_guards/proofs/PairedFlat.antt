@@ -25,24 +25,24 @@ use Rattle.wa_model.proofs.FittingNames.{defined_type}
 use Rattle.wa_model.proofs.FittingOpenings.{openings_fit}
 use Rattle.wa_model.proofs.GrownSteps.{each_got, front}
 use Rattle.range_laws.specs.Ranges.{CodesIn}
-use Rattle.stack_laws.proofs.SpotRuns.{listed_typed}
+use Rattle.slim_links.proofs.SpotRuns.{listed_typed}
 use Rattle.flat_laws.specs.FlatModule.{Flattened, IsPlaced, extra_types, flat_module}
 use Rattle.flat_laws.specs.Flatten.{flattened}
 use Rattle.flat_laws.proofs.FlatModules.{is_flat, sorts_stay, valid_is_flattened, valid_stays}
 use Rattle.guard_form.specs.Functions.{Calls, MayCall, PiecesCall, Role, RoleCalls, as_is, flat_code, size_of, with_guards, written_code}
 use Rattle.guard_form.specs.Functions as R
 use Rattle.guard_form.proofs.Grouped.{free_law, joins_law}
-use Rattle.guard_runs.specs.Alike.{Paired, Setting}
-use Rattle.guard_runs.specs.Modules.{DifferInFunctions, SameFunction}
-use Rattle.guard_runs.proofs.PairedModules.{paired_law}
-use Rattle.headline_laws.specs.World.{setting}
-use Rattle.flat_links.specs.Core.{Core, CoreFits, table_in, world_of}
-use Rattle.flat_links.proofs.Spaces.{grown_func_type}
+use Rattle.slim_links.specs.Alike.{Paired, Setting}
+use Rattle.slim_links.specs.Modules.{DifferInFunctions, SameFunction}
+use Rattle.slim_links.proofs.PairedModules.{paired_law}
+use Rattle.slim_links.specs.World.{setting}
+use Rattle.slim_links.specs.Core.{Core, CoreFits, table_in, world_of}
+use Rattle.slim_links.proofs.Spaces.{grown_func_type}
 use Rattle.slim_links.specs.SlimBeside.{SlimFits}
 use Rattle.slim_modules.specs.Laws.{SlimModuleFits}
 use Rattle.slim_modules.specs.SlimModule.{body_of_func, body_with, flat_terms, with_body}
 use Rattle.slim_modules.proofs.SlimModules.{fit_law, flat_size, mapped, slim_found}
-use Rattle.slim_units.proofs.UnitsAlike.{pieces_call}
+use Rattle.slim_modules.proofs.UnitsAlike.{pieces_call}
 use Rattle.guard_form.specs.Pieces.{first_piece, units}
 use Rattle.flat_guards.specs.CoreOf.{core_of, flat_core}
 use Rattle.flat_guards.specs.Emitted.{Framing, Emitted, Guarded, Stays, WrittenAs, guarded_of, pieces_in, places_in, role_at, slim_of, terms_of}

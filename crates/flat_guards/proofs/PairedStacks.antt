@@ -14,9 +14,9 @@ use Rattle.wa_model.specs.Fitting.{results_of, types_of}
 use Rattle.wa_model.specs.Flat.{code_of, result_got, set_to}
 use Rattle.wa_model.specs.Step.{result_count}
 use Rattle.flat_laws.specs.Flatten.{Names, arrive, flat, names, result_of, top_of}
-use Rattle.flat_fits.proofs.Calls.{calls_arrive, calls_flat, calls_set}
-use Rattle.flat_runs.specs.Beside.{AtZero, Callers, Labels, Locals, above, above_same, host, in_block, in_loop, outermost}
-use Rattle.flat_runs.proofs.WaitingCalls.{at_zero}
+use Rattle.slim_modules.proofs.Calls.{calls_arrive, calls_flat, calls_set}
+use Rattle.slim_modules.specs.FlatBeside.{AtZero, Callers, Labels, Locals, above, above_same, host, in_block, in_loop, outermost}
+use Rattle.slim_modules.proofs.WaitingCalls.{at_zero}
 use Rattle.guard_form.specs.Numbers.{calls_behind}
 use Rattle.wa_types.specs.Base.{Base}
 use Rattle.wa_model.specs.Plan.{Plan}

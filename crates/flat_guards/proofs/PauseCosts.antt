@@ -13,26 +13,26 @@ use Rattle.wa_types.specs.declared.values.ValType.{ValType}
 use Rattle.wa_model.specs.Flat.{FlatFunc}
 use Rattle.flat_laws.specs.Flatten.{flattened}
 use Rattle.flat_laws.proofs.RuntimeModules.{base_flattened, base_slots}
-use Rattle.frame_laws.specs.Layout.{gap, kept, kept_count, Layout}
+use Rattle.guard_sizes.specs.Layout.{gap, kept, kept_count, Layout}
 use Rattle.guard_form.specs.Bounds.{passing}
 use Rattle.guard_form.specs.Pieces.{first_piece, units}
 use Rattle.guard_sizes.specs.Rewritten.{KeepsFew}
 use Rattle.guard_sizes.proofs.Sizes.{small_law}
 use Rattle.range_laws.proofs.BlockingRuns.{base_codes, well_formed_in}
 use Rattle.slim_modules.specs.SlimModule.{AllSlimPieces, Pieces, flat_terms}
-use Rattle.slim_units.proofs.UnitsPassed.{passing_law}
+use Rattle.slim_modules.proofs.UnitsPassed.{passing_law}
 use Rattle.flat_guards.specs.Emitted.{places_in, Emitted, fields_of, guarded_of, layout_of, AllKeepEnough, Framing, kept_frames, lay_at}
 use Rattle.flat_guards.specs.Laws.{EmittedBehaves}
 use Rattle.flat_guards.proofs.Behaving.{says}
 use Rattle.flat_guards.proofs.PairedFlat.{base_defined, base_locals}
 use Rattle.flat_guards.proofs.StackAgain.{stacks_stand}
 use Rattle.flat_guards.proofs.WrittenLocals.{index_of}
-use Rattle.slot_laws.proofs.Closed.{one_list}
+use Rattle.guard_sizes.proofs.Closed.{one_list}
 use Rattle.std.proofs.lemmas.Option.{slice_get_within, get_or_from_slice_get}
-use Rattle.frame_laws.proofs.OneFunction.{layout_codes}
+use Rattle.guard_sizes.proofs.OneFunction.{layout_codes}
 use Rattle.guard_form.specs.Functions.{GuardedFunc, indices_of}
 use Rattle.guard_form.specs.Guarded.{front}
-use Rattle.guard_frames.specs.Joined.{one_frame}
+use Rattle.slim_links.specs.Joined.{one_frame}
 use Rattle.flat_guards.specs.Framed.{Framed, FramedCalls, pause_cost}
 
 kept_few : (keep : ℕ → Bool) (qs : List Place) → kept_count (fields_of keep qs) ≤ length qs

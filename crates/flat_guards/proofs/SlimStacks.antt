@@ -27,16 +27,16 @@ use Rattle.wa_model.proofs.FittingSteps.{body_typed}
 use Rattle.flat_laws.specs.FlatModule.{stacks_in}
 use Rattle.flat_laws.specs.Flatten.{Names, flattened, names, slots}
 use Rattle.flat_laws.proofs.Sizes.{stacks_are_slots}
-use Rattle.flat_runs.specs.Beside.{AtZero, Locals}
-use Rattle.flat_runs.proofs.Slots.{extra_got}
+use Rattle.slim_modules.specs.FlatBeside.{AtZero, Locals}
+use Rattle.slim_modules.proofs.Slots.{extra_got}
 use Rattle.guard_form.specs.Grouping.{is_place}
 use Rattle.guard_form.specs.Numbers.{calls_behind}
-use Rattle.guard_runs.specs.Alike.{Setting}
-use Rattle.guard_runs.specs.Stopped.{AllNumbered}
-use Rattle.slim_form.specs.Slim.{Free, Held, Slims, Terms}
-use Rattle.slim_form.proofs.KeptSizes.{same_calls}
-use Rattle.slim_runs.specs.Beside as S
-use Rattle.slim_runs.specs.Beside.{Agree, Around, Sides, Unders, Waits, above, bottom, in_block, in_body, in_loop, waits}
+use Rattle.slim_links.specs.Alike.{Setting}
+use Rattle.slim_links.specs.Stopped.{AllNumbered}
+use Rattle.slim_modules.specs.Slim.{Free, Held, Slims, Terms}
+use Rattle.slim_modules.proofs.KeptSizes.{same_calls}
+use Rattle.slim_modules.specs.Beside as S
+use Rattle.slim_modules.specs.Beside.{Agree, Around, Sides, Unders, Waits, above, bottom, in_block, in_body, in_loop, waits}
 use Rattle.slim_links.specs.SlimBeside.{slim_sides}
 use Rattle.slim_modules.specs.SlimModule.{fixed_at, fixed_where, flat_terms, locals_below, terms_where}
 use Rattle.flat_guards.specs.CoreOf.{flat_core}

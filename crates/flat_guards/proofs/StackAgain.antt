@@ -18,18 +18,18 @@ use Rattle.wa_model.specs.Step.{result_count}
 use Rattle.wa_model.specs.Store.{value_at}
 use Rattle.range_laws.specs.Ranges.{CodesIn}
 use Rattle.flat_laws.specs.Flatten.{names, top_of}
-use Rattle.flat_runs.specs.Beside.{Locals}
-use Rattle.slim_runs.specs.Beside.{moved}
+use Rattle.slim_modules.specs.FlatBeside.{Locals}
+use Rattle.slim_modules.specs.Beside.{moved}
 use Rattle.slim_modules.specs.SlimModule.{Pieces}
 use Rattle.flat_laws.specs.FlatModule.{flat_module}
-use Rattle.frame_laws.specs.FrameMemory.{IsKept}
-use Rattle.guard_frames.specs.Returned.{AllSameFlat, SameFlat}
-use Rattle.guard_runs.specs.Stopped.{Stopped}
-use Rattle.headline_laws.specs.FlatLaw.{AllLocalsFit, FlatAgain}
-use Rattle.headline_laws.specs.World.{setting}
-use Rattle.flat_links.specs.Core.{Core, world_of}
-use Rattle.flat_links.specs.Links.{GoodStore, LinkedWaits, StandsLaw}
-use Rattle.flat_links.specs.Links as N
+use Rattle.guard_sizes.specs.FrameMemory.{IsKept}
+use Rattle.slim_links.specs.Returned.{AllSameFlat, SameFlat}
+use Rattle.slim_links.specs.Stopped.{Stopped}
+use Rattle.slim_links.specs.FlatLaw.{AllLocalsFit, FlatAgain}
+use Rattle.slim_links.specs.World.{setting}
+use Rattle.slim_links.specs.Core.{Core, world_of}
+use Rattle.slim_links.specs.Links.{GoodStore, LinkedWaits, StandsLaw}
+use Rattle.slim_links.specs.Links as N
 use Rattle.flat_guards.specs.CoreOf.{RunsBeside, WaitsBeside, core_of}
 use Rattle.flat_guards.specs.Emitted.{Emitted, fields_of, lay_at, layout_of, AllKeepEnough, Framing, kept_frames}
 use Rattle.flat_guards.proofs.NumberedStacks.{AllAtNumbers, AtNumber}

@@ -18,27 +18,27 @@ use Rattle.wa_model.specs.Plan as P
 use Rattle.wa_model.specs.Step.{param_count}
 use Rattle.wa_model.proofs.FittingNames.{defined_type}
 use Rattle.range_laws.specs.Ranges.{CodesIn}
-use Rattle.flat_runs.specs.Beside.{AtZero}
-use Rattle.frame_laws.specs.Function.{rewinding, unwinding}
-use Rattle.frame_laws.specs.Stack.{AllKept, Level, slot_values}
-use Rattle.frame_laws.specs.Suspended.{AllStandFor, Lays, StandsFor}
+use Rattle.slim_modules.specs.FlatBeside.{AtZero}
+use Rattle.guard_sizes.specs.Function.{rewinding, unwinding}
+use Rattle.guard_sizes.specs.Stack.{AllKept, Level, slot_values}
+use Rattle.guard_sizes.specs.Suspended.{AllStandFor, Lays, StandsFor}
 use Rattle.guard_form.specs.Bounds.{passing}
 use Rattle.guard_form.specs.Functions.{ArmsHold, GuardedFunc, with_guards}
 use Rattle.guard_form.specs.Numbers.{calls_behind}
 use Rattle.guard_form.specs.Pieces.{Units, call_unit, first_piece, flat_units, units}
-use Rattle.slim_units.proofs.UnitsAlike.{units_alike}
+use Rattle.slim_modules.proofs.UnitsAlike.{units_alike}
 use Rattle.slim_modules.specs.SlimModule.{flat_terms}
 use Rattle.guard_form.specs.Places.{BodyPlace, Enclosing, flat_labels, in_a_block, in_a_loop}
 use Rattle.guard_form.proofs.Grouped.{arms_law}
-use Rattle.guard_frames.specs.Joined.{CallFrame, Uses, site_of, written_of}
-use Rattle.guard_frames.specs.Levels.{FlatFieldsFit, MayStand, flat_waiting, levels_of}
-use Rattle.guard_runs.specs.Alike.{Setting}
-use Rattle.guard_runs.specs.Rewinding.{NoneBelow}
-use Rattle.guard_runs.specs.Stopped.{Stopped, above, host}
-use Rattle.headline_laws.specs.FlatLaw.{AllLocalsFit, AllWeigh, LocalsFit}
-use Rattle.headline_laws.specs.World.{setting}
-use Rattle.flat_links.specs.Core.{Core, CoreFits, world_of}
-use Rattle.flat_links.proofs.Spaces.{func_type_same, funcs_are, grown_func_type}
+use Rattle.slim_links.specs.Joined.{CallFrame, Uses, site_of, written_of}
+use Rattle.slim_links.specs.Levels.{FlatFieldsFit, MayStand, flat_waiting, levels_of}
+use Rattle.slim_links.specs.Alike.{Setting}
+use Rattle.slim_links.specs.Rewinding.{NoneBelow}
+use Rattle.slim_links.specs.Stopped.{Stopped, above, host}
+use Rattle.slim_links.specs.FlatLaw.{AllLocalsFit, AllWeigh, LocalsFit}
+use Rattle.slim_links.specs.World.{setting}
+use Rattle.slim_links.specs.Core.{Core, CoreFits, world_of}
+use Rattle.slim_links.proofs.Spaces.{func_type_same, funcs_are, grown_func_type}
 use Rattle.flat_guards.specs.CoreOf.{core_of}
 use Rattle.flat_guards.specs.Emitted.{Emitted, Framing, flat_of, guarded_of, role_at}
 use Rattle.flat_guards.specs.Framed.{FramedCalls, pause_cost}

@@ -17,9 +17,9 @@ use Rattle.wa_model.specs.Configuration.{Activation, place_of}
 use Rattle.wa_model.specs.Fitting.{types_of}
 use Rattle.wa_model.specs.Store.{value_at}
 use Rattle.flat_laws.specs.Flatten.{Names, names, place, slots}
-use Rattle.flat_runs.specs.Beside.{Holds, Locals}
-use Rattle.flat_runs.proofs.Slots.{extra_got}
-use Rattle.frame_laws.specs.FrameMemory.{IsKept}
+use Rattle.slim_modules.specs.FlatBeside.{Holds, Locals}
+use Rattle.slim_modules.proofs.Slots.{extra_got}
+use Rattle.guard_sizes.specs.FrameMemory.{IsKept}
 use Rattle.flat_guards.specs.Emitted.{AllKeepEnough, fields_of}
 use Rattle.flat_guards.proofs.KeptFields.{own_kept, slot_kept}
 use Rattle.flat_guards.proofs.NumberedStacks.{AtNumber}

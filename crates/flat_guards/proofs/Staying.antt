@@ -9,7 +9,7 @@ use Rattle.wa_model.specs.Behaves.{StandsNumbered}
 use Rattle.wa_model.specs.Configuration.{Configuration, stack_of, suspended}
 use Rattle.wa_model.specs.Plan.{Plan}
 use Rattle.range_laws.proofs.BlockingRuns.{well_formed_in}
-use Rattle.flat_links.specs.Links.{StandsLaw}
+use Rattle.slim_links.specs.Links.{StandsLaw}
 use Rattle.flat_guards.specs.CoreOf.{RunsBeside, WaitsBeside, core_of}
 use Rattle.flat_guards.specs.Emitted.{Framing}
 use Rattle.flat_guards.specs.Laws.{StayingBehave}

@@ -19,19 +19,19 @@ use Rattle.wa_model.specs.Plan as P
 use Rattle.wa_model.proofs.FittingNames.{defined_type}
 use Rattle.wa_model.proofs.GrownSteps.{defined_below}
 use Rattle.range_laws.specs.Ranges.{CodesIn}
-use Rattle.guard_frames.specs.Joined.{CallFrame}
-use Rattle.guard_frames.specs.Returned.{AllSameFlat}
-use Rattle.guard_runs.specs.Alike.{Paired, Setting, sides_of}
-use Rattle.guard_runs.specs.Beside.{Twin, both_defined, both_import}
-use Rattle.guard_runs.specs.Stopped.{Stopped}
-use Rattle.guard_runs.specs.Stopped as S
-use Rattle.headline_laws.specs.FlatLaw.{AllLocalsFit, FlatStands, LocalsFit}
-use Rattle.headline_laws.specs.World.{setting}
-use Rattle.flat_links.specs.Core.{Core, CoreFits, world_of}
-use Rattle.flat_links.specs.Links.{GoodStore, LinkedWaits}
-use Rattle.flat_links.specs.Links as N
-use Rattle.flat_links.proofs.Spaces.{imports_few, funcs_are, grown_defined, grown_func_type, names_there}
-use Rattle.guard_runs.specs.Stopped.{AllNumbered}
+use Rattle.slim_links.specs.Joined.{CallFrame}
+use Rattle.slim_links.specs.Returned.{AllSameFlat}
+use Rattle.slim_links.specs.Alike.{Paired, Setting, sides_of}
+use Rattle.slim_links.specs.Beside.{Twin, both_defined, both_import}
+use Rattle.slim_links.specs.Stopped.{Stopped}
+use Rattle.slim_links.specs.Stopped as S
+use Rattle.slim_links.specs.FlatLaw.{AllLocalsFit, FlatStands, LocalsFit}
+use Rattle.slim_links.specs.World.{setting}
+use Rattle.slim_links.specs.Core.{Core, CoreFits, world_of}
+use Rattle.slim_links.specs.Links.{GoodStore, LinkedWaits}
+use Rattle.slim_links.specs.Links as N
+use Rattle.slim_links.proofs.Spaces.{imports_few, funcs_are, grown_defined, grown_func_type, names_there}
+use Rattle.slim_links.specs.Stopped.{AllNumbered}
 use Rattle.flat_guards.proofs.SlimStacks.{numbered_too, pairs_too}
 use Rattle.flat_guards.specs.CoreOf.{RunsBeside, WaitsBeside, core_of}
 use Rattle.flat_guards.specs.Emitted.{Emitted, Framing}

@@ -20,11 +20,11 @@ use Rattle.wa_model.specs.Store.{value_at}
 use Rattle.wa_model.proofs.Runs.{lt_false, lt_true}
 use Rattle.flat_laws.specs.Flatten.{names, slots}
 use Rattle.flat_laws.proofs.RuntimeModules.{base_slots}
-use Rattle.flat_runs.proofs.Slots.{extra_got}
-use Rattle.frame_laws.specs.Suspended.{Lays, Tells}
-use Rattle.headline_laws.specs.FlatLaw.{LocalsFit}
-use Rattle.slot_laws.specs.SlotBounds.{StandOnce}
-use Rattle.slot_laws.proofs.Order.{pairs_ascend, stand_once}
+use Rattle.slim_modules.proofs.Slots.{extra_got}
+use Rattle.guard_sizes.specs.Suspended.{Lays, Tells}
+use Rattle.slim_links.specs.FlatLaw.{LocalsFit}
+use Rattle.guard_sizes.specs.SlotBounds.{StandOnce}
+use Rattle.guard_sizes.proofs.Order.{pairs_ascend, stand_once}
 use Rattle.flat_guards.specs.Emitted.{Emitted, Framing, fields_of}
 use Rattle.flat_guards.proofs.CallPoints.{base_saved}
 use Rattle.flat_guards.proofs.FrameFacts.{held, own_size}

@@ -7,7 +7,7 @@ use Rattle.wa_types.specs.Syntax.{Func, Module}
 use Rattle.wa_model.specs.Configuration.{Activation, Configuration}
 use Rattle.wa_model.specs.Plan.{Plan}
 use Rattle.flat_laws.specs.FlatModule.{flat_module}
-use Rattle.flat_links.specs.Core.{Core}
+use Rattle.slim_links.specs.Core.{Core}
 use Rattle.slim_links.specs.SlimBeside.{SlimAsked, SlimBeside}
 use Rattle.flat_guards.specs.Emitted.{Framing, role_at, slim_of, terms_of}
 use Rattle.guard_form.specs.Numbers.{calls_behind}

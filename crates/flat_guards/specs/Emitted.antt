@@ -14,11 +14,11 @@ use Rattle.wa_model.specs.Flat.{FlatFunc}
 use Rattle.flat_laws.specs.FlatModule.{flat_func}
 use Rattle.flat_laws.specs.Flatten.{flattened, names, slots}
 use Rattle.slim_modules.specs.SlimModule.{AllSlimPieces, Pieces, module_terms, plain_pieces, slim_module}
-use Rattle.slim_form.specs.Slim.{Terms}
-use Rattle.frame_laws.specs.Layout.{FrameField, kept, gap, Layout, save_code, restore_code}
+use Rattle.slim_modules.specs.Slim.{Terms}
+use Rattle.guard_sizes.specs.Layout.{FrameField, kept, gap, Layout, save_code, restore_code}
 use Rattle.guard_form.specs.Functions.{GuardedFunc, Role, as_is, with_guards, written_code}
 use Rattle.guard_form.specs.Pieces.{no_unit}
-use Rattle.guard_frames.specs.Joined.{CallFrame, one_frame}
+use Rattle.slim_links.specs.Joined.{CallFrame, one_frame}
 
 -- How a function is written: its pieces between its units, the codes that restore and that save its frames, and the frame of the call at
 -- each place.

@@ -1,3 +1,8 @@
+pub use Rattle.guard_form.specs.Functions
+pub use Rattle.slim_links.specs.Core
+pub use Rattle.slim_links.specs.Links
+pub use Rattle.slim_modules.specs.Beside
+pub use Rattle.slim_modules.specs.SlimModule
 pub mod CoreOf
 pub mod Emitted
 pub mod Framed

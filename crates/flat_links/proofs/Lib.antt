@@ -1,3 +1,16 @@
+pub use Rattle.headline_laws.proofs.Exported
+pub use Rattle.headline_laws.proofs.Headline
+pub use Rattle.headline_laws.proofs.LiveSteps
+pub use Rattle.headline_laws.proofs.PairedModules
+pub use Rattle.headline_laws.proofs.PlanParts
+pub use Rattle.headline_laws.proofs.ProperCode
+pub use Rattle.headline_laws.proofs.RuntimeTyped
+pub use Rattle.headline_laws.proofs.SpotPlaces
+pub use Rattle.headline_laws.proofs.SpotRuns
+pub use Rattle.headline_laws.proofs.SpotSteps
+pub use Rattle.headline_laws.proofs.StandingPauses
+pub use Rattle.headline_laws.proofs.StandingStates
+pub use Rattle.headline_laws.proofs.Stopping
 pub mod LocalsTyped
 pub mod Owed
 pub mod ProperFlat

@@ -11,7 +11,7 @@ use Rattle.wa_model.specs.Plan as L
 use Rattle.wa_model.specs.Protocol.{Held, exports_of, protocol}
 use Rattle.wa_model.proofs.Invariants.{TurnKeeps, run_keeps}
 use Rattle.range_laws.specs.Ranges.{CodesIn}
-use Rattle.run_laws.specs.FittingStates.{ExportsTyped}
+use Rattle.headline_laws.specs.FittingStates.{ExportsTyped}
 use Rattle.flat_links.specs.Laws.{LocalsStayTyped}
 use Rattle.flat_links.proofs.WrittenKnown.{Known, known_begins, known_moves, locals_known}
 

@@ -25,12 +25,12 @@ use Rattle.range_laws.specs.Ranges.{ConfigurationIn, NextIn}
 use Rattle.range_laws.proofs.Host.{fault_pokes, optional_in, poked_store_in, store_lower, store_whole}
 use Rattle.range_laws.proofs.Steps.{step_in}
 use Rattle.range_laws.proofs.Stretches.{answers_in_range, calls_in_range}
-use Rattle.stack_laws.proofs.SpotRuns.{answer_typed, listed_typed, or_else_first, test_passed}
-use Rattle.stack_laws.proofs.SpotSteps.{ConfigurationAtSpots, NextAtSpots, entered_spot, goes_on_behind, steps_spot}
-use Rattle.stack_laws.proofs.StandingStates.{ConfigurationAt, NextAt, WaitingAt}
-use Rattle.stack_laws.proofs.StandingSteps.{body_stands, step_stands, waited_stands}
-use Rattle.guard_runs.specs.Alike.{Paired, sides_of}
-use Rattle.guard_runs.specs.Beside.{Twin, both_import, both_defined}
+use Rattle.headline_laws.proofs.SpotRuns.{answer_typed, listed_typed, or_else_first, test_passed}
+use Rattle.headline_laws.proofs.SpotSteps.{ConfigurationAtSpots, NextAtSpots, entered_spot, goes_on_behind, steps_spot}
+use Rattle.headline_laws.proofs.StandingStates.{ConfigurationAt, NextAt, WaitingAt}
+use Rattle.headline_laws.proofs.StandingSteps.{body_stands, step_stands, waited_stands}
+use Rattle.headline_laws.specs.Alike.{Paired, sides_of}
+use Rattle.headline_laws.specs.Beside.{Twin, both_import, both_defined}
 use Rattle.headline_laws.specs.FlatLaw.{FlatEnters, FlatLaw, FlatNext, FlatOn}
 use Rattle.headline_laws.specs.World.{setting}
 use Rattle.flat_links.specs.Beside.{BesideLaw, ComesBeside, NextBeside, SameAccess}

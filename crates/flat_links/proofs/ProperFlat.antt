@@ -10,10 +10,10 @@ use Rattle.wa_model.specs.Step.{steps, param_count, step}
 use Rattle.wa_model.specs.Store.{Store}
 use Rattle.wa_model.specs.Untouched.{StaysOff, next_access}
 use Rattle.wa_model.proofs.FittingSteps.{steps_fit}
-use Rattle.guard_runs.specs.Alike.{Setting, sides_of}
-use Rattle.guard_runs.specs.Beside.{Proper, ProperCode, ProperPlain}
-use Rattle.guard_runs.specs.Proper as P
-use Rattle.guard_runs.proofs.ProperCode.{proper_law}
+use Rattle.headline_laws.specs.Alike.{Setting, sides_of}
+use Rattle.headline_laws.specs.Beside.{Proper, ProperCode, ProperPlain}
+use Rattle.headline_laws.specs.Proper as P
+use Rattle.headline_laws.proofs.ProperCode.{proper_law}
 use Rattle.headline_laws.specs.FlatLaw.{Still, stays, moves}
 use Rattle.headline_laws.specs.World.{setting}
 use Rattle.flat_links.specs.Beside as B

@@ -24,11 +24,11 @@ use Rattle.wa_model.proofs.NamedModules.{valid_instance}
 use Rattle.range_laws.specs.Ranges.{ActivationIn, CodesIn, HeldFrom, NoteIn, OpeningIn}
 use Rattle.range_laws.proofs.Openings.{openings_in}
 use Rattle.range_laws.proofs.ProtocolRuns.{fits_in, opened_in, turn_in}
-use Rattle.run_laws.specs.FittingStates.{ExportsTyped}
-use Rattle.run_laws.specs.FittingStates.{HeldFits}
-use Rattle.run_laws.proofs.ProtocolStopping.{begun_fits, turn_fits}
-use Rattle.run_laws.proofs.Stopping.{start_there}
-use Rattle.stack_laws.proofs.SpotRuns.{listed_typed, start_takes_none}
+use Rattle.headline_laws.specs.FittingStates.{ExportsTyped}
+use Rattle.headline_laws.specs.FittingStates.{HeldFits}
+use Rattle.headline_laws.proofs.ProtocolStopping.{begun_fits, turn_fits}
+use Rattle.headline_laws.proofs.Stopping.{start_there}
+use Rattle.headline_laws.proofs.SpotRuns.{listed_typed, start_takes_none}
 use Rattle.headline_laws.specs.FlatLaw.{AllLocalsFit}
 use Rattle.headline_laws.specs.World.{World}
 use Rattle.headline_laws.specs.WrittenRuns.{WrittenLaw}

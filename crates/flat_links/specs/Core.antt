@@ -11,8 +11,8 @@ use Rattle.wa_model.specs.Instantiation.{Opening, fails_as, opens, opening}
 use Rattle.wa_model.specs.Plan.{Plan, Fits}
 use Rattle.range_laws.specs.Ranges.{CodesIn}
 use Rattle.wa_model.specs.Configuration.{Activation}
-use Rattle.guard_frames.specs.Joined.{CallFrame}
-use Rattle.guard_form.specs.Functions.{Role}
+use Rattle.headline_laws.specs.Joined.{CallFrame}
+use Rattle.headline_laws.specs.Functions.{Role}
 use Rattle.headline_laws.specs.World.{World}
 
 -- The modules, the function of each index, which calls have numbers, and the frame of each flat activation that waits at one.

@@ -1,3 +1,18 @@
+pub use Rattle.headline_laws.specs.Alike
+pub use Rattle.headline_laws.specs.Beside as GuardBeside
+pub use Rattle.headline_laws.specs.Emitted
+pub use Rattle.headline_laws.specs.FittingStates
+pub use Rattle.headline_laws.specs.FlatLaw
+pub use Rattle.headline_laws.specs.Joined
+pub use Rattle.headline_laws.specs.Levels
+pub use Rattle.headline_laws.specs.LiveLaw
+pub use Rattle.headline_laws.specs.Modules
+pub use Rattle.headline_laws.specs.Proper
+pub use Rattle.headline_laws.specs.Returned
+pub use Rattle.headline_laws.specs.Rewinding
+pub use Rattle.headline_laws.specs.RuntimeParts
+pub use Rattle.headline_laws.specs.Stopped
+pub use Rattle.headline_laws.specs.World
 pub mod Beside
 pub mod Core
 pub mod Links

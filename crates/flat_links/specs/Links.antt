@@ -9,10 +9,10 @@ use Rattle.wa_model.specs.Fitting.{Fits, WaitingFits, StoreFits}
 use Rattle.wa_model.specs.Growth.{ConfigNamed, StoreNamed, spaces_of}
 use Rattle.wa_model.specs.Store.{Store}
 use Rattle.range_laws.specs.Ranges.{ConfigurationIn, StoreIn}
-use Rattle.stack_laws.proofs.SpotSteps.{ConfigurationAtSpots, WaitingAtSpots}
-use Rattle.stack_laws.proofs.StandingStates.{ConfigurationAt, WaitingAt}
-use Rattle.guard_frames.specs.Returned.{AllSameFlat}
-use Rattle.guard_runs.specs.Stopped.{AllNumbered, Stopped}
+use Rattle.headline_laws.proofs.SpotSteps.{ConfigurationAtSpots, WaitingAtSpots}
+use Rattle.headline_laws.proofs.StandingStates.{ConfigurationAt, WaitingAt}
+use Rattle.headline_laws.specs.Returned.{AllSameFlat}
+use Rattle.headline_laws.specs.Stopped.{AllNumbered, Stopped}
 use Rattle.headline_laws.specs.FlatLaw.{FlatStands, FlatAgain, AllLocalsFit}
 use Rattle.headline_laws.specs.World.{setting}
 use Rattle.flat_links.specs.Core.{Core, based, world_of}

@@ -1,1 +1,2 @@
+pub use Rattle.flat_instrs.specs.Emitting
 pub mod Surveying

@@ -5,3 +5,4 @@ mod find;
 mod survey;
 
 pub use find::find_names;
+pub use flat_bodies::{flat_body, label_local};

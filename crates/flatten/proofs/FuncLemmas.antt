@@ -20,7 +20,7 @@ use Rattle.wasm_validate.specs.Walk.{outset, TypedAt, Walk}
 use Rattle.wasm_validate.proofs.ContextLemmas.{sort_there}
 use Rattle.wasm_validate.proofs.FuncLemmas.{func_at, number_fits}
 use Rattle.wasm_validate.proofs.WalkUses.{outset_typed}
-use Rattle.flat_instrs.specs.Emitting.{SmallTypes, result_at, flat_at}
+use Rattle.flat_survey.specs.Emitting.{SmallTypes, result_at, flat_at}
 use Rattle.wa_types.specs.declared.values.ValType.{ValType}
 use Rattle.flat_laws.specs.Flatten.{Names, names, flattened, result_of}
 use Rattle.wa_model.specs.Flat.{FlatFunc, Stmts}

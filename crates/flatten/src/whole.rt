@@ -7,10 +7,8 @@ ghost use Rattle.wa_types.specs.View.{module_of};
 ghost use Rattle.flatten.specs.Whole.{FlatAnswer, Flattens};
 
 use crate::fault::FlatFault;
-use flat_bodies::flat_body;
-use flat_constructs::label_local;
 use flat_names::{all_locals, count_runs};
-use flat_survey::find_names;
+use flat_survey::{find_names, flat_body, label_local};
 use std::alloc::{AllocError, Global};
 use wa_model::{FlatFunc, FlatModule};
 use wa_types::{FuncType, ValType};

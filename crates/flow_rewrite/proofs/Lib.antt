@@ -1,3 +1,4 @@
+pub use Rattle.call_numbers.proofs.NumberingLemmas
 mod WalkSteps
 mod GuardLemmas
 pub mod NumberLemmas

@@ -1,1 +1,2 @@
+pub use Rattle.call_numbers.specs.Numbering
 pub mod Emitting

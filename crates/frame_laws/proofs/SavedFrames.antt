@@ -10,7 +10,7 @@ use Rattle.wa_types.specs.Memory.{bytes_at, overwritten}
 use Rattle.wa_types.specs.Frames.{width, word, value_bytes, HoldsBytes}
 use Rattle.wa_types.specs.Typing.{type_of}
 use Rattle.wa_types.proofs.MemoryLemmas.{length-overwritten, bytes_at-overwritten, bytes_at-overwritten_below, bytes_at-overwritten_behind}
-use Rattle.wa_ops.specs.Integers.{of_bool}
+use Rattle.wa_model.specs.Integers.{of_bool}
 use Rattle.wa_model.specs.declared.answers.Area.{Area}
 use Rattle.wa_model.specs.Store.{Store, with_memory, value_at}
 use Rattle.wa_model.specs.Configuration.{Label, block_label, Activation, Configuration, running}

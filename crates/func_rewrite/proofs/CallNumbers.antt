@@ -11,9 +11,9 @@ use Rattle.wa_model.specs.FlatFits.{ComputesFit, IsCallCode, StmtsFit}
 use Rattle.wa_model.specs.Growth.{Each}
 use Rattle.flat_laws.specs.FlatModule.{stacks_in}
 use Rattle.guard_form.specs.Pieces.{sole_callee, call_total}
-use Rattle.call_numbers.specs.Numbering.{callees, gets_number}
-use Rattle.call_numbers.proofs.NumberingLemmas.{callees_count}
-use Rattle.flow_rewrite.specs.Emitting.{Rises}
+use Rattle.written_frames.specs.Numbering.{callees, gets_number}
+use Rattle.written_frames.proofs.NumberingLemmas.{callees_count}
+use Rattle.written_frames.specs.Emitting.{Rises}
 use Rattle.written_frames.specs.Marking.{StacksFit}
 
 -- ---- calls of statements

@@ -1,3 +1,6 @@
+pub use Rattle.flatten.proofs.ToldLemmas
+pub use Rattle.written_frames.proofs.Emitted
+pub use Rattle.written_frames.proofs.EmittedBy
 pub mod CallNumbers
 pub mod FrameChoice
 pub mod BodyCode

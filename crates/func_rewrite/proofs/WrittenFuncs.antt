@@ -30,8 +30,8 @@ use Rattle.local_spill.specs.declared.frames.Place.{Place}
 use Rattle.frame_laws.specs.Layout.{FrameField, fields_size, placed, spilled_by}
 use Rattle.guard_form.specs.Guarded.{function_body, guarded_code}
 use Rattle.guard_form.specs.Pieces.{call_total}
-use Rattle.call_numbers.specs.Numbering.{callees, gets_number}
-use Rattle.rewrite_form.specs.Emitted.{holds_operand, is_kept, field_where, frame_layout, written_func}
+use Rattle.written_frames.specs.Numbering.{callees, gets_number}
+use Rattle.written_frames.specs.Emitted.{holds_operand, is_kept, field_where, frame_layout, written_func}
 use Rattle.written_frames.specs.Frames.{numbered_places, AllFrames}
 use Rattle.written_frames.specs.Marking.{StacksFit}
 use Rattle.func_rewrite.specs.Frames.{IsFlattened, FramesUnder}

@@ -1,2 +1,7 @@
+pub use Rattle.flatten.specs.Whole
+pub use Rattle.flatten.specs.declared.fault.FlatFault
+pub use Rattle.flatten.specs.declared.whole.Flattened
+pub use Rattle.written_frames.specs.Rewritten
+pub use Rattle.written_frames.specs.Sizes
 pub mod Frames
 pub mod Putting

@@ -8,14 +8,14 @@ ghost use Rattle.local_spill.specs.Putting.{Puts};
 ghost use Rattle.local_spill.specs.Spilling.{restoring, saving, spill_indices, unless_normal};
 ghost use Rattle.guard_form.specs.Guarded.{function_body, guarded_code};
 ghost use Rattle.guard_form.specs.Pieces.{call_total};
-ghost use Rattle.flow_rewrite.specs.Emitting.{Rises};
+ghost use Rattle.written_frames.specs.Emitting.{Rises};
 ghost use Rattle.func_rewrite.specs.Putting.{body_got};
 
-use flow_rewrite::guard;
 use local_spill::{Layout, RuntimeIds, epilogue, prologue};
 use std::alloc::{AllocError, Global};
 use wa_model::FlatFunc;
 use wa_types::Instr;
+use written_frames::guard;
 
 /// Puts what gets the result, where there is one.
 fn put_result(out: &mut Vec<Instr>, given: Option<u32>) -> Result<(), AllocError>

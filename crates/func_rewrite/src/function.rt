@@ -5,18 +5,17 @@ ghost use Rattle.wa_types.specs.Validity.{Valid as IsValid};
 ghost use Rattle.wa_types.specs.View.{func_of, module_of};
 ghost use Rattle.call_graph.specs.Settings.{settings_of};
 ghost use Rattle.asyncify_runtime.specs.Ids.{ids_behind};
-ghost use Rattle.rewrite_form.specs.Emitted.{written_func};
+ghost use Rattle.written_frames.specs.Emitted.{written_func};
 ghost use Rattle.func_rewrite.specs.Frames.{IsFlattened, FramesUnder};
 
 use crate::body::written_body;
 use crate::locals::written_locals;
 use call_graph::Settings;
 use flatten::Flattened;
-use flow_rewrite::number_calls;
 use local_spill::{Layout, RuntimeIds, layout};
 use std::alloc::{AllocError, Global};
 use wa_types::{Func, Module};
-use written_frames::{call_frames, chosen_frame, kept_locals, saved_places};
+use written_frames::{call_frames, chosen_frame, kept_locals, number_calls, saved_places};
 
 /// A function as it is written, and the frames of its numbered calls.
 #[derive(Debug, Drop)]

@@ -7,5 +7,6 @@ mod function;
 mod locals;
 
 pub use body::{body_around, unless_normal};
+pub use flatten::{FlatFault, Flattened, flatten_func};
 pub use function::{Written, emit_func, write_func};
 pub use locals::written_locals;

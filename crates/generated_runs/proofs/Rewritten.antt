@@ -9,8 +9,8 @@ use Rattle.wa_types.specs.Syntax.{local_get, local_set, local_tee, nest, plain, 
 use Rattle.wa_types.specs.Validity.{Valid}
 use Rattle.wa_types.specs.View.{module_of}
 use Rattle.wa_model.specs.Rewrites.{Rewrites}
-use Rattle.rewrite_runs.proofs.Asyncified.{asyncified_law}
-use Rattle.flatten.specs.Whole.{FirstPasses}
+use Rattle.module_rewrite.proofs.Asyncified.{asyncified_law}
+use Rattle.module_rewrite.specs.FlattenWhole.{FirstPasses}
 use Rattle.module_rewrite.specs.Whole.{FirstTooMany, IsAsyncified}
 use Rattle.module_rewrite.specs.declared.whole.Rewritten.{Rewritten}
 use Rattle.module_rewrite.proofs.FreeNames.{unreserved_is_free}

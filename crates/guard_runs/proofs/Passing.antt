@@ -7,7 +7,7 @@ use Rattle.wa_types.specs.declared.values.Value.TheVariants as V
 use Rattle.wa_types.specs.declared.operators.NumOp.TheVariants.{I32Ne, I32LtU}
 use Rattle.wa_types.specs.Syntax.{const, num, global_get, basic, br_if, a_block, a_loop, Code, done, plain, nest, branch, Module}
 use Rattle.wa_types.specs.Pausing.{Callee}
-use Rattle.wa_ops.specs.Integers.{ine, ilt_u}
+use Rattle.wa_model.specs.Integers.{ine, ilt_u}
 use Rattle.wa_model.specs.declared.flat.Operand.{Operand}
 use Rattle.wa_model.specs.Store.{Store, value_at}
 use Rattle.wa_model.specs.Configuration.{Label, block_label, loop_label, Activation, Configuration, running}

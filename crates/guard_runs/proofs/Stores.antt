@@ -14,7 +14,7 @@ use Rattle.wa_types.specs.Memory.{pages_of, bytes_of, number_of_bytes, bytes_at,
 use Rattle.wa_types.specs.Typing.{type_of}
 use Rattle.wa_types.specs.Syntax.{Basic, nop, drop as a_drop, select, const, num, global_get, global_set, load, store, memory_size, memory_grow}
 use Rattle.wa_types.proofs.MemoryLemmas.{length-bytes_of, length-overwritten, bytes_at-append}
-use Rattle.wa_ops.specs.Operate.{operate, number_of}
+use Rattle.wa_model.specs.Operate.{operate, number_of}
 use Rattle.wa_model.specs.Blocking.{overlap}
 use Rattle.wa_model.specs.Store.{Store, value_at, lacks, act, computed, load_at, loaded, store_at, stored, width_of, grew, access_of}
 use Rattle.wa_model.specs.Step.{memory_max}

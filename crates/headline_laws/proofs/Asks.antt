@@ -1,9 +1,9 @@
 -- A call of an import: to the call, and the outcomes without a pause.
 use Rattle.headline_laws.specs.World.{World, WorldFits, base, setting}
-use Rattle.guard_runs.proofs.EachStretch.{answers_go_on}
-use Rattle.guard_runs.proofs.Stores.{together}
-use Rattle.guard_runs.specs.Alike.{Alike}
-use Rattle.guard_runs.specs.Beside.{Callers}
+use Rattle.guard_frames.proofs.EachStretch.{answers_go_on}
+use Rattle.guard_frames.proofs.Stores.{together}
+use Rattle.guard_frames.specs.Alike.{Alike}
+use Rattle.guard_frames.specs.Beside.{Callers}
 use Rattle.headline_laws.proofs.FlatStretches.{Sil, Sm, along, gl, pr, sides, then_asks, up_to, xp}
 use Rattle.headline_laws.specs.StoreLaws.{StoreLaws}
 use Rattle.headline_laws.proofs.Reductions.{Allowed, LeftFits, Link, Owes, TopOf, allowed_on, last_move, nb, r_halts, r_runs, same_note, seen0, sh, tell_move}

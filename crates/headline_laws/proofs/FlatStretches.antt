@@ -1,10 +1,10 @@
 -- The relation of both machines, and how the written side runs along flat stretches.
 use Rattle.headline_laws.specs.StoreLaws.{StoreLaws}
 use Rattle.headline_laws.specs.World.{World, WorldFits, setting}
-use Rattle.guard_runs.proofs.EachMove.{exact_step}
-use Rattle.guard_runs.proofs.Stores.{together}
-use Rattle.guard_runs.specs.Alike.{Alike, Setting, sides_of}
-use Rattle.guard_runs.specs.Beside.{Aligned, Asked, Matched, Near, Proper, Sides, aligned, both_ask, both_return, both_step, both_trap, flat_stuck}
+use Rattle.guard_frames.proofs.EachMove.{exact_step}
+use Rattle.guard_frames.proofs.Stores.{together}
+use Rattle.guard_frames.specs.Alike.{Alike, Setting, sides_of}
+use Rattle.guard_frames.specs.Beside.{Aligned, Asked, Matched, Near, Proper, Sides, aligned, both_ask, both_return, both_step, both_trap, flat_stuck}
 use Rattle.headline_laws.proofs.ToldMoves.{Silent, silent_none, silent_on, silent_one}
 use Rattle.headline_laws.specs.FlatLaw.{FlatLaw, Still, moves, stays}
 use Rattle.run_laws.proofs.Keeping.{NextKeeps, same_on, same_refl, step_keeps}

@@ -1,7 +1,7 @@
 -- Modules that pause behave like their originals: the six fields, from what flattening owes.
 use Rattle.headline_laws.specs.WrittenRuns.{WrittenLaw}
 use Rattle.headline_laws.specs.World.{World, WorldFits, base, setting}
-use Rattle.guard_runs.specs.Alike.{Alike}
+use Rattle.guard_frames.specs.Alike.{Alike}
 use Rattle.headline_laws.proofs.FlatStretches.{Sm, gl}
 use Rattle.headline_laws.specs.StoreLaws.{StoreLaws}
 use Rattle.headline_laws.proofs.FromSimulation.{Begin, OpensHonestly, behaves_on}

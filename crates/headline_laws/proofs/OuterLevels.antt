@@ -1,13 +1,13 @@
 -- Facts on the levels of a suspended stack: who calls whom, the outermost function, and what both ways cost.
 use Rattle.frame_laws.specs.Function.{function_code}
 use Rattle.frame_laws.specs.Stack.{AllFit, CallsTo, Level, outer_of, rewinding_all, unwinding_all}
-use Rattle.guard_form.specs.Bounds.{passing}
+use Rattle.guard_frames.specs.Bounds.{passing}
 use Rattle.guard_frames.proofs.WaitingLevels.{calls_to, entered_by}
 use Rattle.guard_frames.specs.Joined.{CallFrame, site_of, written_of}
 use Rattle.guard_frames.specs.Levels.{MayStand, flat_waiting, levels_of}
-use Rattle.guard_runs.specs.Alike.{Paired, Setting}
-use Rattle.guard_runs.specs.Beside.{Callers, Sides}
-use Rattle.guard_runs.specs.Stopped.{Stopped, above, host}
+use Rattle.guard_frames.specs.Alike.{Paired, Setting}
+use Rattle.guard_frames.specs.Beside.{Callers, Sides}
+use Rattle.guard_frames.specs.Stopped.{Stopped, above, host}
 use Rattle.headline_laws.specs.FlatLaw.{AllWeigh}
 use Rattle.std.proofs.Common.{List, Some, [], ap, arith, length, refl, subst, suc, ℕ, ◌*◌, ◌++◌, ◌+◌, ◌<◌, ◌∷◌, ◌≡◌, ◌≤◌}
 use Rattle.std.proofs.lemmas.List.Sums.{sum_by-cons}
@@ -19,7 +19,7 @@ use Rattle.wa_types.specs.Bounds.{activation_bound}
 use Rattle.wa_types.specs.Frames.{Suspended}
 use Rattle.wa_types.specs.Modules.{declared_locals, defined_at, func_type_at}
 use Rattle.wa_types.specs.Syntax.{Func, Module}
-use Rattle.guard_runs.specs.Beside as B
+use Rattle.guard_frames.specs.Beside as B
 
 pub under_count : (w : Sides) (g : ℕ) (us us' : List Activation) → Callers w g us us' → length us' ≡ length us
 under_count w g _ _ (B.host e) = refl

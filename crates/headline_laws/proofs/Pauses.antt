@@ -9,9 +9,9 @@ use Rattle.guard_frames.proofs.ReturnedStacks.{stacks_return}
 use Rattle.guard_frames.proofs.WaitingLevels.{stopped_are_levels}
 use Rattle.guard_frames.specs.Levels.{AreLevels, ChainOf, levels_of}
 use Rattle.guard_frames.specs.Returned.{AllSameFlat, FlatAgain}
-use Rattle.guard_runs.proofs.StoppedStacks.{stops_law, waits_law}
-use Rattle.guard_runs.specs.Alike.{Alike}
-use Rattle.guard_runs.specs.Stopped.{Stopped}
+use Rattle.guard_frames.proofs.StoppedStacks.{stops_law, waits_law}
+use Rattle.guard_frames.specs.Alike.{Alike}
+use Rattle.guard_frames.specs.Stopped.{Stopped}
 use Rattle.headline_laws.proofs.Asks.{Called, Given_on, Pausing, answer_fits, give, left_fits, no_bad_poke, same_d, tested_now, went_on}
 use Rattle.headline_laws.proofs.FlatStretches.{Sil, Sm, gl, pr, sides, xp}
 use Rattle.headline_laws.specs.StoreLaws.{StoreLaws}

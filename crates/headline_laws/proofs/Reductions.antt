@@ -1,7 +1,7 @@
 -- The relation of the runs, and the moves without an import.
 use Rattle.headline_laws.specs.World.{World, WorldFits, base, setting}
-use Rattle.guard_runs.specs.Alike.{Alike}
-use Rattle.guard_runs.specs.Beside.{Near}
+use Rattle.guard_frames.specs.Alike.{Alike}
+use Rattle.guard_frames.specs.Beside.{Near}
 use Rattle.headline_laws.proofs.FlatStretches.{Along, Sil, Sm, Up_to, along, gl, other_top, pr, sides, then_returns, then_steps, then_traps, up_to, xp}
 use Rattle.headline_laws.specs.StoreLaws.{StoreLaws}
 use Rattle.headline_laws.proofs.FromSimulation.{fit, na, room}

@@ -1,9 +1,9 @@
 -- The simulation: each move of the shown blocking machine is matched under the protocol; with it, all that is owed.
 use Rattle.headline_laws.specs.WrittenRuns.{WrittenLaw}
 use Rattle.headline_laws.specs.World.{World, WorldFits, base, setting}
-use Rattle.guard_runs.proofs.EachStretch.{calls_begin}
-use Rattle.guard_runs.proofs.Stores.{together}
-use Rattle.guard_runs.specs.Alike.{Alike}
+use Rattle.guard_frames.proofs.EachStretch.{calls_begin}
+use Rattle.guard_frames.proofs.Stores.{together}
+use Rattle.guard_frames.specs.Alike.{Alike}
 use Rattle.headline_laws.proofs.Asks.{asks_case, first_fits, no_bad_poke, no_pause_in_start, others_fit, to_call}
 use Rattle.headline_laws.proofs.FlatStretches.{Along, Sil, Sm, along, gl, other_top, pr, sides, xp}
 use Rattle.headline_laws.specs.StoreLaws.{StoreLaws}

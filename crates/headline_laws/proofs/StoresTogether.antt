@@ -1,9 +1,9 @@
 -- Stores that belong together: the facts that the moves ask for.
 use Rattle.headline_laws.specs.World.{World, setting}
 use Rattle.frame_laws.specs.FrameMemory.{Lowered}
-use Rattle.guard_runs.proofs.AfterPause.{again_law}
-use Rattle.guard_runs.proofs.Stores.{Wrote, neither, put_too, wrote}
-use Rattle.guard_runs.specs.Alike.{Alike, Setting}
+use Rattle.guard_frames.proofs.AfterPause.{again_law}
+use Rattle.guard_frames.proofs.Stores.{Wrote, neither, put_too, wrote}
+use Rattle.guard_frames.specs.Alike.{Alike, Setting}
 use Rattle.headline_laws.specs.StoreLaws.{StoreLaws}
 use Rattle.headline_laws.proofs.TrapStores.{trap_keeps}
 use Rattle.pause_laws.specs.Pause.{AreaReady, SameAround}

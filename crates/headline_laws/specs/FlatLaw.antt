@@ -23,9 +23,9 @@ use Rattle.frame_laws.specs.Stack.{Level}
 use Rattle.frame_laws.specs.Suspended.{AllStandFor}
 use Rattle.guard_frames.specs.Levels.{MayStand, levels_of}
 use Rattle.guard_frames.specs.Returned.{AllSameFlat}
-use Rattle.guard_runs.specs.Alike.{Setting, sides_of}
-use Rattle.guard_runs.specs.Beside.{Proper}
-use Rattle.guard_runs.specs.Stopped.{AllNumbered, Stopped}
+use Rattle.guard_frames.specs.Alike.{Setting, sides_of}
+use Rattle.guard_frames.specs.Beside.{Proper}
+use Rattle.guard_frames.specs.Stopped.{AllNumbered, Stopped}
 use Rattle.headline_laws.specs.World.{World, base, setting}
 
 -- Proper reductions of the flat side that leave the store.

@@ -9,8 +9,8 @@ use Rattle.wa_model.specs.Plan.{Plan}
 use Rattle.wa_model.specs.Protocol.{exports_of}
 use Rattle.wa_model.specs.Configuration.{Activation}
 use Rattle.guard_frames.specs.Joined.{CallFrame}
-use Rattle.guard_form.specs.Functions.{Role}
-use Rattle.guard_runs.specs.Alike.{Paired, Setting}
+use Rattle.guard_frames.specs.Functions.{Role}
+use Rattle.guard_frames.specs.Alike.{Paired, Setting}
 use Rattle.pause_laws.specs.Pause.{RuntimeAt}
 
 -- The original, the flat and the written module, with what both have in common.

@@ -1,2 +1,3 @@
+pub use Rattle.host_turns.proofs.Stretches
 pub mod BadPokes
 pub mod MetLines

@@ -1,12 +1,12 @@
 ghost use Rattle.std.specs.Prelude.{◌≡◌, [], ◌∷◌, IfOk, Some};
 ghost use Rattle.wa_model.specs.World.{MeetsDevice};
-ghost use Rattle.device_port.specs.Journals.{replied};
-ghost use Rattle.device_port.specs.Listed.{of_all};
+ghost use Rattle.host_turns.specs.Journals.{replied};
+ghost use Rattle.host_turns.specs.Listed.{of_all};
 ghost use Rattle.host_turns.specs.Supplies.{Counts, IsLent};
 ghost use Rattle.host_answers.specs.Answering.{outcome_of};
 
 use crate::lines::Met;
-use device_port::{DeviceFail, Devices, Reply};
+use host_turns::{DeviceFail, Devices, Reply};
 use std::alloc::{AllocError, Global};
 use wa_model::{Answer, End};
 use wa_types::Value;

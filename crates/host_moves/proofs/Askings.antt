@@ -16,7 +16,7 @@ use Rattle.wa_model.specs.Plan.{Outcome, given, refused}
 use Rattle.wa_model.specs.Blocking.{Note, note, call_note, Left, with_outcomes, Asker, resumed, the_start, an_entry, store_at, stack_at, in_start, fault_of, pause_of, poked, done_notes}
 use Rattle.wa_model.specs.Protocol.{Exports, exports_of, is_running, Held, busy, over, calling, unwinds, give_zero, with_words, held_on, held_given, held_pauses, held_asked, held_tested, protocol}
 use Rattle.wa_model.specs.World.{Program}
-use Rattle.stack_laws.proofs.StandingPauses.{fault_outside}
+use Rattle.host_pauses.proofs.StandingPauses.{fault_outside}
 use Rattle.interp.specs.Instance as I
 use Rattle.interp.specs.Instance.{Waits}
 use Rattle.host_turns.specs.Supplies.{Supply, Answers}

@@ -1,2 +1,3 @@
+pub use Rattle.host_pauses.proofs.Comings
 pub mod Askings
 pub mod Supplied

@@ -1,3 +1,4 @@
+pub use Rattle.run_laws.proofs.StandingPauses
 pub mod Comings
 pub mod Fronts
 pub mod Results

@@ -25,10 +25,10 @@ use Rattle.wa_model.specs.World.{Program}
 use Rattle.interp.specs.declared.turns.Turn.{Turn}
 use Rattle.interp.specs.declared.turns.Turn.TheVariants.{Returned, Trapped, Waiting, StepsSpent}
 use Rattle.interp.specs.Instance.{Waits, inside, Turns, Calls, CallsAs}
-use Rattle.host_turns.specs.Supplies.{Supply}
-use Rattle.host_turns.specs.Stretch.{Stretch, IsSpent}
-use Rattle.host_turns.specs.Places.{goes_on}
-use Rattle.host_turns.proofs.Stretches.{compose}
+use Rattle.host_answers.specs.Supplies.{Supply}
+use Rattle.host_answers.specs.Stretch.{Stretch, IsSpent}
+use Rattle.host_answers.specs.Places.{goes_on}
+use Rattle.host_answers.proofs.Stretches.{compose}
 use Rattle.host_stages.specs.declared.stages.Moved.{Moved}
 use Rattle.host_stages.specs.declared.stages.Pause.{Pause}
 use Rattle.host_stages.specs.declared.stages.Stage.TheVariants as S

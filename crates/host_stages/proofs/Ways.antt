@@ -19,7 +19,7 @@ use Rattle.wa_model.specs.Protocol.{Exports, exports_of, Phase, is_running, unwi
 use Rattle.wa_model.specs.World.{Program}
 use Rattle.wa_model.proofs.Runs.{leads_on}
 use Rattle.wa_model.proofs.Alone.{in_busy, in_aside}
-use Rattle.host_turns.specs.Stretch.{meeting, Stretch}
+use Rattle.host_answers.specs.Stretch.{meeting, Stretch}
 use Rattle.host_stages.specs.Moves.{EndsAt, at_over, at_spent, Returns}
 
 -- ---- how reductions end

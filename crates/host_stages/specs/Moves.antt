@@ -27,9 +27,9 @@ use Rattle.interp.specs.declared.turns.Turn.TheVariants.{StepsSpent}
 use Rattle.interp.specs.Instance as I
 use Rattle.interp.specs.Instance.{Waits}
 use Rattle.host_answers.specs.Answering.{IsShort}
-use Rattle.host_turns.specs.Stretch.{meeting, Stretch, IsSpent}
-use Rattle.host_turns.specs.Supplies.{Supply, bound_to}
-use Rattle.host_turns.specs.Places.{Place, stands, has_ended, nowhere, TellsFrom}
+use Rattle.host_answers.specs.Stretch.{meeting, Stretch, IsSpent}
+use Rattle.host_answers.specs.Supplies.{Supply, bound_to}
+use Rattle.host_answers.specs.Places.{Place, stands, has_ended, nowhere, TellsFrom}
 use Rattle.host_stages.specs.declared.exports.Exported.{Exported}
 use Rattle.host_stages.specs.declared.exports.Exported.TheVariants as X
 use Rattle.host_stages.specs.declared.exports.Work.{Work}

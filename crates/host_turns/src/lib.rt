@@ -10,6 +10,7 @@
 
 mod laws;
 
+pub use device_port::{DeviceFail, Devices, Reply};
 pub use laws::{
     calls_meet_in_turn, events_are_told_alone, events_are_told_in_turn, places_are_on_a_story,
     stories_are_worlds, stretches_compose, told_events_are_a_story,

@@ -15,13 +15,13 @@ use Rattle.wa_types.specs.Validity.{Valid}
 use Rattle.wa_types.proofs.FileWriting.{written_spells}
 use Rattle.wasm_encode.specs.Modules.{FewLocals}
 use Rattle.wasm_reader.specs.Answers.{IsAccepted}
-use Rattle.rewrite_form.specs.Emitted.{asyncified, written_func}
-use Rattle.rewrite_form.proofs.EmittedBy.{defined_where}
-use Rattle.emitted_bytes.proofs.EmittedFits.{emitted_fits}
-use Rattle.emitted_bytes.proofs.EmittedLength as All
-use Rattle.emitted_bytes.proofs.FitsBy.{one_of_all}
-use Rattle.emitted_bytes.proofs.LengthBy.{entry}
-use Rattle.emitted_bytes.proofs.LengthBy as By
+use Rattle.prepared_modules.specs.Emitted.{asyncified, written_func}
+use Rattle.prepared_modules.proofs.EmittedBy.{defined_where}
+use Rattle.prepared_modules.proofs.EmittedFits.{emitted_fits}
+use Rattle.prepared_modules.proofs.EmittedLength as All
+use Rattle.prepared_modules.proofs.FitsBy.{one_of_all}
+use Rattle.prepared_modules.proofs.LengthBy.{entry}
+use Rattle.prepared_modules.proofs.LengthBy as By
 use Rattle.prepared_modules.proofs.Prepared.{emitted_prepared}
 use Rattle.live_form.specs.EmittedAs.{EmittedUnder, IsLiveWritten, IsWrittenUnder, live_written}
 use Rattle.live_form.specs.LiveParts.{live_asyncified, live_codes}

@@ -1,2 +1,10 @@
+pub use Rattle.live_form.proofs.OneEmitted
+pub use Rattle.live_form.proofs.PolicyCases
+pub use Rattle.prepared_modules.proofs.EmittedBy
+pub use Rattle.prepared_modules.proofs.FitsBy
+pub use Rattle.prepared_modules.proofs.Grown
+pub use Rattle.prepared_modules.proofs.GrownFits
+pub use Rattle.prepared_modules.proofs.Lengths
+pub use Rattle.prepared_modules.proofs.Numbers
 pub mod BytesByPolicy
 pub mod LiveLength

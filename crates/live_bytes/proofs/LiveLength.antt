@@ -9,13 +9,13 @@ use Rattle.wa_types.specs.Pausing.{Callee, Numbered, Settings, callee, callee_on
 use Rattle.wa_types.specs.Pruned.{is_last, pruned}
 use Rattle.wa_types.specs.Syntax.{basic, local_get, local_set, local_tee, br, br_if, br_table, return, unreachable, call, call_indirect, Plain, Code, done, plain, nest, branch, Func, Module}
 use Rattle.wa_types.proofs.FileWriting.{written_spells}
-use Rattle.call_frames.specs.PlainFrames.{SavedParts}
-use Rattle.rewrite_runs.proofs.EmittedSo.{numbered_few}
-use Rattle.emitted_bytes.proofs.Grown.{enc_length}
-use Rattle.emitted_bytes.proofs.Lengths.{entries_within}
-use Rattle.emitted_bytes.proofs.LengthBy.{AllCodesShort, emitted_few, emitted_short, entry}
+use Rattle.live_form.specs.PlainFrames.{SavedParts}
+use Rattle.live_form.proofs.EmittedSo.{numbered_few}
+use Rattle.prepared_modules.proofs.Grown.{enc_length}
+use Rattle.prepared_modules.proofs.Lengths.{entries_within}
+use Rattle.prepared_modules.proofs.LengthBy.{AllCodesShort, emitted_few, emitted_short, entry}
 use Rattle.prepared_modules.proofs.Prepared.{prepared_by}
-use Rattle.slim_modules.specs.SlimModule.{Pieces}
+use Rattle.live_form.specs.SlimModule.{Pieces}
 use Rattle.live_form.specs.Laws.{LiveRewriting}
 use Rattle.live_form.specs.LiveParts.{live_asyncified, live_codes}
 use Rattle.live_form.proofs.LiveModules.{few_codes, hold, well_formed_law}

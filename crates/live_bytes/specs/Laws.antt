@@ -9,8 +9,8 @@ use Rattle.wa_types.specs.Sizes.{WellFormed}
 use Rattle.wa_types.specs.Syntax.{Module}
 use Rattle.wasm_encode.specs.Modules.{FewLocals}
 use Rattle.wasm_reader.specs.Answers.{IsAccepted}
-use Rattle.call_frames.specs.PlainFrames.{SavedParts}
-use Rattle.slim_modules.specs.SlimModule.{Pieces}
+use Rattle.live_form.specs.PlainFrames.{SavedParts}
+use Rattle.live_form.specs.SlimModule.{Pieces}
 use Rattle.live_form.specs.Laws.{LiveRewriting}
 use Rattle.live_form.specs.LiveParts.{live_asyncified}
 

@@ -20,8 +20,8 @@ use Rattle.wa_model.specs.Rewrites.{frames_size}
 use Rattle.wa_model.proofs.RuntimeValid.{behind}
 use Rattle.slot_laws.proofs.Few.{slots_are_few}
 use Rattle.flat_laws.specs.Flatten.{flattened}
-use Rattle.flat_fits.proofs.Whole.{counted}
-use Rattle.frame_laws.specs.Layout.{fields_size, kept_count}
+use Rattle.live_guards.proofs.Whole.{counted}
+use Rattle.call_frames.specs.Layout.{fields_size, kept_count}
 use Rattle.call_frames.specs.FrameParts.{restore_bound_at, restoring_by_call, save_bound_at, saving_by_call, shared_size}
 use Rattle.call_frames.specs.PlainFrames.{FramesSmall, SavedParts, call_fields, frames_of, parts_of}
 use Rattle.call_frames.specs.PlainLaws.{PlainCodes, PlainSmall, PlainTyped}
@@ -29,16 +29,16 @@ use Rattle.call_frames.proofs.PlainBounds.{cost_law, size_law}
 use Rattle.call_frames.proofs.PlainHeld.{depth_law, held_law}
 use Rattle.call_frames.proofs.PlainTold.{fields_law, tell_law}
 use Rattle.call_frames.proofs.PlainTypes.{restore_law, save_law}
-use Rattle.live_stacks.specs.LiveFrames as Live
-use Rattle.slim_modules.specs.SlimModule.{Pieces, SlimPieces}
-use Rattle.rewrite_form.specs.EmittedBy.{FrameCode}
-use Rattle.rewrite_form.specs.CodesHold.{codes_size, CodeTyped, CodesHold, three}
-use Rattle.rewrite_form.proofs.EmittedBy.{defined_where}
-use Rattle.rewrite_form.proofs.SizesBy.{code_weighs, counts_less}
-use Rattle.rewrite_form.proofs.WrittenTypes.{fields_typed, places_written}
-use Rattle.emitted_bytes.proofs.BasicCode.{fits_basic}
-use Rattle.emitted_bytes.proofs.FitsBy.{CodesFit, one_of_all}
-use Rattle.emitted_bytes.proofs.Spaces.{globals_counted}
+use Rattle.live_guards.specs.LiveFrames as Live
+use Rattle.live_guards.specs.SlimModule.{Pieces, SlimPieces}
+use Rattle.rewrite_runs.specs.EmittedBy.{FrameCode}
+use Rattle.rewrite_runs.specs.CodesHold.{codes_size, CodeTyped, CodesHold, three}
+use Rattle.rewrite_runs.proofs.EmittedBy.{defined_where}
+use Rattle.rewrite_runs.proofs.SizesBy.{code_weighs, counts_less}
+use Rattle.rewrite_runs.proofs.WrittenTypes.{fields_typed, places_written}
+use Rattle.rewrite_runs.proofs.BasicCode.{fits_basic}
+use Rattle.rewrite_runs.proofs.FitsBy.{CodesFit, one_of_all}
+use Rattle.rewrite_runs.proofs.Spaces.{globals_counted}
 use Rattle.live_guards.specs.ByCallFraming.{PartsKeepLive}
 use Rattle.live_form.specs.LiveParts.{LiveParts, live_codes, saved_total}
 use Rattle.live_form.proofs.CallCounts.{numbers_few, saved_few, total_few}

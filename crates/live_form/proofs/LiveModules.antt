@@ -7,16 +7,16 @@ use Rattle.wa_types.specs.Syntax.{done, Func, Module}
 use Rattle.wa_types.specs.Validity.{Valid}
 use Rattle.wa_model.specs.Behaves.{Behaves}
 use Rattle.wa_model.specs.Quiet.{FreeOfNames}
-use Rattle.range_laws.proofs.BlockingRuns.{well_formed_in}
+use Rattle.live_guards.proofs.BlockingRuns.{well_formed_in}
 use Rattle.call_frames.specs.PlainFrames.{SavedParts, frames_of}
-use Rattle.guard_frames.specs.Joined.{one_frame}
-use Rattle.slim_modules.specs.SlimModule.{Pieces}
-use Rattle.flat_guards.specs.Emitted.{Emitted, Framing}
-use Rattle.rewrite_form.specs.CodesHold.{AllCodesHold, AllCodesSmall, codes_size}
-use Rattle.rewrite_form.specs.EmittedBy.{FrameCode}
-use Rattle.rewrite_form.proofs.EmittedRewritten.{emitted_valid, rewritten_but_runs, runs_law}
-use Rattle.rewrite_form.proofs.EmittedSizes.{emitted_sizes}
-use Rattle.emitted_bytes.proofs.FitsBy.{AllCodesFit, emitted_fits}
+use Rattle.live_guards.specs.Joined.{one_frame}
+use Rattle.live_guards.specs.SlimModule.{Pieces}
+use Rattle.live_guards.specs.Emitted.{Emitted, Framing}
+use Rattle.rewrite_runs.specs.CodesHold.{AllCodesHold, AllCodesSmall, codes_size}
+use Rattle.rewrite_runs.specs.EmittedBy.{FrameCode}
+use Rattle.rewrite_runs.proofs.EmittedRewritten.{emitted_valid, rewritten_but_runs, runs_law}
+use Rattle.rewrite_runs.proofs.EmittedSizes.{emitted_sizes}
+use Rattle.rewrite_runs.proofs.FitsBy.{AllCodesFit, emitted_fits}
 use Rattle.rewrite_runs.proofs.EmittedSo.{HaveCodes, emitted_so}
 use Rattle.live_guards.specs.ByCallFraming.{framing_by_call}
 use Rattle.live_guards.specs.LiveFraming.{LiveFraming}

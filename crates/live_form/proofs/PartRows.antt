@@ -5,8 +5,8 @@ use Rattle.std.proofs.lemmas.Option.{slice_get_within}
 use Rattle.wa_types.specs.declared.values.ValType.{ValType}
 use Rattle.wa_types.specs.declared.values.ValType.TheVariants.{I32, I64}
 use Rattle.wa_types.specs.Frames.{Place}
-use Rattle.frame_laws.specs.Layout.{FrameField, kept, gap, field_width, fields_size, kept_count}
-use Rattle.frame_laws.specs.Typed.{FieldsTyped}
+use Rattle.call_frames.specs.Layout.{FrameField, kept, gap, field_width, fields_size, kept_count}
+use Rattle.call_frames.specs.Typed.{FieldsTyped}
 use Rattle.call_frames.specs.FrameParts.{shared_size}
 use Rattle.call_frames.specs.PlainFrames.{SavedPart, at_every, at_these, call_fields, is_one_of, parts_of}
 use Rattle.call_frames.specs.PlainLaws.{FieldsSmall, NameCalls, NumbersSmall, PartsSmall, PartsTyped}

@@ -9,14 +9,14 @@ use Rattle.wa_types.specs.Sizes.{SizeRule}
 use Rattle.wa_types.specs.Syntax.{done, Func, Module}
 use Rattle.wa_types.specs.Validity.{Valid}
 use Rattle.wa_model.specs.Rewrites.{Rewrites}
-use Rattle.guard_form.specs.Pieces.{no_unit}
+use Rattle.rewrite_runs.specs.Pieces.{no_unit}
 use Rattle.call_frames.specs.PlainFrames.{SavedParts}
-use Rattle.slim_modules.specs.SlimModule.{Pieces, SlimPieces}
-use Rattle.rewrite_form.specs.Emitted.{emitted_funcs, written_func}
-use Rattle.rewrite_form.specs.EmittedBy.{funcs_by}
-use Rattle.rewrite_form.specs.Rewritten.{RewritesButRuns}
-use Rattle.rewrite_form.proofs.EmittedRewritten as Rewritten
-use Rattle.rewrite_form.proofs.EmittedSizes as Sized
+use Rattle.live_guards.specs.SlimModule.{Pieces, SlimPieces}
+use Rattle.rewrite_runs.specs.Emitted.{emitted_funcs, written_func}
+use Rattle.rewrite_runs.specs.EmittedBy.{funcs_by}
+use Rattle.rewrite_runs.specs.Rewritten.{RewritesButRuns}
+use Rattle.rewrite_runs.proofs.EmittedRewritten as Rewritten
+use Rattle.rewrite_runs.proofs.EmittedSizes as Sized
 use Rattle.rewrite_runs.proofs.Asyncified.{asyncified_law}
 use Rattle.live_form.specs.EmittedAs.{AreEmitted, EmittedUnder, FunctionsAreEmitted, IsEmittedWhere, IsLiveAsyncified, IsLiveWritten, IsWrittenUnder, live_written}
 use Rattle.live_form.specs.Laws.{LiveRewriting}

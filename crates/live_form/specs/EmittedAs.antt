@@ -5,9 +5,9 @@ use Rattle.wa_types.specs.Pausing.{Numbered, Policy, Settings, is_told, save_all
 use Rattle.wa_types.specs.Runtime.{with_runtime}
 use Rattle.wa_types.specs.Syntax.{Func, Module}
 use Rattle.call_frames.specs.PlainFrames.{SavedParts}
-use Rattle.slim_modules.specs.SlimModule.{Pieces, SlimPieces}
-use Rattle.rewrite_form.specs.Emitted.{asyncified, written_func}
-use Rattle.rewrite_form.specs.EmittedBy.{written_by}
+use Rattle.live_guards.specs.SlimModule.{Pieces, SlimPieces}
+use Rattle.rewrite_runs.specs.Emitted.{asyncified, written_func}
+use Rattle.rewrite_runs.specs.EmittedBy.{written_by}
 use Rattle.live_form.specs.LiveParts.{AllLiveParts, AllSlim, LiveParts, live_asyncified, live_codes}
 
 -- ---- one function

@@ -7,9 +7,9 @@ use Rattle.wa_types.specs.Validity.{Valid}
 use Rattle.wa_model.specs.Quiet.{FreeOfNames}
 use Rattle.wa_model.specs.Rewrites.{Rewrites}
 use Rattle.call_frames.specs.PlainFrames.{SavedParts}
-use Rattle.slim_modules.specs.SlimModule.{Pieces}
-use Rattle.rewrite_form.specs.Rewritten.{RewritesButRuns}
-use Rattle.rewrite_form.specs.Sizes.{FewWritten}
+use Rattle.live_guards.specs.SlimModule.{Pieces}
+use Rattle.rewrite_runs.specs.Rewritten.{RewritesButRuns}
+use Rattle.rewrite_runs.specs.Sizes.{FewWritten}
 use Rattle.live_form.specs.LiveParts.{AllLiveParts, AllSlim, live_asyncified}
 
 -- A valid module under the strict size rule, the functions of it that may pause, each with at most 50,000 locals as it is written, and

@@ -7,14 +7,14 @@ use Rattle.wa_types.specs.Pausing.{Numbered, Settings, is_told, save_live}
 use Rattle.wa_types.specs.Runtime.{global_space}
 use Rattle.wa_types.specs.Syntax.{done, Func, Module}
 use Rattle.flat_laws.specs.Flatten.{flattened}
-use Rattle.frame_laws.specs.Layout.{FrameField}
+use Rattle.call_frames.specs.Layout.{FrameField}
 use Rattle.call_classes.specs.CallParts.{call_parts}
 use Rattle.call_frames.specs.FrameParts.{restoring_by_call, saving_by_call}
 use Rattle.call_frames.specs.PlainFrames.{SavedPart, at_every, at_these, SavedParts, call_fields, frames_of}
 use Rattle.call_frames.specs.PlainLaws.{NameCalls, named_calls, parts_size, sizes_size}
-use Rattle.live_stacks.specs.LiveFrames.{fields_at}
-use Rattle.slim_modules.specs.SlimModule.{Pieces, SlimPieces}
-use Rattle.rewrite_form.specs.EmittedBy.{FrameCode, asyncified_by}
+use Rattle.live_guards.specs.LiveFrames.{fields_at}
+use Rattle.live_guards.specs.SlimModule.{Pieces, SlimPieces}
+use Rattle.rewrite_runs.specs.EmittedBy.{FrameCode, asyncified_by}
 
 -- ---- the module
 

@@ -6,8 +6,8 @@ use Rattle.wa_types.specs.Syntax.{Module}
 use Rattle.wa_types.specs.Validity.{Valid}
 use Rattle.wa_model.specs.Quiet.{FreeOfNames}
 use Rattle.wa_model.specs.Rewrites.{Rewrites}
-use Rattle.rewrite_form.specs.Rewritten.{RewritesButRuns}
-use Rattle.rewrite_form.specs.Sizes.{FewWritten}
+use Rattle.rewrite_runs.specs.Rewritten.{RewritesButRuns}
+use Rattle.rewrite_runs.specs.Sizes.{FewWritten}
 use Rattle.live_form.specs.EmittedAs.{EmittedAs}
 
 -- A valid module under the strict size rule, and the functions of it that may pause, each with at most 50,000 locals as it is written.

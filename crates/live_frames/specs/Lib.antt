@@ -1,1 +1,2 @@
+pub use Rattle.frame_laws.specs.Layout
 pub mod Putting

@@ -11,13 +11,13 @@ use Rattle.wa_types.specs.Syntax.{Func, Module}
 use Rattle.call_frames.specs.FrameParts.{CallFrames}
 use Rattle.call_frames.proofs.Codes.{codes_law}
 use Rattle.flat_laws.specs.Flatten.{flattened}
-use Rattle.frame_laws.specs.Function.{FrameCodes}
+use Rattle.call_frames.specs.Function.{FrameCodes}
 use Rattle.guard_form.specs.Functions.{GuardedFunc, indices_of}
 use Rattle.guard_form.specs.Guarded.{front}
 use Rattle.guard_form.specs.Pieces.{first_piece, units}
-use Rattle.guard_frames.specs.Joined.{CallFrame, written_of}
+use Rattle.live_stacks.specs.Joined.{CallFrame, written_of}
 use Rattle.live_stacks.specs.LiveFrames.{fields_at}
-use Rattle.slim_modules.specs.SlimModule.{Pieces}
+use Rattle.flat_guards.specs.SlimModule.{Pieces}
 use Rattle.flat_guards.specs.Emitted.{Framing}
 use Rattle.flat_guards.proofs.WantedFields.{number_is}
 use Rattle.live_guards.specs.ByCallFraming.{FramesByCallAreLive, PartsKeepLive, call_frame, framing_by_call}

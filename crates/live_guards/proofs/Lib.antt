@@ -1,3 +1,6 @@
+pub use Rattle.flat_guards.proofs.SlimModules
+pub use Rattle.live_stacks.proofs.Whole
+pub use Rattle.range_laws.proofs.BlockingRuns
 pub mod ByCallFramed
 pub mod ChosenStacks
 pub mod LiveAgain

@@ -21,19 +21,19 @@ use Rattle.wa_model.specs.Plan.{Plan}
 use Rattle.wa_model.specs.Plan as P
 use Rattle.range_laws.specs.Ranges.{ActivationIn, CodesIn}
 use Rattle.flat_laws.specs.FlatModule.{flat_module}
-use Rattle.flat_runs.specs.Beside.{Callers}
-use Rattle.frame_laws.specs.FrameMemory.{IsKept}
-use Rattle.slim_runs.specs.Beside.{Unders, moved}
+use Rattle.live_stacks.specs.Beside.{Callers}
+use Rattle.call_frames.specs.FrameMemory.{IsKept}
+use Rattle.flat_guards.specs.Beside.{Unders, moved}
 use Rattle.flat_guards.proofs.MovedStacks.{AllAgain, callers_moved, fits_moved, moved_all, unders_moved}
 use Rattle.flat_guards.proofs.SlimStacks.{w as sides_here}
-use Rattle.frame_laws.specs.Layout.{kept}
-use Rattle.guard_frames.specs.Returned.{AllSameFlat, SameFlat}
-use Rattle.guard_runs.specs.Stopped.{Stopped}
-use Rattle.headline_laws.specs.FlatLaw.{AllLocalsFit, FlatAgain, LocalsFit}
-use Rattle.headline_laws.specs.World.{setting}
-use Rattle.flat_links.specs.Core.{Core, world_of}
-use Rattle.flat_links.specs.Links.{GoodStore, LinkedWaits, StandsLaw}
-use Rattle.flat_links.specs.Links as N
+use Rattle.call_frames.specs.Layout.{kept}
+use Rattle.live_stacks.specs.Returned.{AllSameFlat, SameFlat}
+use Rattle.live_stacks.specs.Stopped.{Stopped}
+use Rattle.live_stacks.specs.FlatLaw.{AllLocalsFit, FlatAgain, LocalsFit}
+use Rattle.live_stacks.specs.World.{setting}
+use Rattle.flat_guards.specs.Core.{Core, world_of}
+use Rattle.flat_guards.specs.Links.{GoodStore, LinkedWaits, StandsLaw}
+use Rattle.flat_guards.specs.Links as N
 use Rattle.flat_guards.specs.CoreOf.{RunsBeside, WaitsBeside, call_place, core_of}
 use Rattle.flat_guards.specs.Emitted.{Emitted, Framing}
 use Rattle.flat_guards.proofs.CallPoints.{base_saved}
@@ -42,13 +42,13 @@ use Rattle.flat_guards.proofs.PairedFlat.{base_defined}
 use Rattle.flat_guards.proofs.PairedStacks.{AllPairs, PairAt, call_frame_is, pairs}
 use Rattle.flat_guards.proofs.WaitsAgain.{AllMore, flat_again, front_same, numbers, numbers_at, pairs_at, stands, written_fit}
 use Rattle.flat_guards.proofs.WrittenLocals.{written_locals}
-use Rattle.live_laws.specs.SameLive.{SameLive, SameUnder}
+use Rattle.live_stacks.specs.SameLive.{SameLive, SameUnder}
 use Rattle.live_stacks.specs.LiveFrames.{AllFramed, AllTold, fields_at}
 use Rattle.live_stacks.proofs.StacksAgain.{stacks_come_back}
 use Rattle.live_guards.specs.LiveFraming.{LiveFraming}
 use Rattle.live_guards.proofs.ChosenStacks.{callers_ranged, callers_typed, chosen_count, chosen_fits, chosen_in, chosen_spots, chosen_stands, chosen_live}
 use Rattle.live_guards.proofs.LiveFramed.{live_framed}
-use Rattle.guard_frames.specs.Joined.{CallFrame}
+use Rattle.live_stacks.specs.Joined.{CallFrame}
 use Rattle.wa_model.specs.Growth.{ConfigNamed, spaces_of}
 
 the_func : (x y : Func) → Some x ≡ Some y → x ≡ y

@@ -3,13 +3,13 @@ use Rattle.std.proofs.Common.{subst}
 use Rattle.wa_types.specs.Base.{Base}
 use Rattle.range_laws.proofs.BlockingRuns.{base_codes, well_formed_in}
 use Rattle.slot_laws.proofs.Closed.{one_list}
-use Rattle.flat_links.specs.Core.{Core, world_of}
-use Rattle.flat_links.specs.Links as N
+use Rattle.flat_guards.specs.Core.{Core, world_of}
+use Rattle.flat_guards.specs.Links as N
 use Rattle.flat_guards.specs.CoreOf.{RunsBeside, WaitsBeside, core_of}
 use Rattle.flat_guards.specs.Emitted.{Emitted}
 use Rattle.flat_guards.proofs.Behaving.{says_with}
-use Rattle.live_laws.specs.SameLive.{SameLive}
-use Rattle.live_laws.proofs.LiveRelation.{live_stands}
+use Rattle.live_stacks.specs.SameLive.{SameLive}
+use Rattle.live_stacks.proofs.LiveRelation.{live_stands}
 use Rattle.live_guards.specs.Laws.{LiveEmittedBehaves}
 use Rattle.live_guards.specs.LiveFraming.{LiveFraming}
 use Rattle.live_guards.proofs.LiveAgain.{live_stacks_stand}

@@ -11,10 +11,10 @@ use Rattle.wa_types.specs.Validity.{Valid}
 use Rattle.wa_model.specs.Flat.{FlatFunc}
 use Rattle.flat_laws.specs.Flatten.{flattened, names, slots}
 use Rattle.guard_form.specs.Pieces.{first_piece, units}
-use Rattle.slim_modules.specs.SlimModule.{AllSlimPieces, flat_terms}
-use Rattle.slim_units.proofs.UnitsPassed.{passing_law}
+use Rattle.flat_guards.specs.SlimModule.{AllSlimPieces, flat_terms}
+use Rattle.flat_guards.proofs.UnitsPassed.{passing_law}
 use Rattle.flat_laws.proofs.RuntimeModules.{base_flattened}
-use Rattle.frame_laws.specs.Layout.{kept}
+use Rattle.call_frames.specs.Layout.{kept}
 use Rattle.flat_guards.specs.Emitted.{Framing, fields_of, pieces_in, places_in}
 use Rattle.flat_guards.specs.Framed.{Framed, FramedCalls}
 use Rattle.flat_guards.proofs.CallPoints.{base_saved}

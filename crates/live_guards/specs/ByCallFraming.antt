@@ -10,8 +10,8 @@ use Rattle.call_frames.specs.FrameParts.{CallFrames, layout_at, restore_bound_at
 use Rattle.call_frames.specs.FrameParts as Parts
 use Rattle.flat_laws.specs.Flatten.{flattened}
 use Rattle.live_stacks.specs.LiveFrames.{fields_at}
-use Rattle.guard_frames.specs.Joined.{CallFrame}
-use Rattle.slim_modules.specs.SlimModule.{Pieces}
+use Rattle.live_stacks.specs.Joined.{CallFrame}
+use Rattle.flat_guards.specs.SlimModule.{Pieces}
 use Rattle.flat_guards.specs.Emitted.{Framing}
 use Rattle.live_guards.specs.LiveFraming.{LiveFrame}
 

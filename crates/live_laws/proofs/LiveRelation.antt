@@ -21,11 +21,11 @@ use Rattle.wa_model.specs.Configuration.{Activation, Configuration, Label, place
 use Rattle.wa_model.specs.Store.{Store, value_at}
 use Rattle.wa_model.specs.Untouched.{next_access}
 use Rattle.wa_model.specs.Blocking.{resumed}
-use Rattle.frame_laws.specs.Layout.{FrameField, gap, kept}
-use Rattle.frame_laws.specs.Stack.{Level}
-use Rattle.frame_laws.specs.Suspended.{AllStandFor, Lays, StandsFor, Tells}
-use Rattle.stack_laws.proofs.SpotSteps.{CallersAtSpots, WaitingAtSpots, WaitsAtSpot}
-use Rattle.stack_laws.proofs.SpotPlaces.{at_call}
+use Rattle.headline_laws.specs.Layout.{FrameField, gap, kept}
+use Rattle.headline_laws.specs.Stack.{Level}
+use Rattle.headline_laws.specs.Suspended.{AllStandFor, Lays, StandsFor, Tells}
+use Rattle.headline_laws.proofs.SpotSteps.{CallersAtSpots, WaitingAtSpots, WaitsAtSpot}
+use Rattle.headline_laws.proofs.SpotPlaces.{at_call}
 use Rattle.headline_laws.specs.FlatLaw.{AllWeigh}
 use Rattle.headline_laws.specs.LiveLaw.{LiveLaw}
 use Rattle.headline_laws.specs.World.{World, base}

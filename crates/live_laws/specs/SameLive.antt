@@ -9,7 +9,7 @@ use Rattle.wa_types.specs.declared.values.Value.{Value}
 use Rattle.wa_model.specs.Configuration.{Activation, Configuration, Label, block_label, loop_label, waiting}
 use Rattle.wa_model.specs.Step.{step}
 use Rattle.wa_model.specs.Store.{Store, value_at}
-use Rattle.stack_laws.proofs.SpotSteps.{WaitingAtSpots}
+use Rattle.headline_laws.proofs.SpotSteps.{WaitingAtSpots}
 use Rattle.headline_laws.specs.LiveLaw.{LiveLaw, LiveNext}
 use Rattle.headline_laws.specs.World.{World, base}
 

@@ -1,3 +1,4 @@
+pub use Rattle.flow_rewrite.proofs.NumberingLemmas
 pub mod RowLemmas
 pub mod ExactLemmas
 pub mod WholeLemmas

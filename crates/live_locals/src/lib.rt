@@ -12,4 +12,5 @@ mod laws;
 mod rows;
 
 pub use calls::live_at;
+pub use flow_rewrite::number_calls;
 pub use laws::countdown_keeps;

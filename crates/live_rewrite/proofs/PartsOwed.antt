@@ -13,15 +13,15 @@ use Rattle.wa_model.specs.Flat.{FlatFunc, result_got}
 use Rattle.wa_model.specs.FlatFits.{one_run}
 use Rattle.wa_model.specs.FlatView.{flat_func_of}
 use Rattle.flat_laws.specs.Flatten.{flattened}
-use Rattle.flatten.specs.declared.whole.Flattened.{Flattened}
+use Rattle.func_rewrite.specs.Flattened.{Flattened}
 use Rattle.asyncify_runtime.specs.Ids.{ids_behind}
 use Rattle.local_spill.specs.declared.RuntimeIds.{RuntimeIds}
 use Rattle.guard_form.specs.Guarded.{function_body, guarded_code}
 use Rattle.call_frames.specs.FrameParts.{restoring_by_call, saving_by_call}
 use Rattle.call_frames.specs.PlainFrames.{SavedParts, frames_of}
-use Rattle.slim_modules.specs.SlimModule.{Pieces, plain_pieces}
-use Rattle.slim_modules.proofs.SlimModules.{plain_slim}
-use Rattle.live_locals.specs.LiveAt.{LiveAtCalls}
+use Rattle.live_form.specs.SlimModule.{Pieces, plain_pieces}
+use Rattle.live_form.proofs.SlimModules.{plain_slim}
+use Rattle.save_laws.specs.LiveAt.{LiveAtCalls}
 use Rattle.call_classes.specs.declared.frames.FrameParts.{FrameParts}
 use Rattle.call_classes.specs.CallParts.{call_parts, kept_by_sets}
 use Rattle.call_classes.specs.Classes.{KeepSets}

@@ -12,11 +12,11 @@ use Rattle.wa_types.specs.Validity.{Valid}
 use Rattle.wa_model.specs.Flat.{FlatFunc}
 use Rattle.wa_model.specs.FlatView.{flat_func_of}
 use Rattle.flat_laws.specs.Flatten.{flattened}
-use Rattle.flatten.specs.declared.whole.Flattened.{Flattened}
-use Rattle.frame_laws.specs.Layout.{FrameField, kept, kept_count}
+use Rattle.func_rewrite.specs.Flattened.{Flattened}
+use Rattle.live_frames.specs.Layout.{FrameField, kept, kept_count}
 use Rattle.call_frames.specs.PlainFrames.{SavedPart, at_every, at_these}
-use Rattle.live_stacks.specs.LiveFrames.{fields_at}
-use Rattle.live_locals.specs.LiveAt.{KeepsAt, LiveAtCalls}
+use Rattle.live_form.specs.LiveFrames.{fields_at}
+use Rattle.save_laws.specs.LiveAt.{KeepsAt, LiveAtCalls}
 use Rattle.live_passes.specs.Sets.{has}
 use Rattle.save_laws.proofs.SavedLive.{live_is_saved}
 use Rattle.call_classes.specs.CallParts.{kept_by_sets}

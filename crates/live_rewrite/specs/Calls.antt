@@ -3,8 +3,8 @@ use Rattle.std.specs.Prelude.{◌≡◌, List, Bool}
 use Rattle.wa_types.specs.Pausing.{Settings, Numbered}
 use Rattle.wa_types.specs.Syntax.{Func, Module}
 use Rattle.wa_model.specs.FlatView.{flat_func_of}
-use Rattle.flatten.specs.declared.whole.Flattened.{Flattened}
-use Rattle.live_locals.specs.LiveAt.{LiveAtCalls, lists_of}
+use Rattle.func_rewrite.specs.Flattened.{Flattened}
+use Rattle.save_laws.specs.LiveAt.{LiveAtCalls, lists_of}
 use Rattle.live_rewrite.specs.declared.calls.LiveCalls.{LiveCalls}
 
 -- The numbered calls of this function, and exactly what each keeps.

@@ -10,9 +10,8 @@ ghost use Rattle.func_rewrite.specs.Frames.{IsFlattened};
 ghost use Rattle.live_rewrite.specs.Calls.{AreLiveCalls};
 
 use call_graph::Settings;
-use flatten::Flattened;
-use flow_rewrite::number_calls;
-use live_locals::live_at;
+use func_rewrite::Flattened;
+use save_laws::{live_at, number_calls};
 use std::alloc::{AllocError, Global};
 use wa_types::{Func, Module};
 

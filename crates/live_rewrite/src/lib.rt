@@ -10,5 +10,6 @@ mod function;
 mod layouts;
 mod policy;
 
+pub use func_rewrite::{FlatFault, Flattened, flatten_func};
 pub use function::{emit_live_func, write_live_func};
 pub use policy::{emit_by_policy, write_by_policy};

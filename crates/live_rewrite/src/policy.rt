@@ -12,8 +12,7 @@ ghost use Rattle.live_form.specs.EmittedAs.{IsWritten};
 
 use crate::function::{emit_live_func, write_live_func};
 use call_graph::{Policy, Settings};
-use flatten::Flattened;
-use func_rewrite::{Written, emit_func, write_func};
+use func_rewrite::{Flattened, Written, emit_func, write_func};
 use local_spill::RuntimeIds;
 use std::alloc::{AllocError, Global};
 use wa_types::{Func, Module};

@@ -17,8 +17,8 @@ use Rattle.host_turns.specs.Stories.{IsAt}
 use Rattle.host_turns.specs.Supplies.{Takes}
 use Rattle.host_turns.proofs.Tellings.{place_begins, place_whole}
 use Rattle.event_order.specs.declared.shows.Show.{Show}
-use Rattle.told_worlds.specs.Turns.{Teller, ends_program, starting}
-use Rattle.told_notes.specs.Notes.{OnStory}
+use Rattle.turn_taking.specs.Turns.{Teller, ends_program, starting}
+use Rattle.turn_taking.specs.Notes.{OnStory}
 use Rattle.pause_host.specs.declared.program.Program.{Program}
 use Rattle.pause_host.specs.Programs.{Advances, Follows, end_at, end_in, ended_as, lines_left, place_of, supply_with}
 use Rattle.turn_taking.specs.Telling.{TellsNote, supply}

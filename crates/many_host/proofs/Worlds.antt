@@ -7,11 +7,11 @@ use Rattle.wa_model.specs.declared.events.Line.{Line as LineValue}
 use Rattle.wa_model.specs.Outside.{Line}
 use Rattle.wa_model.specs.World.{Device, Program, ProtocolWorld}
 use Rattle.event_order.specs.Dues.{HaveEnded}
-use Rattle.told_worlds.specs.Turns.{Teller}
-use Rattle.told_worlds.proofs.Places.{item, zipped}
-use Rattle.told_notes.specs.Notes.{OnStory}
-use Rattle.told_notes.specs.Laws.{BeginsWorld}
-use Rattle.told_notes.proofs.Worlds.{begun_begins, told_begins, told_whole}
+use Rattle.turn_taking.specs.Turns.{Teller}
+use Rattle.turn_taking.proofs.ToldPlaces.{item, zipped}
+use Rattle.turn_taking.specs.Notes.{OnStory}
+use Rattle.turn_taking.specs.Laws.{BeginsWorld}
+use Rattle.turn_taking.proofs.Worlds.{begun_begins, told_begins, told_whole}
 use Rattle.turn_taking.specs.declared.turns.Stage.{Stage}
 use Rattle.turn_taking.specs.declared.turns.Stage.TheVariants.{Between, Telling, Showing}
 use Rattle.turn_taking.specs.Standing.{AllTold, Held, Standing, TellsNext, held_of}

@@ -13,3 +13,4 @@ mod laws;
 pub use event_order::Show;
 pub use host::Host;
 pub use laws::told_lines_begin_a_world;
+pub use pause_host::{Plan, Program};

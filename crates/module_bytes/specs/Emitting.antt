@@ -6,8 +6,8 @@ use Rattle.wa_types.specs.Pausing.{Settings}
 use Rattle.wa_types.specs.Syntax.{Func, Module}
 use Rattle.wa_types.specs.View.{func_of}
 use Rattle.wa_types.specs.declared.syntax.Func.{Func as FuncValue}
-use Rattle.flatten.specs.Whole.{NonePasses, FirstPasses}
-use Rattle.live_form.specs.EmittedAs.{AreEmitted, IsWritten}
+use Rattle.module_rewrite.specs.FlattenWhole.{NonePasses, FirstPasses}
+use Rattle.live_bytes.specs.EmittedAs.{AreEmitted, IsWritten}
 use Rattle.wasm_encode.specs.Around.{code_entry}
 use Rattle.module_bytes.specs.declared.emitting.Entries.{Entries}
 use Rattle.module_bytes.specs.declared.fault.EmitFault.{EmitFault}

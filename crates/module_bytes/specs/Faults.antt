@@ -1,6 +1,6 @@
 -- Faults of flattening and of writing, as those of emitting.
-use Rattle.flatten.specs.declared.fault.FlatFault.{FlatFault}
-use Rattle.flatten.specs.declared.fault.FlatFault.TheVariants as F
+use Rattle.module_rewrite.specs.FlatFault.{FlatFault}
+use Rattle.module_rewrite.specs.FlatFault.TheVariants as F
 use Rattle.wasm_encode.specs.declared.EncodeFault.{EncodeFault}
 use Rattle.wasm_encode.specs.declared.EncodeFault.TheVariants as E
 use Rattle.module_bytes.specs.declared.fault.EmitFault.{EmitFault}

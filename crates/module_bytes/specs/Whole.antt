@@ -4,8 +4,8 @@ use Rattle.wa_types.specs.Encoding.{Enc}
 use Rattle.wa_types.specs.Modules.{func_imports}
 use Rattle.wa_types.specs.Pausing.{Settings, TellsMayPause}
 use Rattle.wa_types.specs.Syntax.{Module}
-use Rattle.flatten.specs.Whole.{NonePasses}
-use Rattle.live_form.specs.EmittedAs.{EmittedAs}
+use Rattle.module_rewrite.specs.FlattenWhole.{NonePasses}
+use Rattle.live_bytes.specs.EmittedAs.{EmittedAs}
 use Rattle.module_rewrite.specs.Whole.{FirstTooMany}
 use Rattle.module_bytes.specs.declared.fault.EmitFault.{EmitFault}
 use Rattle.module_bytes.specs.declared.fault.EmitFault.TheVariants.{Memory, Locals, TooLong}

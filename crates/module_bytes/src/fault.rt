@@ -1,4 +1,4 @@
-use flatten::FlatFault;
+use module_rewrite::FlatFault;
 use std::alloc::AllocError;
 use thiserror::Error;
 use wasm_encode::EncodeFault;

@@ -10,4 +10,5 @@ mod fault;
 mod whole;
 
 pub use fault::EmitFault;
+pub use module_rewrite::{RewriteFault, asyncify_module};
 pub use whole::{Emitted, emit_module};

@@ -1,3 +1,6 @@
+pub use Rattle.live_rewrite.proofs.Asyncified
+pub use Rattle.live_rewrite.proofs.FitsBy
+pub use Rattle.live_rewrite.proofs.ToldLemmas
 pub mod EmitLemmas
 pub mod FreeNames
 pub mod Spaces

@@ -5,9 +5,9 @@ use Rattle.wa_types.specs.Pausing.{Settings, TellsMayPause}
 use Rattle.wa_types.specs.Syntax.{Module}
 use Rattle.wa_types.specs.View.{module_of}
 use Rattle.asyncify_runtime.specs.Reserved.{reserved_at}
-use Rattle.flatten.specs.Whole.{NonePasses, FirstPasses}
-use Rattle.rewrite_form.specs.Rewritten.{RewritesButRuns}
-use Rattle.live_form.specs.EmittedAs.{EmittedAs}
+use Rattle.live_rewrite.specs.Whole.{NonePasses, FirstPasses}
+use Rattle.live_rewrite.specs.Rewritten.{RewritesButRuns}
+use Rattle.live_rewrite.specs.EmittedAs.{EmittedAs}
 use Rattle.module_rewrite.specs.Emitting.{LaidOut}
 use Rattle.module_rewrite.specs.declared.fault.RewriteFault.{RewriteFault}
 use Rattle.module_rewrite.specs.declared.fault.RewriteFault.TheVariants.{Memory, Locals, Reserved}

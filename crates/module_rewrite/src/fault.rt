@@ -1,5 +1,5 @@
 use asyncify_runtime::ReservedAt;
-use flatten::FlatFault;
+use live_rewrite::FlatFault;
 use std::alloc::AllocError;
 use thiserror::Error;
 

@@ -28,7 +28,7 @@ use Rattle.wa_model.proofs.NamedModules.{each_below}
 use Rattle.run_laws.specs.FittingStates.{EntryTyped}
 use Rattle.run_laws.proofs.Exported.{exports_free}
 use Rattle.host_setup.specs.SetUp.{NamedEntry, all_told, entry_func, entry_funcs, func_in, is_area_in, is_five, least_pages}
-use Rattle.pause_host.specs.Settings.{calls_of}
+use Rattle.world_hosting.specs.Settings.{calls_of}
 use Rattle.original_runs.proofs.Exports.{Found, below_found, contains_found, found_original, named}
 use Rattle.original_runs.proofs.Values.{are_typed}
 

@@ -16,8 +16,8 @@ use Rattle.world_laws.proofs.Stories.{none_ignored}
 use Rattle.world_laws.proofs.Worlds.{worlds_of_originals}
 use Rattle.run_laws.specs.FittingStates.{EntryTyped}
 use Rattle.host_setup.specs.SetUp.{Fault, NamedEntry, all_told, area_bad, entry_funcs, entry_missing, fault_at, first_fault, is_area_in, least_pages, module_fault, set_up, unless_fault}
-use Rattle.pause_host.specs.Settings.{calls_of}
-use Rattle.pause_host.proofs.Making.{set_up_fine}
+use Rattle.world_hosting.specs.Settings.{calls_of}
+use Rattle.world_hosting.proofs.Making.{set_up_fine}
 use Rattle.script_setup.specs.SetUpRules.{named_entry}
 use Rattle.script_setup.proofs.GlobalTypes.{given_by_rules}
 use Rattle.world_hosting.specs.Bindings.{bound_imports}

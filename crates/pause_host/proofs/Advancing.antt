@@ -39,7 +39,7 @@ use Rattle.host_stages.specs.declared.stages.Stage.TheVariants as S
 use Rattle.host_stages.specs.declared.stages.Task.{Task}
 use Rattle.host_stages.specs.declared.stages.Task.TheVariants as T
 use Rattle.host_stages.specs.Views.{exports_in, entry_of, with_asker, answering, giving, place_in, end_of}
-use Rattle.host_pauses.proofs.Comings.{fits_on}
+use Rattle.host_moves.proofs.Comings.{fits_on}
 use Rattle.pause_host.specs.declared.program.Program.{Program}
 use Rattle.pause_host.specs.declared.program.State.{State}
 use Rattle.pause_host.specs.declared.program.State.TheVariants.{Live}

@@ -25,7 +25,7 @@ use Rattle.wa_model.specs.World.{Look}
 use Rattle.wa_model.proofs.FittingNames.{type_small}
 use Rattle.wa_model.proofs.FittingOpenings.{openings_fit}
 use Rattle.wa_model.proofs.NamedModules.{valid_instance}
-use Rattle.stack_laws.proofs.SpotRuns.{start_takes_none}
+use Rattle.run_laws.proofs.SpotRuns.{start_takes_none}
 use Rattle.run_laws.specs.FittingStates.{HeldFits}
 use Rattle.run_laws.proofs.ProtocolStopping.{begun_fits}
 use Rattle.run_laws.proofs.Stopping.{start_there}

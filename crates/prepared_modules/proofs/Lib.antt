@@ -1,3 +1,11 @@
+pub use Rattle.emitted_bytes.proofs.EmittedBy
+pub use Rattle.emitted_bytes.proofs.EmittedFits
+pub use Rattle.emitted_bytes.proofs.EmittedLength
+pub use Rattle.emitted_bytes.proofs.FitsBy
+pub use Rattle.emitted_bytes.proofs.Grown
+pub use Rattle.emitted_bytes.proofs.GrownFits
+pub use Rattle.emitted_bytes.proofs.LengthBy
+pub use Rattle.emitted_bytes.proofs.Lengths
 pub mod Floats
 pub mod Levels
 pub mod Numbers

@@ -1,1 +1,3 @@
+pub use Rattle.emitted_bytes.specs.Emitted
+pub use Rattle.emitted_bytes.specs.Sizes
 pub mod Prepared

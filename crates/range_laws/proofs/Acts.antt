@@ -15,8 +15,8 @@ use Rattle.wa_types.specs.Memory.{Memory, number_at, number_of_bytes, bytes_at, 
 use Rattle.wa_types.specs.Sizes.{value_fits, BasicFits}
 use Rattle.wa_types.specs.Syntax.{Basic, nop, drop, select, const, num, global_get, global_set, load, store, memory_size, memory_grow}
 use Rattle.wa_types.specs.Typing.{type_of}
-use Rattle.wa_ops.specs.Integers.{extend_s}
-use Rattle.wa_ops.specs.Operate.{operate, number_of}
+use Rattle.wa_model.specs.Integers.{extend_s}
+use Rattle.wa_model.specs.Operate.{operate, number_of}
 use Rattle.wa_model.specs.Store.{Store, value_at, Did, works, fails, lacks, chosen, act, computed, width_of, bits_of, extended, loaded, load_at, stored, store_at, grew}
 use Rattle.range_laws.specs.Ranges.{GivenIn, ValuesIn, StoreIn}
 use Rattle.range_laws.proofs.Numbers.{extend_in}

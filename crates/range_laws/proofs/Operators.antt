@@ -16,7 +16,7 @@ use Rattle.wa_types.specs.Encoding.{same_type}
 use Rattle.wa_types.specs.Operators.{operand_types, result_type}
 use Rattle.wa_types.specs.Sizes.{value_fits}
 use Rattle.wa_types.specs.Typing.{type_of}
-use Rattle.wa_ops.specs.Operate.{Meaning, unary, conversion, comparison, binary, meaning_of, number_of, value_of, are_of, applied, valued}
+use Rattle.wa_model.specs.Operate.{Meaning, unary, conversion, comparison, binary, meaning_of, number_of, value_of, are_of, applied, valued}
 use Rattle.range_laws.specs.Ranges.{GivenIn, OperatorsIn}
 use Rattle.range_laws.proofs.Numbers.{OkBelow, truth_in, width_32, width_64, iclz_in, ictz_in, ipopcnt_in, mod_in, div_u_in, div_s_in, rem_u_in, rem_s_in, shr_u_in, shr_s_in, rotl_in, rotr_in, extend_in}
 

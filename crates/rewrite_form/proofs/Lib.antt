@@ -1,3 +1,7 @@
+pub use Rattle.slim_modules.proofs.Calls
+pub use Rattle.slim_modules.proofs.SlimModules
+pub use Rattle.slim_modules.proofs.UnitsAlike
+pub use Rattle.slim_modules.proofs.Whole
 pub mod Emitted
 pub mod EmittedBy
 pub mod EmittedRewritten

@@ -15,10 +15,10 @@ use Rattle.wa_model.specs.Growth.{Each}
 use Rattle.local_spill.specs.declared.frames.Place.{Place}
 use Rattle.local_spill.specs.Spilling.{SpillIndices, location_of, room_tested, stored_value, loaded_value, locals_stored, locals_loaded, saving, restoring}
 use Rattle.wa_model.specs.Store.{gives}
-use Rattle.slim_form.specs.Slim as S
-use Rattle.slim_form.specs.Slim.{Free, Slims, Terms}
-use Rattle.guard_form.specs.Pieces.{Units, no_unit, call_unit, nest_unit, if_unit, numbers_in, call_to, flat_units}
-use Rattle.guard_form.specs.Guarded.{raise, raised_plain, raised, GuardIndices, by_state, index_with, guarded, sought, noted, choice, arm, front, written_body}
+use Rattle.slim_modules.specs.Slim as S
+use Rattle.slim_modules.specs.Slim.{Free, Slims, Terms}
+use Rattle.slim_modules.specs.Pieces.{Units, no_unit, call_unit, nest_unit, if_unit, numbers_in, call_to, flat_units}
+use Rattle.slim_modules.specs.Guarded.{raise, raised_plain, raised, GuardIndices, by_state, index_with, guarded, sought, noted, choice, arm, front, written_body}
 
 -- ---- marks
 

@@ -14,7 +14,7 @@ use Rattle.wa_types.specs.Typing.{Around, Types, Typed}
 use Rattle.wa_types.specs.Validity.{Valid}
 use Rattle.wa_model.proofs.GrownSteps.{front}
 use Rattle.wa_model.proofs.RuntimeValid.{behind}
-use Rattle.flat_laws.specs.Flatten.{flattened}
+use Rattle.slim_modules.specs.Flatten.{flattened}
 use Rattle.frame_laws.specs.Layout.{kept, gap}
 use Rattle.frame_laws.specs.Typed.{FieldsTyped, LayoutTyped}
 use Rattle.frame_laws.proofs.FrameTypes.{save_typed, restore_typed}

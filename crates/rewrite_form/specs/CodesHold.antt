@@ -11,7 +11,7 @@ use Rattle.wa_types.specs.Sizes.{code_lists}
 use Rattle.wa_types.specs.Syntax.{Code, Func, Module}
 use Rattle.wa_types.specs.Typing.{Around, Types}
 use Rattle.wa_model.specs.Rewrites.{frames_size, instructions_and_labels}
-use Rattle.flat_laws.specs.Flatten.{flattened}
+use Rattle.slim_modules.specs.Flatten.{flattened}
 use Rattle.slim_modules.specs.SlimModule.{SlimPieces}
 use Rattle.rewrite_form.specs.EmittedBy.{FrameCode}
 

@@ -7,10 +7,10 @@ use Rattle.wa_types.specs.Pausing.{save_all, Settings, is_told, Numbered}
 use Rattle.wa_types.specs.Runtime.{global_space}
 use Rattle.wa_types.specs.Syntax.{done, Func, Module}
 use Rattle.wa_model.specs.Flat.{FlatFunc}
-use Rattle.flat_laws.specs.Flatten.{flattened}
-use Rattle.flat_laws.specs.FlatModule.{stacks_in}
+use Rattle.slim_modules.specs.Flatten.{flattened}
+use Rattle.slim_modules.specs.FlatModule.{stacks_in}
 use Rattle.frame_laws.specs.Layout.{FrameField, kept, gap, Layout, save_code, restore_code}
-use Rattle.guard_form.specs.Functions.{GuardedFunc, Role, as_is, with_guards}
+use Rattle.slim_modules.specs.Functions.{GuardedFunc, Role, as_is, with_guards}
 use Rattle.slim_modules.specs.SlimModule.{plain_pieces}
 use Rattle.rewrite_form.specs.EmittedBy.{FrameCode, asyncified_by, func_by, funcs_by, guarded_by, written_by}
 

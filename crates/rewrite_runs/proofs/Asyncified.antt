@@ -23,23 +23,23 @@ use Rattle.wa_model.specs.Quiet.{FreeOfNames}
 use Rattle.wa_model.proofs.BaseValid.{base_valid}
 use Rattle.wa_model.proofs.FittingSteps.{body_typed}
 use Rattle.wa_model.proofs.Runs.{lt_true}
-use Rattle.range_laws.proofs.BlockingRuns.{well_formed_in}
+use Rattle.flat_guards.proofs.BlockingRuns.{well_formed_in}
 use Rattle.flat_laws.specs.FlatModule.{stacks_in}
 use Rattle.flat_laws.specs.Flatten.{flattened, names, slots}
 use Rattle.flat_laws.proofs.RuntimeModules.{base_flattened, base_slots}
 use Rattle.flat_laws.proofs.Sizes.{stacks_are_slots}
-use Rattle.frame_laws.specs.Layout.{Layout, FrameField, restore_code, save_code}
-use Rattle.slim_modules.specs.SlimModule.{Pieces, plain_pieces}
+use Rattle.emitted_bytes.specs.Layout.{Layout, FrameField, restore_code, save_code}
+use Rattle.flat_guards.specs.SlimModule.{Pieces, plain_pieces}
 use Rattle.flat_guards.specs.Emitted.{Emitted, KeepsEnough, fields_of, layout_of, AllKeepEnough, Framing, kept_frames, lay_at, plain_at, plain_where}
 use Rattle.flat_guards.proofs.KeptFields.{all_places}
 use Rattle.flat_guards.proofs.PairedFlat.{base_defined, base_locals}
 use Rattle.flat_guards.proofs.PauseCosts.{emitted_behave}
-use Rattle.rewrite_form.specs.Emitted.{asyncified, field_where, frame_layout, holds_operand, is_kept, layout_codes, or_none}
-use Rattle.rewrite_form.specs.EmittedBy.{FrameCode}
-use Rattle.rewrite_form.specs.Sizes.{FewWritten}
-use Rattle.rewrite_form.proofs.WrittenSizes.{layouts_hold}
+use Rattle.emitted_bytes.specs.Emitted.{asyncified, field_where, frame_layout, holds_operand, is_kept, layout_codes, or_none}
+use Rattle.emitted_bytes.specs.EmittedBy.{FrameCode}
+use Rattle.emitted_bytes.specs.Sizes.{FewWritten}
+use Rattle.emitted_bytes.proofs.WrittenSizes.{layouts_hold}
 use Rattle.rewrite_runs.proofs.EmittedSo as By
-use Rattle.rewrite_form.proofs.EmittedRewritten.{rewritten_law, runs_law, valid_law}
+use Rattle.emitted_bytes.proofs.EmittedRewritten.{rewritten_law, runs_law, valid_law}
 use Rattle.emitted_bytes.proofs.EmittedFits.{emitted_fits}
 use Rattle.rewrite_runs.specs.Laws.{AsyncifiedIsRewritten}
 

@@ -21,21 +21,21 @@ use Rattle.flat_laws.specs.FlatModule.{extra_types, flat_func, stacks_in}
 use Rattle.flat_laws.specs.Flatten.{Names, flattened, names}
 use Rattle.flat_laws.proofs.FlatModules.{is_flat}
 use Rattle.flat_laws.proofs.RuntimeModules.{base_flattened, base_names, base_results, base_slots}
-use Rattle.flat_fits.proofs.Calls.{calls_stay}
-use Rattle.flat_fits.proofs.Whole.{counted, meets}
-use Rattle.guard_form.specs.Functions.{GuardedFunc, with_guards, written_code}
-use Rattle.guard_form.specs.Pieces.{first_piece, units}
-use Rattle.slim_form.specs.Slim.{Terms}
-use Rattle.slim_units.specs.Laws.{ToHeld}
-use Rattle.slim_units.specs.SlimUnits.{SlimUnits}
-use Rattle.slim_modules.specs.SlimModule.{Pieces, SlimPieces, fixed_at, flat_terms, is_slot}
+use Rattle.emitted_bytes.proofs.Calls.{calls_stay}
+use Rattle.emitted_bytes.proofs.Whole.{counted, meets}
+use Rattle.flat_guards.specs.Functions.{GuardedFunc, with_guards, written_code}
+use Rattle.emitted_bytes.specs.Pieces.{first_piece, units}
+use Rattle.emitted_bytes.specs.Slim.{Terms}
+use Rattle.emitted_bytes.specs.Laws.{ToHeld}
+use Rattle.emitted_bytes.specs.SlimUnits.{SlimUnits}
+use Rattle.flat_guards.specs.SlimModule.{Pieces, SlimPieces, fixed_at, flat_terms, is_slot}
 use Rattle.flat_guards.specs.Emitted.{Emitted, WrittenAs, guarded_of, Framing}
 use Rattle.flat_guards.proofs.PairedFlat.{base_defined, base_locals, defined_by}
-use Rattle.rewrite_form.specs.CodesHold.{AllCodesHold}
-use Rattle.rewrite_form.specs.EmittedBy.{FrameCode, asyncified_by, func_by, guarded_by, written_by}
-use Rattle.rewrite_form.specs.Sizes.{FewWritten}
-use Rattle.rewrite_form.proofs.EmittedBy.{emitted_at, funcs_are, inner, not_told, runtime, same_sorts, told}
-use Rattle.rewrite_form.proofs.EmittedRewritten.{rewritten_but_runs}
+use Rattle.emitted_bytes.specs.CodesHold.{AllCodesHold}
+use Rattle.emitted_bytes.specs.EmittedBy.{FrameCode, asyncified_by, func_by, guarded_by, written_by}
+use Rattle.emitted_bytes.specs.Sizes.{FewWritten}
+use Rattle.emitted_bytes.proofs.EmittedBy.{emitted_at, funcs_are, inner, not_told, runtime, same_sorts, told}
+use Rattle.emitted_bytes.proofs.EmittedRewritten.{rewritten_but_runs}
 
 -- ---- lists
 

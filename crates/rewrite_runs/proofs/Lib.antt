@@ -1,2 +1,10 @@
+pub use Rattle.emitted_bytes.proofs.BasicCode
+pub use Rattle.emitted_bytes.proofs.EmittedBy
+pub use Rattle.emitted_bytes.proofs.EmittedRewritten
+pub use Rattle.emitted_bytes.proofs.EmittedSizes
+pub use Rattle.emitted_bytes.proofs.FitsBy
+pub use Rattle.emitted_bytes.proofs.SizesBy
+pub use Rattle.emitted_bytes.proofs.Spaces
+pub use Rattle.emitted_bytes.proofs.WrittenTypes
 pub mod Asyncified
 pub mod EmittedSo

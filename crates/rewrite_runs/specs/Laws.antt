@@ -6,8 +6,8 @@ use Rattle.wa_types.specs.Syntax.{Module}
 use Rattle.wa_types.specs.Validity.{Valid}
 use Rattle.wa_model.specs.Quiet.{FreeOfNames}
 use Rattle.wa_model.specs.Rewrites.{Rewrites}
-use Rattle.rewrite_form.specs.Emitted.{asyncified}
-use Rattle.rewrite_form.specs.Sizes.{FewWritten}
+use Rattle.emitted_bytes.specs.Emitted.{asyncified}
+use Rattle.emitted_bytes.specs.Sizes.{FewWritten}
 
 -- Of a valid module without a reserved name, under the strict size rule, of which the functions that may pause are written, each with
 -- at most 50,000 locals, the emitted module is the original, rewritten.

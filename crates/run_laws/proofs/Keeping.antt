@@ -13,7 +13,7 @@ use Rattle.wa_types.specs.Typing.{type_of}
 use Rattle.wa_types.specs.Syntax.{Basic, nop, drop as a_drop, select, const, num, global_get, global_set, load, store, memory_size, memory_grow, basic, local_get, local_set, local_tee, br, br_if, br_table, return, unreachable, call, call_indirect, a_block, a_loop, Code, done, plain, nest, branch, Func, Module}
 use Rattle.wa_types.specs.Modules.{func_imports, func_type_at, type_at, defined_at}
 use Rattle.wa_types.proofs.MemoryLemmas.{length-bytes_of, length-overwritten, bytes_at-overwritten_below, bytes_at-overwritten_behind}
-use Rattle.wa_ops.specs.Operate.{operate, number_of}
+use Rattle.wa_model.specs.Operate.{operate, number_of}
 use Rattle.wa_model.specs.declared.answers.Area.{Area}
 use Rattle.wa_model.specs.Machine.{Turn, goes, Ran, after, run, Leads, stays, moves}
 use Rattle.wa_model.specs.Store.{Store, Did, works, fails, lacks, takes, act, computed, load_at, loaded, store_at, stored, width_of, access_of}

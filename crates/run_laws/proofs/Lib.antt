@@ -1,3 +1,9 @@
+pub use Rattle.stack_laws.proofs.SpotPlaces
+pub use Rattle.stack_laws.proofs.SpotRuns
+pub use Rattle.stack_laws.proofs.SpotSteps
+pub use Rattle.stack_laws.proofs.StandingPauses
+pub use Rattle.stack_laws.proofs.StandingStates
+pub use Rattle.stack_laws.proofs.StandingSteps
 pub mod Ending
 pub mod Exported
 pub mod Growing

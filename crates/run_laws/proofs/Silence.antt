@@ -8,7 +8,7 @@ use Rattle.wa_types.specs.declared.values.Value.{Value}
 use Rattle.wa_types.specs.declared.values.Value.TheVariants as V
 use Rattle.wa_types.specs.declared.values.Trap.{Trap}
 use Rattle.std.specs.Prelude.{Result, Ok, Err}
-use Rattle.wa_ops.specs.Operate.{operate}
+use Rattle.wa_model.specs.Operate.{operate}
 use Rattle.wa_model.specs.declared.answers.Area.{Area}
 use Rattle.wa_model.specs.Machine.{goes, stays, moves}
 use Rattle.wa_model.specs.Store.{Store, Did, works, fails, lacks, takes, act, computed, Access}

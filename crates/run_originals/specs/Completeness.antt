@@ -7,7 +7,7 @@ use Rattle.world_laws.specs.Originals.{met}
 use Rattle.event_order.specs.Left.{Counted}
 use Rattle.script_opening.specs.Playing.{Play, detaches_in}
 use Rattle.script_opening.specs.declared.way.Way.TheVariants.{Run}
-use Rattle.world_hosting.specs.Worlds.{AreTold}
+use Rattle.script_opening.specs.Worlds.{AreTold}
 use Rattle.original_runs.specs.Endings.{EndsAs}
 use Rattle.original_runs.specs.OriginalRuns.{Source, StaysOff, originals_for}
 use Rattle.run_originals.specs.RunOriginals.{IsSource}

@@ -6,12 +6,12 @@ use Rattle.wa_model.specs.Transcript.{Names, Transcript}
 use Rattle.wa_model.specs.World.{BlockingWorld}
 use Rattle.event_order.specs.Left.{Counted}
 use Rattle.turn_taking.specs.Calls.{devices_of}
-use Rattle.source_modules.specs.Sources.{IsValidSource}
+use Rattle.script_opening.specs.Sources.{IsValidSource}
 use Rattle.host_files.specs.Views.{Holds}
 use Rattle.script_setup.specs.SetUpRules.{program_names}
 use Rattle.script_opening.specs.Playing.{Play, detaches_in, settings_for}
 use Rattle.script_opening.specs.declared.way.Way.TheVariants.{Run}
-use Rattle.world_hosting.specs.Worlds.{AreTold, Part, turn_count}
+use Rattle.script_opening.specs.Worlds.{AreTold, Part, turn_count}
 use Rattle.original_runs.specs.OriginalRuns.{Source, StaysOff, originals_for}
 
 -- The program's file spells this valid module, and these are the settings of its lines.

@@ -4,3 +4,4 @@
 mod laws;
 
 pub use laws::live_is_saved;
+pub use live_locals::{live_at, number_calls};

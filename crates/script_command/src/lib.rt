@@ -9,3 +9,4 @@ mod playing;
 mod staging;
 
 pub use playing::play_script;
+pub use script_verdicts::{Way, run_transform};

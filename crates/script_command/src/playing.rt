@@ -3,11 +3,11 @@ ghost use Rattle.std.specs.Prelude.{◌≡◌, ◌≤◌, ℕ, List, Option, len
 ghost use Rattle.vault_port.specs.Files.{Files};
 ghost use Rattle.event_order.specs.Left.{Counted};
 ghost use Rattle.host_turns.specs.Supplies.{IsLent};
-ghost use Rattle.script_opening.specs.Playing.{Play, detaches_in};
-ghost use Rattle.script_opening.specs.Views.{Blames, CanPlay, Opens};
-ghost use Rattle.script_opening.specs.declared.way.Way.{Way as WayValue};
-ghost use Rattle.world_hosting.specs.Counts.{counted};
-ghost use Rattle.world_hosting.specs.Views.{AreStaged};
+ghost use Rattle.script_verdicts.specs.Playing.{Play, detaches_in};
+ghost use Rattle.script_verdicts.specs.Views.{Blames, CanPlay, Opens};
+ghost use Rattle.script_verdicts.specs.Way.{Way as WayValue};
+ghost use Rattle.script_verdicts.specs.Counts.{counted};
+ghost use Rattle.script_verdicts.specs.WorldViews.{AreStaged};
 ghost use Rattle.script_command.specs.Answers.{HasOneEnd};
 ghost use Rattle.script_command.specs.Ends.{HasEnd, IsStatus, call};
 ghost use Rattle.script_command.specs.Faults.{IsToldFault};
@@ -15,12 +15,11 @@ ghost use Rattle.script_command.specs.Faults.{IsToldFault};
 use crate::staging::stage_all;
 use device_port::{Device, Devices};
 use printing::{out_of_memory, refuse, refuse_program};
-use script_opening::{OpenFault, Opened, Programs, Way, open_script};
+use script_verdicts::{OpenFault, Opened, Programs, Staged, Way, host_programs, open_script};
 use std::alloc::Global;
 use transcript::RefusalKind;
 use vault_port::{PutFault, Sink, Vault};
 use wa_model::Detach;
-use world_hosting::{Staged, host_programs};
 
 /// The status of a sink that failed while a transcript was printed.
 const SINK_FAULT: u8 = 12;

@@ -1,13 +1,12 @@
 // Programs over the modules of a script.
 ghost use Rattle.std.specs.Prelude.{◌≡◌, IfOk};
 ghost use Rattle.std.specs.List.{AllZip};
-ghost use Rattle.script_opening.specs.Views.{CanStage, parts_of};
-ghost use Rattle.world_hosting.specs.Views.{AreStaged};
+ghost use Rattle.script_verdicts.specs.Views.{CanStage, parts_of};
+ghost use Rattle.script_verdicts.specs.WorldViews.{AreStaged};
 
-use script_opening::Planned;
+use script_verdicts::{Planned, Staged, stage_program};
 use std::alloc::{AllocError, Global};
 use wasm_validate::Valid;
-use world_hosting::{Staged, stage_program};
 
 /// The programs that are planned over these modules, of which none has told anything.
 pub(crate) fn stage_all<'m>(

@@ -12,3 +12,4 @@ mod way;
 pub use opening::{OpenFault, Opened, open_script};
 pub use programs::{Planned, Programs};
 pub use way::Way;
+pub use world_hosting::{Staged, host_programs, stage_program};

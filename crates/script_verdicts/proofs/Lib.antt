@@ -1,3 +1,5 @@
+pub use Rattle.transform_command.proofs.OneEnd
+pub use Rattle.transform_command.proofs.Printed
 pub mod Modules
 pub mod OneRead
 pub mod Prepared

@@ -9,8 +9,8 @@ use Rattle.wa_model.specs.Script.{ProgramText}
 use Rattle.wa_model.specs.Transcript.{Refusal}
 use Rattle.host_files.proofs.Fronts.{own_bytes}
 use Rattle.host_modules.specs.Prepared.{IsPrepared, IsUnprepared}
-use Rattle.source_modules.specs.Running.{RunsAs}
-use Rattle.source_modules.specs.Sources.{Cause, malformed, float, deep, limit, reserved, invalid, rewritten_locals, long_output, IsRefusedFor}
+use Rattle.script_opening.specs.Running.{RunsAs}
+use Rattle.script_opening.specs.Sources.{Cause, malformed, float, deep, limit, reserved, invalid, rewritten_locals, long_output, IsRefusedFor}
 use Rattle.transform_command.proofs.Verdicts as V
 use Rattle.script_opening.specs.declared.way.Way.{Way}
 use Rattle.script_opening.specs.declared.way.Way.TheVariants.{Host, Run}

@@ -10,7 +10,7 @@ use Rattle.host_files.specs.Scripts.{HasFault, IsNoScript, IsScript, most_bytes,
 use Rattle.host_files.specs.Views.{Holds}
 use Rattle.host_files.proofs.Fronts.{own_bytes}
 use Rattle.script_setup.specs.SetUpRules.{SetUp, set_up_rules}
-use Rattle.world_hosting.specs.Worlds.{Part}
+use Rattle.script_opening.specs.Worlds.{Part}
 use Rattle.script_opening.specs.declared.way.Way.{Way}
 use Rattle.script_opening.specs.declared.way.Way.TheVariants.{Host, Run}
 use Rattle.script_opening.specs.Playing.{AreStages, BreaksRule, Cause, HasScript, IsBadModule, IsModule, IsRead, IsReached, IsRefused, IsStage, Play, Reaches}

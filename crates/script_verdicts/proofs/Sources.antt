@@ -16,8 +16,8 @@ use Rattle.wa_model.specs.Transcript.{Refusal}
 use Rattle.wasm_reader.specs.declared.read_fault.ReadFault.{ReadFault}
 use Rattle.wasm_reader.specs.declared.read_fault.ReadFault.TheVariants.{Memory, Malformed, Float, Deep, Limit}
 use Rattle.wasm_reader.specs.Answers.{IsAccepted, IsRefused}
-use Rattle.source_modules.specs.Sources.{Cause, malformed, float, deep, limit, reserved, invalid, rewritten_locals, long_output}
-use Rattle.source_modules.specs.Sources.{IsFree, IsRefusedFor, IsValidSource, refusal_for, reserved_name, rewritten_counts}
+use Rattle.script_opening.specs.Sources.{Cause, malformed, float, deep, limit, reserved, invalid, rewritten_locals, long_output}
+use Rattle.script_opening.specs.Sources.{IsFree, IsRefusedFor, IsValidSource, refusal_for, reserved_name, rewritten_counts}
 use Rattle.script_opening.specs.Playing.{IsUnwritten}
 use Rattle.script_verdicts.proofs.OneRead.{accepted_passes, one_accepted, one_read_fault}
 use Rattle.script_verdicts.proofs.Prepared.{refusal_of_read}

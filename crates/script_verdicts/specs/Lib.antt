@@ -1,1 +1,14 @@
+pub use Rattle.script_opening.specs.Counts
+pub use Rattle.script_opening.specs.Playing
+pub use Rattle.script_opening.specs.Sources
+pub use Rattle.script_opening.specs.Staged
+pub use Rattle.script_opening.specs.Views
+pub use Rattle.script_opening.specs.WorldViews
+pub use Rattle.script_opening.specs.Worlds
+pub use Rattle.script_opening.specs.declared.opening.OpenFault
+pub use Rattle.script_opening.specs.declared.opening.Opened
+pub use Rattle.script_opening.specs.declared.programs.Planned
+pub use Rattle.script_opening.specs.declared.way.Way
+pub use Rattle.transform_command.specs.Ends
+pub use Rattle.transform_command.specs.Transforms
 pub mod Laws

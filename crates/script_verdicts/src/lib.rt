@@ -6,3 +6,7 @@
 mod laws;
 
 pub use laws::{causes_are_one, played_is_not_refused};
+pub use script_opening::{
+    OpenFault, Opened, Planned, Programs, Staged, Way, host_programs, open_script, stage_program,
+};
+pub use transform_command::run_transform;

@@ -17,7 +17,7 @@ use Rattle.wa_model.specs.Store.{Store}
 use Rattle.wa_model.specs.Untouched.{next_access}
 use Rattle.wa_model.proofs.FittingRuns.{answers_fit, calls_fit}
 use Rattle.wa_model.proofs.FittingSteps.{steps_fit}
-use Rattle.flat_laws.proofs.FlatModules.{is_there}
+use Rattle.flat_runs.proofs.FlatModules.{is_there}
 use Rattle.flat_runs.specs.Beside.{Asked, Beside, Loud, first_of}
 use Rattle.flat_runs.specs.Reducing.{Acts, Counted, FlatNext, FlatSteps, nothing, whole}
 use Rattle.flat_runs.proofs.Reductions as R
@@ -26,7 +26,7 @@ use Rattle.flat_links.specs.Beside as L
 use Rattle.flat_links.specs.Beside.{BesideLaw, ComesBeside, EndsBeside, EntersBeside, NextBeside, SameAccess, StepsBeside}
 use Rattle.flat_links.specs.Core.{Core, CoreFits, based}
 use Rattle.flat_links.proofs.Spaces.{func_type_same, globals_same, results_same, sorts_same}
-use Rattle.slim_form.specs.Slim.{Terms}
+use Rattle.slim_runs.specs.Slim.{Terms}
 use Rattle.slim_runs.specs.Beside as S
 use Rattle.slim_runs.specs.Beside.{ComesToo, it_steps, it_asks, it_returns, it_traps, it_is_stuck, SameNext, Saving, Sides, Twin, both_import, both_defined, lean}
 use Rattle.slim_runs.proofs.Running as SR

@@ -19,11 +19,11 @@ use Rattle.flat_laws.specs.FlatModule.{extra_types, flat_func, flat_module}
 use Rattle.flat_laws.specs.Flatten.{flattened}
 use Rattle.flat_laws.proofs.FlatModules.{defined_in, found, is_flat, sorts_stay, told_as, valid_is_flattened, valid_stays}
 use Rattle.flat_runs.specs.Beside.{first_in, first_of}
-use Rattle.guard_form.specs.Pieces.{first_piece, units}
-use Rattle.guard_form.proofs.Grouped.{joins_law}
-use Rattle.slim_form.specs.Slim.{Slims, Terms}
-use Rattle.slim_form.proofs.EmittedCode.{same_slim}
-use Rattle.slim_form.proofs.KeptTypes.{bodies_are_typed}
+use Rattle.slim_units.specs.Pieces.{first_piece, units}
+use Rattle.slim_units.proofs.Grouped.{joins_law}
+use Rattle.slim_runs.specs.Slim.{Slims, Terms}
+use Rattle.slim_runs.proofs.EmittedCode.{same_slim}
+use Rattle.slim_runs.proofs.KeptTypes.{bodies_are_typed}
 use Rattle.slim_runs.specs.Beside.{Sides, Twin, both_defined, both_import}
 use Rattle.slim_units.proofs.UnitsSlim.{body_law}
 use Rattle.slim_modules.specs.SlimModule.{AllSlimPieces, Pieces, SlimPieces, body_of_func, body_with, flat_terms, module_terms, plain_terms, slim_module, terms_where, with_bodies, with_body}

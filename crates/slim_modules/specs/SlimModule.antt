@@ -6,9 +6,9 @@ use Rattle.wa_types.specs.Syntax.{a_block, Code, done, Func, Module, nest}
 use Rattle.wa_model.specs.Flat.{FlatFunc, followed_by, result_got}
 use Rattle.flat_laws.specs.FlatModule.{flat_module, stacks_in}
 use Rattle.flat_laws.specs.Flatten.{Names, flattened, names}
-use Rattle.guard_form.specs.Grouping.{is_place}
-use Rattle.guard_form.specs.Pieces.{Units, first_piece, flat_units, units}
-use Rattle.slim_form.specs.Slim.{Free, Terms}
+use Rattle.slim_units.specs.Grouping.{is_place}
+use Rattle.slim_units.specs.Pieces.{Units, first_piece, flat_units, units}
+use Rattle.slim_runs.specs.Slim.{Free, Terms}
 use Rattle.slim_units.specs.Laws.{ToHeld}
 use Rattle.slim_units.specs.SlimUnits.{SlimUnits}
 

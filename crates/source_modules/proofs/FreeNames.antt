@@ -14,9 +14,9 @@ use Rattle.wa_types.specs.Validity.{Valid}
 use Rattle.wa_types.specs.Runtime.{runtime_names}
 use Rattle.wa_model.specs.Rewrites.{Rewrites}
 use Rattle.wa_model.specs.Quiet.{FreeOfNames}
-use Rattle.rewrite_form.specs.Sizes.{FewWritten}
-use Rattle.live_form.specs.EmittedAs.{EmittedAs}
-use Rattle.live_form.proofs.PolicyCases.{rewrites_as}
+use Rattle.module_bytes.specs.Sizes.{FewWritten}
+use Rattle.module_bytes.specs.EmittedAs.{EmittedAs}
+use Rattle.module_bytes.proofs.PolicyCases.{rewrites_as}
 use Rattle.wa_types.specs.Norm.{Norm}
 use Rattle.norm_laws.proofs.Norms.{norm_rewritten}
 use Rattle.asyncify_runtime.specs.Reserved.{is_runtime_name, reserved_import, reserved_export, first_reserved, reserved_at}

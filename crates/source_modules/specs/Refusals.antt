@@ -2,8 +2,8 @@
 use Rattle.std.specs.Prelude.{◌≡◌, List, ℕ}
 use Rattle.wasm_reader.specs.declared.read_fault.ReadFault.{ReadFault}
 use Rattle.wasm_reader.specs.declared.read_fault.ReadFault.TheVariants.{Memory as read_memory, Malformed as read_malformed, Float as read_float, Deep as read_deep, Limit as read_limit}
-use Rattle.module_rewrite.specs.declared.fault.RewriteFault.{RewriteFault}
-use Rattle.module_rewrite.specs.declared.fault.RewriteFault.TheVariants.{Memory as rewrite_memory, Locals as rewrite_locals, Reserved as rewrite_reserved}
+use Rattle.module_bytes.specs.RewriteFault.{RewriteFault}
+use Rattle.module_bytes.specs.RewriteFault.TheVariants.{Memory as rewrite_memory, Locals as rewrite_locals, Reserved as rewrite_reserved}
 use Rattle.module_bytes.specs.declared.fault.EmitFault.{EmitFault}
 use Rattle.module_bytes.specs.declared.fault.EmitFault.TheVariants.{Memory as emit_memory, Locals as emit_locals, TooLong as emit_too_long}
 use Rattle.source_modules.specs.declared.refusals.Refusal.{Refusal}

@@ -22,7 +22,7 @@ use Rattle.wasm_reader.specs.Answers.{IsAccepted, IsRefused}
 use Rattle.asyncify_runtime.specs.declared.reserving.ReservedAt.{ReservedAt}
 use Rattle.asyncify_runtime.specs.declared.reserving.ReservedAt.TheVariants.{Import as at_import, Export as at_export}
 use Rattle.asyncify_runtime.specs.Reserved.{reserved_at}
-use Rattle.live_form.specs.EmittedAs.{EmittedAs}
+use Rattle.module_bytes.specs.EmittedAs.{EmittedAs}
 
 -- The bytes spell this module, without a float and within the limits of a source module, under no reserved name.
 pub record IsFree (bytes : List ℕ) (m : Module) : Type 0 where

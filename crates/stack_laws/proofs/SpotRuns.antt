@@ -18,7 +18,7 @@ use Rattle.wa_types.specs.Validity.{is_empty_type, start_fits, Valid}
 use Rattle.wa_types.specs.Modules.{imported, imported_global, func_imports, func_types, func_type_at, or_empty, locals_of, around, defined_at}
 use Rattle.wa_types.proofs.PointLemmas.{takes_after, passes}
 use Rattle.wa_types.proofs.TypingLemmas.{pruned_types}
-use Rattle.wa_ops.specs.Operate.{are_of}
+use Rattle.wa_model.specs.Operate.{are_of}
 use Rattle.wa_model.specs.declared.events.End.{End}
 use Rattle.wa_model.specs.Outside.{Answer, answered}
 use Rattle.wa_model.specs.Machine.{Turn, stops}

@@ -5,7 +5,7 @@ use Rattle.wa_model.specs.Outside.{AnswerLine, Call, Event, called, answered, pa
 use Rattle.wa_model.specs.Plan.{Outcome}
 use Rattle.wa_model.specs.Blocking.{Note, events_of}
 use Rattle.wa_model.specs.World.{Device, Look, Program, CallsMeet, NoteMeets, behind_turn, call_in, ends_turn, events_with_looks, is_end, turn_of}
-use Rattle.world_laws.proofs.Counting.{Ends}
+use Rattle.told_worlds.proofs.Counting.{Ends}
 use Rattle.told_worlds.specs.Turns.{EndsOnce, IsRest, ends_program}
 use Rattle.told_notes.specs.Notes.{GoesOn}
 use Rattle.told_notes.proofs.Notes.{no_end, no_looks}

@@ -8,8 +8,8 @@ use Rattle.wa_model.specs.Outside.{AnswerLine, Call, Line}
 use Rattle.wa_model.specs.Plan.{Outcome}
 use Rattle.wa_model.specs.Blocking.{Note}
 use Rattle.wa_model.specs.World.{Device, Program, CallsMeet, NoteMeets, call_in}
-use Rattle.world_laws.specs.Originals.{one_if, new_calls}
-use Rattle.world_laws.proofs.Counting.{calls_on}
+use Rattle.told_worlds.specs.Originals.{one_if, new_calls}
+use Rattle.told_worlds.proofs.Counting.{calls_on}
 use Rattle.told_worlds.specs.Turns.{Teller, starting, having_told, Tells}
 use Rattle.told_worlds.proofs.Places.{set_here, set_there}
 use Rattle.told_notes.specs.Notes.{TellsOn}

@@ -1,3 +1,4 @@
+pub use Rattle.told_worlds.proofs.Places
 pub mod Begun
 pub mod Completed
 pub mod Counted

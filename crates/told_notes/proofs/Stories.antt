@@ -9,9 +9,9 @@ use Rattle.wa_model.specs.Outside.{AnswerLine, Call}
 use Rattle.wa_model.specs.Plan.{Outcome, ValueFits, given, refused}
 use Rattle.wa_model.specs.Blocking.{Note}
 use Rattle.wa_model.specs.World.{Device, Program, Reply, CallsMeet, Meets, MeetsBound, MeetsDevice, base_names, is_end, is_named, journaled, name_at, protocol_story}
-use Rattle.world_laws.specs.Originals.{new_calls}
-use Rattle.world_laws.proofs.CallLists.{call_list, ListMeet, from_list, list_calls, list_length, list_more, list_on, none_listed}
-use Rattle.world_laws.proofs.Counting.{Ends, calls_on}
+use Rattle.told_worlds.specs.Originals.{new_calls}
+use Rattle.told_worlds.proofs.CallLists.{call_list, ListMeet, from_list, list_calls, list_length, list_more, list_on, none_listed}
+use Rattle.told_worlds.proofs.Counting.{Ends, calls_on}
 use Rattle.world_runs.proofs.LineCalls.{bound_to, list_by_lines}
 use Rattle.world_runs.proofs.Openings.{Closed, Open, call_listed, left_of}
 use Rattle.world_runs.proofs.StoryParts.{story_ends}

@@ -9,7 +9,7 @@ use Rattle.wa_model.specs.Outside.{Line}
 use Rattle.wa_model.specs.Plan.{Outcome}
 use Rattle.wa_model.specs.Blocking.{Note, events_of}
 use Rattle.wa_model.specs.World.{Device, Program, CallsMeet, ProtocolWorld, behind_turn, detached, events_with_looks, line_at, protocol_story, turn_of}
-use Rattle.world_laws.proofs.Counting.{Ends}
+use Rattle.told_worlds.proofs.Counting.{Ends}
 use Rattle.world_runs.proofs.GoingOn.{worlds_go_on}
 use Rattle.world_runs.proofs.LineCalls.{turn_parts}
 use Rattle.event_order.specs.Dues.{IsLeast}

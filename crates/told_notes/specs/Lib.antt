@@ -1,2 +1,3 @@
+pub use Rattle.told_worlds.specs.Turns
 pub mod Laws
 pub mod Notes

@@ -11,8 +11,8 @@ use Rattle.wa_types.specs.FirstFault.{FirstFault}
 use Rattle.wa_types.specs.Encoding.{Enc}
 use Rattle.wa_types.specs.Pausing.{Settings, TellsMayPause}
 use Rattle.slot_laws.proofs.Closed.{one_list}
-use Rattle.live_form.specs.EmittedAs.{EmittedAs}
-use Rattle.live_form.proofs.OneEmitted.{one_emitted}
+use Rattle.source_modules.specs.EmittedAs.{EmittedAs}
+use Rattle.source_modules.proofs.OneEmitted.{one_emitted}
 use Rattle.wa_types.specs.Syntax.{Module}
 use Rattle.wa_types.proofs.FaultLemmas.{valid_no_fault}
 use Rattle.wa_types.proofs.OneFault.{fault_spells_none}

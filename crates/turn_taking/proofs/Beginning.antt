@@ -9,8 +9,8 @@ use Rattle.wa_model.specs.Blocking.{Note}
 use Rattle.wa_model.specs.World.{Device, Program, detached}
 use Rattle.event_order.specs.declared.turns.Turn.{Turn}
 use Rattle.event_order.specs.Dues.{IsLeast}
-use Rattle.told_worlds.specs.Turns.{due_of}
-use Rattle.told_worlds.proofs.Places.{item}
+use Rattle.told_notes.specs.Turns.{due_of}
+use Rattle.told_notes.proofs.Places.{item}
 use Rattle.told_notes.specs.Notes.{TellsOn}
 use Rattle.told_notes.proofs.Begun.{turn_begins}
 use Rattle.turn_taking.specs.declared.turns.Stage.{Stage}

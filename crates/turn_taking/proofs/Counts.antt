@@ -10,7 +10,7 @@ use Rattle.device_port.specs.declared.devices.Devices.{Devices}
 use Rattle.device_port.specs.Listed.{of_all}
 use Rattle.event_order.specs.Left.{Counted, left_before}
 use Rattle.event_order.specs.declared.turns.Turn.{Turn}
-use Rattle.told_worlds.proofs.Places.{item}
+use Rattle.told_notes.proofs.Places.{item}
 use Rattle.turn_taking.specs.declared.turns.Stage.TheVariants.{Between, Showing}
 use Rattle.turn_taking.specs.Calls.{BegunNext, TakesCall, devices_of, faults_of, left_at}
 

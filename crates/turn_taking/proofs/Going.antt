@@ -10,8 +10,8 @@ use Rattle.wa_model.specs.World.{Device, Program, CallsMeet, call_in, ends_turn,
 use Rattle.event_order.specs.declared.turns.Turn.{Turn}
 use Rattle.event_order.specs.Left.{Counted}
 use Rattle.event_order.specs.Looks.{looks_of}
-use Rattle.told_worlds.specs.Turns.{Teller, unless, due_of, having_told, Tells}
-use Rattle.told_worlds.proofs.Places.{set_here, set_there}
+use Rattle.told_notes.specs.Turns.{Teller, unless, due_of, having_told, Tells}
+use Rattle.told_notes.proofs.Places.{set_here, set_there}
 use Rattle.told_notes.specs.Notes.{TellsOn}
 use Rattle.told_notes.proofs.Notes.{ends_none, off_none}
 use Rattle.told_notes.proofs.Further.{turn_goes_on, turn_ends}

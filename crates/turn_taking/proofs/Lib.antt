@@ -1,3 +1,5 @@
+pub use Rattle.told_notes.proofs.Places as ToldPlaces
+pub use Rattle.told_notes.proofs.Worlds
 pub mod Beginning
 pub mod Going
 pub mod Places

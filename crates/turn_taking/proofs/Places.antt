@@ -4,7 +4,7 @@ use Rattle.std.proofs.lemmas.List.{map-set}
 use Rattle.std.proofs.lemmas.Option.{slice_get-get_or}
 use Rattle.wa_model.specs.Blocking.{Note}
 use Rattle.wa_model.specs.World.{is_end}
-use Rattle.told_worlds.specs.Turns.{Teller, due_of, ends_program}
+use Rattle.told_notes.specs.Turns.{Teller, due_of, ends_program}
 
 -- what is read at a place stands there
 pub stands_at : {X : Type 0} (xs : List X) (i : ℕ) (x : X) → i < length xs → x ≡ get_or xs i x → slice_get xs i ≡ Some x

@@ -10,7 +10,7 @@ use Rattle.wa_model.specs.World.{Device, Look, Program, bytes_shown, line_at}
 use Rattle.event_order.specs.declared.shows.Show.{Show}
 use Rattle.event_order.specs.declared.turns.Turn.{Turn}
 use Rattle.event_order.specs.Looks.{look_of, looks_of, IsNextShow}
-use Rattle.told_worlds.specs.Turns.{Tells}
+use Rattle.told_notes.specs.Turns.{Tells}
 use Rattle.turn_taking.specs.declared.turns.Stage.TheVariants.{Between, Showing}
 use Rattle.turn_taking.specs.Standing.{Held, Standing, looks_at}
 

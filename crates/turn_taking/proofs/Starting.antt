@@ -7,7 +7,7 @@ use Rattle.wa_model.specs.Outside.{AnswerLine}
 use Rattle.wa_model.specs.Plan.{Outcome}
 use Rattle.wa_model.specs.Blocking.{Note}
 use Rattle.wa_model.specs.World.{Device, Program}
-use Rattle.told_worlds.specs.Turns.{Teller, Tells, starting, due_of}
+use Rattle.told_notes.specs.Turns.{Teller, Tells, starting, due_of}
 use Rattle.turn_taking.specs.declared.turns.Stage.TheVariants.{Between}
 use Rattle.turn_taking.specs.Standing.{AllStart, Held, IsHeld, Standing}
 

@@ -11,7 +11,7 @@ use Rattle.event_order.specs.declared.shows.Show.{Show}
 use Rattle.event_order.specs.declared.turns.Turn.{Turn}
 use Rattle.event_order.specs.Dues.{HaveEnded}
 use Rattle.event_order.specs.Looks.{looks_of}
-use Rattle.told_worlds.specs.Turns.{Teller, starting, unless, due_of, ends_program, Tells}
+use Rattle.told_notes.specs.Turns.{Teller, starting, unless, due_of, ends_program, Tells}
 use Rattle.told_notes.specs.Notes.{TellsOn}
 use Rattle.turn_taking.specs.declared.turns.Stage.{Stage}
 use Rattle.turn_taking.specs.declared.turns.Stage.TheVariants.{Between, Telling, Showing}

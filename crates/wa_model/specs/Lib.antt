@@ -1,3 +1,5 @@
+pub use Rattle.wa_ops.specs.Integers
+pub use Rattle.wa_ops.specs.Operate
 pub mod Alone
 pub mod Behaves
 pub mod Blocking

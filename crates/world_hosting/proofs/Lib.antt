@@ -1,3 +1,4 @@
+pub use Rattle.many_host.proofs.Making
 pub mod Begun
 pub mod Bound
 pub mod Printed

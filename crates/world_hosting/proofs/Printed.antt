@@ -18,11 +18,11 @@ use Rattle.device_port.specs.declared.devices.Devices.{Devices}
 use Rattle.device_port.specs.Listed.{of_all}
 use Rattle.event_order.specs.Dues.{HaveEnded}
 use Rattle.event_order.specs.Left.{Counted}
-use Rattle.told_notes.specs.Laws.{BeginsWorld}
-use Rattle.turn_taking.specs.Calls.{BegunBy, BegunNext, TakesCall, TakesNext, devices_of, left_at}
-use Rattle.turn_taking.specs.declared.turns.Stage.{Stage}
-use Rattle.turn_taking.specs.Standing.{LooksOut}
-use Rattle.turn_taking.proofs.Counts.{counted_devices}
+use Rattle.many_host.specs.ToldLaws.{BeginsWorld}
+use Rattle.many_host.specs.Calls.{BegunBy, BegunNext, TakesCall, TakesNext, devices_of, left_at}
+use Rattle.many_host.specs.Stage.{Stage}
+use Rattle.many_host.specs.Standing.{LooksOut}
+use Rattle.many_host.proofs.Counts.{counted_devices}
 use Rattle.many_host.specs.declared.host.Host.{Host}
 use Rattle.many_host.specs.Hosts.{HostNext, HostTold}
 use Rattle.many_host.proofs.Worlds.{told_begins_world}

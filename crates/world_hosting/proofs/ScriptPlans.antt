@@ -17,8 +17,8 @@ use Rattle.wa_model.specs.ScriptLines as L
 use Rattle.wa_model.specs.ScriptLines.{Said, PokeWords, hex_value, joined_digits, hex_bytes, hex_in, if_within, number_in, number_within, integer_in}
 use Rattle.wa_model.specs.ScriptLines.{negative, i32_in, i64_in, u32_in, all_values, value_in, unless_none, says_two, says_policy}
 use Rattle.wa_model.specs.ScriptLines.{pokes_in, poke_of, all_pokes, result_in, answer_with, says_answer, says, says_with, keyword_in, words_say, line_words, line_says}
-use Rattle.host_answers.specs.Answering.{IsShort}
-use Rattle.host_stages.specs.Moves.{HasShortPokes}
+use Rattle.many_host.specs.Answering.{IsShort}
+use Rattle.many_host.specs.Moves.{HasShortPokes}
 
 -- ---- what a statement tells
 

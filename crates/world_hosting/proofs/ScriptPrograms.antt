@@ -14,7 +14,7 @@ use Rattle.wa_model.specs.ScriptText.{default_steps, steps_of, entry_of, global_
 use Rattle.wa_model.specs.ScriptText.{lines_by, program_of, with_program, programs_of, with_programs, script_of, script_text}
 use Rattle.wa_types.specs.Sizes.{value_fits}
 use Rattle.wa_model.specs.Plan.{AnswerFits}
-use Rattle.host_stages.specs.Moves.{HasShortPokes}
+use Rattle.many_host.specs.Moves.{HasShortPokes}
 use Rattle.world_hosting.specs.Worlds.{FitsPlan, HasRanges}
 use Rattle.world_hosting.specs.Laws.{ScriptsFit, ScriptsInRange}
 use Rattle.world_hosting.proofs.ScriptPlans.{SaysFit, line_fits}

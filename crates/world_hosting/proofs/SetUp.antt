@@ -10,8 +10,8 @@ use Rattle.wa_model.specs.World.{Look}
 use Rattle.event_order.specs.declared.shows.Show.{Show}
 use Rattle.event_order.specs.Looks.{looks_of}
 use Rattle.event_order.specs.Looks as E
-use Rattle.pause_host.specs.declared.program.Program.{Program}
-use Rattle.pause_host.specs.Programs.{Follows, lines_left}
+use Rattle.many_host.specs.Program.{Program}
+use Rattle.many_host.specs.Programs.{Follows, lines_left}
 use Rattle.many_host.specs.Hosts.{AreSetUp}
 use Rattle.script_reader.specs.declared.script.ShowText.{ShowText}
 use Rattle.script_reader.specs.Views.{show_of}

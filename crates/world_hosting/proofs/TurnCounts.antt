@@ -6,12 +6,12 @@ use Rattle.wa_model.specs.Outside.{Event, called, answered, paused, returned, en
 use Rattle.wa_model.specs.Blocking.{Note, events_of}
 use Rattle.wa_model.specs.World.{Device, Look, Program, ends_turn, events_with_looks, line_at, looks_after}
 use Rattle.event_order.specs.Looks.{looks_of}
-use Rattle.told_notes.specs.Notes.{GoesOn, TellsOn}
-use Rattle.told_worlds.specs.Turns.{EndsOnce, Teller, Tells}
-use Rattle.turn_taking.specs.declared.turns.Stage.{Stage}
-use Rattle.turn_taking.specs.declared.turns.Stage.TheVariants.{Between, Telling, Showing}
-use Rattle.turn_taking.specs.Calls.{BegunBy}
-use Rattle.turn_taking.specs.Standing.{LooksOut, StandsAt, held_of, looks_at}
+use Rattle.many_host.specs.Notes.{GoesOn, TellsOn}
+use Rattle.many_host.specs.Turns.{EndsOnce, Teller, Tells}
+use Rattle.many_host.specs.Stage.{Stage}
+use Rattle.many_host.specs.Stage.TheVariants.{Between, Telling, Showing}
+use Rattle.many_host.specs.Calls.{BegunBy}
+use Rattle.many_host.specs.Standing.{LooksOut, StandsAt, held_of, looks_at}
 use Rattle.many_host.specs.declared.host.Host.{Host}
 use Rattle.many_host.specs.Hosts.{HostTold, memory_of}
 use Rattle.world_hosting.specs.Counts.{IsBegunBy, turns_at}

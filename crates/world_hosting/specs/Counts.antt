@@ -6,7 +6,7 @@ use Rattle.wa_model.specs.World.{Device, Program, ends_turn}
 use Rattle.device_port.specs.declared.devices.Devices.{Devices}
 use Rattle.device_port.specs.Listed.{of_all}
 use Rattle.event_order.specs.Left.{Counted}
-use Rattle.turn_taking.specs.Calls.{IsShown, TakesCall, left_at}
+use Rattle.many_host.specs.Calls.{IsShown, TakesCall, left_at}
 
 -- the devices of a list, each with its count of faults
 abbrev pub counted : {X : Type 0} {F : X → Type 0} → ((x : X) × F x → Device) → ((x : X) × F x → ℕ) → Devices X F → List Counted

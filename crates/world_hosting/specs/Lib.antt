@@ -1,3 +1,4 @@
+pub use Rattle.many_host.specs.Settings
 pub mod Bindings
 pub mod Counts
 pub mod Laws

@@ -4,7 +4,7 @@ ghost use Rattle.world_hosting.specs.Parted.{AreParted, show_at};
 
 use crate::staging::Staged;
 use event_order::Show;
-use pause_host::Program;
+use many_host::Program;
 use script_reader::ShowText;
 use std::alloc::{AllocError, Global};
 use transcript::Names;

@@ -20,7 +20,7 @@ use Rattle.wa_model.specs.Expected.{SameEnd}
 use Rattle.wa_model.specs.Behaves.{IsPrefix, pause_stacks, Compared, expected_notes, without_pauses, IsMoment, BehavesOn}
 use Rattle.wa_model.specs.World.{is_end, unless_over, protocol_story, IsCertain, BlockingStory, whole, spent, Original}
 use Rattle.wa_model.proofs.Runs.{prefix_of_longer, prefix_on}
-use Rattle.stack_laws.proofs.StandingPauses.{pauses_at_numbers}
+use Rattle.run_laws.proofs.StandingPauses.{pauses_at_numbers}
 use Rattle.run_laws.proofs.Growing.{compared_lower, pauses_lower}
 use Rattle.run_laws.proofs.Ending.{expected_end_last}
 use Rattle.world_laws.specs.Originals.{new_calls, NoneIgnored, SameMoment, StoriesOfOriginals}

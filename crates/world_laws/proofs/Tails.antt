@@ -15,7 +15,7 @@ use Rattle.wa_model.specs.Blocking.{Note, note, call_note, value_of_results, fau
 use Rattle.wa_model.specs.Protocol.{Exports, exports_of, Phase, is_running, unwinds, rewinds, Then, give_zero, test_unwound, pause_there, call_again, test_rewound, give_answer, Held, free, starting, busy, calling, aside, entering, over, broken, held_on, held_back, held_given, held_pauses, held_tested, held_asked, busy_step, is_state, aside_back, aside_step, busy_enters, held_next, aside_called, held_start, protocol, held_begun, Protocol}
 use Rattle.wa_model.specs.World.{Program, call_in, unless_over, protocol_story}
 use Rattle.wa_model.proofs.Runs.{turned, mapped}
-use Rattle.stack_laws.proofs.StandingPauses.{fault_outside}
+use Rattle.run_laws.proofs.StandingPauses.{fault_outside}
 use Rattle.world_laws.specs.Originals.{one_if, new_calls, StoriesOfMet}
 use Rattle.world_laws.proofs.Counting.{left_count, Stands, Tells, TurnTells, turn_tells, over_still, begun_tells, protocol_tells, calls_on}
 

@@ -20,7 +20,7 @@ use Rattle.wa_model.specs.Growth.{Each}
 use Rattle.flat_laws.specs.FlatModule.{stacks_in}
 use Rattle.guard_form.specs.Grouping.{is_place}
 use Rattle.guard_form.specs.Pieces.{call_total}
-use Rattle.call_numbers.proofs.NumberingLemmas.{none_place}
+use Rattle.flow_rewrite.proofs.NumberingLemmas.{none_place}
 use Rattle.flat_pieces.specs.Statements.{with_rest}
 use Rattle.flat_pieces.proofs.StmtLemmas.{in_front_is, stmts_step, stmts_end, call_is}
 use Rattle.rewrite_form.specs.Emitted.{or_none, holds_operand}

@@ -1,2 +1,7 @@
+pub use Rattle.flow_rewrite.specs.Emitting
+pub use Rattle.flow_rewrite.specs.Numbering
+pub use Rattle.rewrite_form.specs.Emitted
+pub use Rattle.rewrite_form.specs.Rewritten
+pub use Rattle.rewrite_form.specs.Sizes
 pub mod Frames
 pub mod Marking

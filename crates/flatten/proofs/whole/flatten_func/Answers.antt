@@ -3,7 +3,7 @@ use Rattle.wa_types.specs.declared.syntax.Module.{Module as ModuleValue}
 use Rattle.wa_types.specs.Validity.{Valid as IsValid}
 use Rattle.wa_types.specs.Sizes.{SizeRule, code_items}
 use Rattle.wasm_validate.specs.Walk.{Walk, TypedAt}
-use Rattle.flat_instrs.specs.Emitting.{SmallTypes}
+use Rattle.flat_survey.specs.Emitting.{SmallTypes}
 use Rattle.std.proofs.Common.{length-append, ◌≤◌}
 use Rattle.wa_types.specs.Syntax.{Func, FuncType}
 use Rattle.wa_types.specs.Modules.{declared_locals, defined_at, locals_of, type_at}

@@ -7,10 +7,10 @@ use Rattle.wa_types.specs.Pausing.{places_from}
 use Rattle.wa_types.specs.View.{func_of, module_of}
 use Rattle.wa_model.specs.FlatView.{flat_func_of}
 use Rattle.call_graph.specs.Settings.{settings_of}
-use Rattle.call_numbers.specs.Numbering.{callees, gets_number}
-use Rattle.flow_rewrite.specs.Emitting.{Rises}
+use Rattle.written_frames.specs.Numbering.{callees, gets_number}
+use Rattle.written_frames.specs.Emitting.{Rises}
 use Rattle.local_spill.specs.declared.frames.Place.{Place}
-use Rattle.rewrite_form.specs.Emitted.{is_kept, written_func}
+use Rattle.written_frames.specs.Emitted.{is_kept, written_func}
 use Rattle.func_rewrite.proofs.CallNumbers.{places_rise}
 use Rattle.func_rewrite.proofs.WrittenFuncs.{fits, few_calls, stacks, numbers, own_few, saved_few, places_few, row_fits, kept_is, body_same, runs_same, func_is}
 use Rattle.func_rewrite.proofs.function.emit_func.Goals as goal

@@ -1,6 +1,6 @@
 use Rattle.std.proofs.Common.{Err, ap, ◌∙◌, refl}
 use Rattle.std.proofs.lemmas.Result.{IfOk-weaker}
-use Rattle.device_port.specs.declared.device.DeviceFail.{DeviceFail}
+use Rattle.host_turns.specs.DeviceFail.{DeviceFail}
 use Rattle.host_turns.specs.Supplies.{one_asked}
 use Rattle.host_answers.proofs.device.device_outcome.Goals as goal
 

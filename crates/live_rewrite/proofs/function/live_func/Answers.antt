@@ -8,13 +8,13 @@ use Rattle.wa_model.specs.FlatView.{flat_func_of}
 use Rattle.call_graph.specs.Settings.{settings_of}
 use Rattle.call_frames.specs.FrameParts.{restoring_by_call, saving_by_call}
 use Rattle.call_frames.specs.PlainFrames.{frames_of}
-use Rattle.flow_rewrite.specs.Emitting.{Rises}
+use Rattle.save_laws.specs.Emitting.{Rises}
 use Rattle.guard_form.specs.Guarded.{function_body, guarded_code}
 use Rattle.func_rewrite.proofs.WrittenFuncs.{few_calls, fits}
 use Rattle.call_classes.specs.CallParts.{call_parts, kept_by_sets}
 use Rattle.call_classes.specs.Classes.{KeepSets}
 use Rattle.call_classes.specs.Views.{parts_view, sets_of, told_frames}
-use Rattle.live_locals.specs.LiveAt.{lists_of}
+use Rattle.save_laws.specs.LiveAt.{lists_of}
 use Rattle.live_rewrite.proofs.CallFacts.{SetsSized, numbers_rise, set_sizes, sets_few, types_few}
 use Rattle.live_rewrite.proofs.PartsOwed.{live_is}
 use Rattle.live_rewrite.proofs.function.live_func.Goals as goal

@@ -7,7 +7,7 @@ use Rattle.wa_types.specs.Runtime.{func_space, global_space, with_runtime}
 use Rattle.wa_types.specs.Validity.{Valid}
 use Rattle.wa_types.specs.View.{func_of, module_of}
 use Rattle.call_graph.specs.Settings.{settings_of}
-use Rattle.live_form.proofs.PolicyCases.{functions_law}
+use Rattle.live_bytes.proofs.PolicyCases.{functions_law}
 use Rattle.module_rewrite.proofs.WholeLemmas.{globals_small, space_small}
 use Rattle.module_bytes.specs.Emitting.{AllEmitted}
 use Rattle.module_bytes.specs.Whole.{EmitsModule}

@@ -7,10 +7,10 @@ use Rattle.wa_types.specs.Validity.{Valid}
 use Rattle.wa_types.specs.View.{func_of, module_of}
 use Rattle.asyncify_runtime.specs.Reserved.{reserved_at}
 use Rattle.call_graph.specs.Settings.{settings_of}
-use Rattle.rewrite_form.specs.Rewritten.{RewritesButRuns}
-use Rattle.live_form.specs.EmittedAs.{EmittedAs}
-use Rattle.live_form.specs.PolicyLaws.{CanBeEmitted}
-use Rattle.live_form.proofs.PolicyCases.{functions_law, rewritten_as, sizes_as, valid_as}
+use Rattle.live_rewrite.specs.Rewritten.{RewritesButRuns}
+use Rattle.live_rewrite.specs.EmittedAs.{EmittedAs}
+use Rattle.live_rewrite.specs.PolicyLaws.{CanBeEmitted}
+use Rattle.live_rewrite.proofs.PolicyCases.{functions_law, rewritten_as, sizes_as, valid_as}
 use Rattle.module_rewrite.specs.Emitting.{Emits, AllEmitted}
 use Rattle.module_rewrite.specs.Whole.{Asyncifies}
 use Rattle.module_rewrite.proofs.FreeNames.{unreserved_is_free}

@@ -5,7 +5,7 @@ use Rattle.vault_port.specs.Taken.{Appends, AppendsLess}
 use Rattle.vault_port.specs.Told.{Becomes}
 use Rattle.wa_model.specs.Transcript.{last_line}
 use Rattle.wa_model.specs.View.{line_of}
-use Rattle.turn_taking.specs.Calls.{devices_of}
+use Rattle.many_host.specs.Calls.{devices_of}
 use Rattle.transcript.specs.Printing.{names_of}
 use Rattle.world_hosting.specs.Counts.{counted}
 use Rattle.world_hosting.specs.Worlds.{world_programs}

@@ -1,7 +1,7 @@
 use Rattle.std.proofs.Common.{◌≡◌, ◌≤◌, [], List, map}
 use Rattle.wa_model.specs.declared.answers.Detach.{Detach}
-use Rattle.turn_taking.specs.Calls.{devices_of}
-use Rattle.turn_taking.specs.Standing.{InRange}
+use Rattle.many_host.specs.Calls.{devices_of}
+use Rattle.many_host.specs.Standing.{InRange}
 use Rattle.many_host.specs.Hosts.{HostTold}
 use Rattle.transcript.specs.Printing.{names_of}
 use Rattle.world_hosting.specs.Counts.{counted}

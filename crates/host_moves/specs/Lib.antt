@@ -1,0 +1,1 @@
+pub use Rattle.host_answers.specs.Answering
