@@ -177,7 +177,8 @@ module _ (m : Module) (s : Settings) (which : List Bool) (codes : (index : ℕ) 
 
     numbers_small : numbers_in gf.body < 2 ^ 32
     numbers_small =
-        let z = (units_alike (flat_terms m (Numbered m s which f) x f) 0 (owed.slim.out ∷ []) owed.slim.out owed.slim.here [] (first_piece (Numbered m s which f) 0 (flattened m x f).body) gf.first (units (Numbered m s which f) 0 (flattened m x f).body) gf.body owed.slim.slim).numbers in
+        let z = (units_alike (flat_terms m (Numbered m s which f) x f) 0 (owed.slim.out ∷ []) owed.slim.out owed.slim.here []
+        (first_piece (Numbered m s which f) 0 (flattened m x f).body) gf.first (units (Numbered m s which f) 0 (flattened m x f).body) gf.body owed.slim.slim).numbers in
         let a = numbers_few (Numbered m s which f) 0 (flattened m x f).body in
         let b = flat_few (names m f) (around m f) ((around m f).result ∷ []) f.body [] in
         omega (arith, z, a, b, sizes.total)
@@ -187,7 +188,8 @@ module _ (m : Module) (s : Settings) (which : List Bool) (codes : (index : ℕ) 
         let st = globals_small in
         let state : global_space m < 2 ^ 32 = omega (arith, st) in
         let both =
-        units_basic (flat_terms m (Numbered m s which f) x f) 0 (owed.slim.out ∷ []) owed.slim.out owed.slim.here [] (first_piece (Numbered m s which f) 0 (flattened m x f).body) gf.first (units (Numbered m s which f) 0 (flattened m x f).body) gf.body owed.slim.slim
+        units_basic (flat_terms m (Numbered m s which f) x f) 0 (owed.slim.out ∷ []) owed.slim.out owed.slim.here []
+        (first_piece (Numbered m s which f) 0 (flattened m x f).body) gf.first (units (Numbered m s which f) 0 (flattened m x f).body) gf.body owed.slim.slim
         (first_fits (Numbered m s which f) 0 (flattened m x f).body stmts) (units_fit (Numbered m s which f) 0 (flattened m x f).body stmts) in
         let guarded = front_fits (indices_of (global_space m) gf) state 0 0 gf.first gf.body (omega (arith, numbers_small)) both.0 both.1 in
         (state, (basics.0, tt, (guarded, (state, (basics.1, tt, result_fits (flattened m x f).result)))))

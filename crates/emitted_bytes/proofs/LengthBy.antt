@@ -147,7 +147,8 @@ module _ (m : Module) (s : Settings) (which : List Bool) (codes : (index : ℕ) 
   abbrev g : Func
   g = written_by m s which codes x f
 
-  pub written_entry : (more : ℕ) → SlimPieces m (Numbered m s which f) x f (codes x f).pieces → codes_size (codes x f) ≤ 2 ^ 36 + more → length (entry (written_by m s which codes x f)) ≤ most + 25 * more
+  pub written_entry : (more : ℕ) → SlimPieces m (Numbered m s which f) x f (codes x f).pieces → codes_size (codes x f) ≤ 2 ^ 36 + more
+      → length (entry (written_by m s which codes x f)) ≤ most + 25 * more
   written_entry more sp codes_few =
       let runs = length-append f.locals (map one_run (extra_types m f ++ three)) in
       let ones = length-map (extra_types m f ++ three) one_run in
@@ -204,7 +205,9 @@ module _ (m : Module) (s : Settings) (which : List Bool) (codes : (index : ℕ) 
         by true b =
             let z = ap (λ (h : Func). length (entry h)) (told m s which codes (func_imports m + i) f b) in
             let sizes = one_of_all (FuncSizes (2 ^ 31) (2 ^ 31) m) m.funcs i f strict.each_func e in
-            let l = written_entry m s which codes (func_imports m + i) f sizes (few (func_imports m + i) f (defined_of m i f e) b) (more f) (slim (func_imports m + i) f (defined_of m i f e) b) (short (func_imports m + i) f (defined_of m i f e) b) in
+            let at = defined_of m i f e in
+            let l = written_entry m s which codes (func_imports m + i) f sizes (few (func_imports m + i) f at b) (more f) (slim (func_imports m + i) f at b)
+            (short (func_imports m + i) f at b) in
             omega (arith, z, l)
         by false b = let z = ap (λ (h : Func). length (entry h)) (not_told m s which codes (func_imports m + i) f b) in omega (arith, z)
 

@@ -41,15 +41,18 @@ module _ (t : Terms) where
   units_basic n ts out f sh first first' _ _ (before_call {sh2 = sh2} {behind = behind} {behind' = behind'} {rest = rest} {rest' = rest'} {to = to} {to' = to'} slots x g h2 go sl hs hf re on) h k =
       let e = units_basic n ts out h2 sh2 behind behind' rest rest' on k.0 k.1 in
       (code_slim _ ts g f sh first first' sl h, (e.0, e.1))
-  units_basic n ts out f sh first first' _ _ (before_block {inner = inner} {inner' = inner'} {behind = behind} {behind' = behind'} {body = body} {body' = body'} {rest = rest} {rest' = rest'} g h2 go sl ib on) h k =
+  units_basic n ts out f sh first first' _ _ (before_block {inner = inner} {inner' = inner'} {behind = behind} {behind' = behind'} {body = body} {body' = body'}
+      {rest = rest} {rest' = rest'} g h2 go sl ib on) h k =
       let i = units_basic _ (h2 ∷ ts) h2 g [] inner inner' body body' ib k.0 k.1 in
       let e = units_basic n ts out h2 [] behind behind' rest rest' on k.2 k.3 in
       (code_slim _ ts g f sh first first' sl h, (i.0, i.1, e.0, e.1))
-  units_basic n ts out f sh first first' _ _ (before_loop {inner = inner} {inner' = inner'} {behind = behind} {behind' = behind'} {body = body} {body' = body'} {rest = rest} {rest' = rest'} g head h2 go sl co ib on) h k =
+  units_basic n ts out f sh first first' _ _ (before_loop {inner = inner} {inner' = inner'} {behind = behind} {behind' = behind'} {body = body} {body' = body'}
+      {rest = rest} {rest' = rest'} g head h2 go sl co ib on) h k =
       let i = units_basic _ (head ∷ ts) h2 head [] inner inner' body body' ib k.0 k.1 in
       let e = units_basic n ts out h2 [] behind behind' rest rest' on k.2 k.3 in
       (code_slim _ ts g f sh first first' sl h, (i.0, i.1, e.0, e.1))
-  units_basic n ts out f sh first first' _ _ (before_if {fa = fa} {fa' = fa'} {fb = fb} {fb' = fb'} {behind = behind} {behind' = behind'} {a = a} {a' = a'} {b = b} {b' = b'} {rest = rest} {rest' = rest'} o g l h2 go sl hc co ia ib on) h k =
+  units_basic n ts out f sh first first' _ _ (before_if {fa = fa} {fa' = fa'} {fb = fb} {fb' = fb'} {behind = behind} {behind' = behind'} {a = a} {a' = a'} {b = b} {b' = b'}
+      {rest = rest} {rest' = rest'} o g l h2 go sl hc co ia ib on) h k =
       let i = units_basic _ (h2 ∷ ts) h2 l [] fa fa' a a' ia k.1 k.2 in
       let j = units_basic _ (h2 ∷ ts) h2 l [] fb fb' b b' ib k.3 k.4 in
       let e = units_basic n ts out h2 [] behind behind' rest rest' on k.5 k.6 in

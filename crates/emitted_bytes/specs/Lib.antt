@@ -7,5 +7,6 @@ pub use Rattle.rewrite_form.specs.Pieces
 pub use Rattle.rewrite_form.specs.Rewritten
 pub use Rattle.rewrite_form.specs.Sizes
 pub use Rattle.rewrite_form.specs.Slim
+pub use Rattle.rewrite_form.specs.SlimModule
 pub use Rattle.rewrite_form.specs.SlimUnits
 pub mod Written

@@ -106,7 +106,8 @@ few_law m s which pieces parts r = emitted_few m s which (live_codes pieces part
 
 pub short_law : LiveIsShort
 short_law m s which pieces parts r n l =
-    emitted_short m s which (live_codes pieces parts) r.sizes r.few more (λ x f is told. (hold m s which pieces parts r x f is told).slim) (codes_short m s which pieces parts r) n (omega (arith, l)) (omega (arith, all_more m.funcs, entries_short m, l))
+    emitted_short m s which (live_codes pieces parts) r.sizes r.few more r.slim (codes_short m s which pieces parts r) n (omega (arith, l))
+    (omega (arith, all_more m.funcs, entries_short m, l))
 
 pub spelled_law : LiveIsSpelled
 spelled_law m s which pieces parts r wf short =

@@ -1,5 +1,5 @@
 -- The module that the policy `live` emits is its original, rewritten.
-use Rattle.std.proofs.Common.{◌∙◌, ◌≡◌, ◌≤◌, ℕ, ◌+◌, ◌*◌, List, [], length, Option, Some, None, Bool, true, sym, ap}
+use Rattle.std.proofs.Common.{◌≡◌, ◌≤◌, ℕ, ◌+◌, ◌*◌, List, [], length, Option, Some, None, Bool, true, sym, ap}
 use Rattle.std.specs.Prelude.{slice_get}
 use Rattle.wa_types.specs.Modules.{defined_at}
 use Rattle.wa_types.specs.Pausing.{Numbered, Settings, is_told}

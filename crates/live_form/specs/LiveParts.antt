@@ -13,7 +13,7 @@ use Rattle.call_frames.specs.FrameParts.{restoring_by_call, saving_by_call}
 use Rattle.call_frames.specs.PlainFrames.{SavedPart, at_every, at_these, SavedParts, call_fields, frames_of}
 use Rattle.call_frames.specs.PlainLaws.{NameCalls, named_calls, parts_size, sizes_size}
 use Rattle.live_guards.specs.LiveFrames.{fields_at}
-use Rattle.live_guards.specs.SlimModule.{Pieces, SlimPieces}
+use Rattle.live_guards.specs.SlimModule.{Pieces}
 use Rattle.rewrite_runs.specs.EmittedBy.{FrameCode, asyncified_by}
 
 -- ---- the module
@@ -64,7 +64,3 @@ pub record LiveParts (m : Module) (s : Settings) (which : List Bool) (x : ℕ) (
 -- so do those of each told function
 abbrev pub AllLiveParts : Module → Settings → (which : List Bool) → (parts : (index : ℕ) → SavedParts) → Type 0
 AllLiveParts m s which parts = (x : ℕ) (f : Func) → defined_at m x ≡ Some f → is_told (slice_get which x) ≡ true → LiveParts m s which x f (parts x)
-
--- The pieces of each told function are slim.
-abbrev pub AllSlim : Module → Settings → (which : List Bool) → (pieces : (index : ℕ) → Pieces) → Type 0
-AllSlim m s which pieces = (x : ℕ) (f : Func) → defined_at m x ≡ Some f → is_told (slice_get which x) ≡ true → SlimPieces m (Numbered m s which f) x f (pieces x)

@@ -87,6 +87,7 @@ module _ (m : Module) (s : Settings) (which : List Bool) (f : Func) (v : Flatten
   live_is locals body el eb = record {
     pieces = plain;
     slim = plain_slim m (Numbered m s which f) x f;
+    chosen = refl;
     parts = told;
     live = owed;
     is = func_is (live_written m s which x f plain told) f.sort locals body refl (el ∙ runs_same m s which f v valid sizes h v.first_slot refl) (eb ∙ body_same);

@@ -21,7 +21,7 @@ use Rattle.wa_types.specs.Validity.{Valid}
 use Rattle.wa_types.proofs.SizeBounds.{weight_fits}
 use Rattle.wa_model.specs.Flat.{code_of, body_of, followed_by}
 use Rattle.slim_modules.specs.Pieces.{first_piece, flat_units, units}
-use Rattle.slim_modules.specs.SlimModule.{flat_terms}
+use Rattle.slim_modules.specs.SlimModule.{Pieces, flat_terms}
 use Rattle.slim_modules.proofs.UnitsSlim.{units_law}
 use Rattle.wa_model.specs.FlatFits.{one_run}
 use Rattle.wa_model.specs.Growth.{Each}
@@ -195,8 +195,11 @@ module _ (m : Module) (s : Settings) (which : List Bool) (codes : (index : ℕ) 
     no_marks k er es =
         let gf = guarded_by m s which codes x f in
         marks_written k (indices_of (global_space m) gf) gf.restoring gf.saving gf.result gf.first gf.body er es
-        ∙ marks_slim k (flat_terms m (Numbered m s which f) x f) 0 (owed.slim.out ∷ []) owed.slim.out owed.slim.here [] (followed_by (first_piece (Numbered m s which f) 0 (flattened m x f).body) (flat_units (units (Numbered m s which f) 0 (flattened m x f).body)))
-        (followed_by gf.first (flat_units gf.body)) (units_law (flat_terms m (Numbered m s which f) x f) 0 (owed.slim.out ∷ []) owed.slim.out owed.slim.here [] (first_piece (Numbered m s which f) 0 (flattened m x f).body) gf.first (units (Numbered m s which f) 0 (flattened m x f).body) gf.body owed.slim.slim)
+        ∙ marks_slim k (flat_terms m (Numbered m s which f) x f) 0 (owed.slim.out ∷ []) owed.slim.out owed.slim.here []
+        (followed_by (first_piece (Numbered m s which f) 0 (flattened m x f).body) (flat_units (units (Numbered m s which f) 0 (flattened m x f).body)))
+        (followed_by gf.first (flat_units gf.body))
+        (units_law (flat_terms m (Numbered m s which f) x f) 0 (owed.slim.out ∷ []) owed.slim.out owed.slim.here []
+        (first_piece (Numbered m s which f) 0 (flattened m x f).body) gf.first (units (Numbered m s which f) 0 (flattened m x f).body) gf.body owed.slim.slim)
         ∙ ap (marks_of k) (joins_law (Numbered m s which f) 0 (flattened m x f).body)
 
     calls_same : calls_of g.body ≡ calls_in f
@@ -251,7 +254,8 @@ module _ (m : Module) (s : Settings) (which : List Bool) (codes : (index : ℕ) 
           labels = lists;
           total = bound (code_items g.body) (code_params p g.body) (params_of_type p.types f.sort) (sum_by (λ (r : Run). r.count) g.locals) (instructions_and_labels g.body)
               (code_weight m (pruned f.body)) (length (locals_of m f)) (codes_size (codes x f)) (length extra) (code_items f.body) (code_params m f.body) (params_of_type m.types f.sort)
-              (sum_by (λ (r : Run). r.count) f.locals) (items_few g.body) (written_size m s which codes x f owed.slim) (small x f is is_written) (weight_fits (2 ^ 31) (2 ^ 31) m f h) calls own sum added total;
+              (sum_by (λ (r : Run). r.count) f.locals) (items_few g.body) (written_size m s which codes x f owed.slim)
+              (small x f is is_written) (weight_fits (2 ^ 31) (2 ^ 31) m f h) calls own sum added total;
         }
 
   -- ---- all functions
@@ -325,11 +329,11 @@ module _ (m : Module) (s : Settings) (which : List Bool) (codes : (index : ℕ) 
         each_segment = r.each_segment;
       }
 
-layouts_small : (m : Module) (s : Settings) (which : List Bool) → Valid m → StrictSizeRule m → AllCodesSmall m which (layout_codes m s which)
-layouts_small m s which v strict x f is told =
+layouts_small : (m : Module) (s : Settings) (which : List Bool) (pieces : (index : ℕ) → Pieces) → Valid m → StrictSizeRule m → AllCodesSmall m which (layout_codes m s which pieces)
+layouts_small m s which pieces v strict x f is told =
     let at = defined_where m x f is in
-    let z = layout_size m s which x f v at.0 at.1 in
+    let z = layout_size m s which pieces x f v at.0 at.1 in
     let w = weight_fits (2 ^ 31) (2 ^ 31) m f (one_of_all (FuncSizes (2 ^ 31) (2 ^ 31) m) m.funcs at.0 f strict.each_func at.1) in omega (arith, z, w)
 
 pub sizes_law : EmittedKeepsSizes
-sizes_law m s which v strict few = emitted_sizes m s which (layout_codes m s which) v strict (layouts_hold m s which v) (layouts_small m s which v strict) few
+sizes_law m s which pieces v slim strict few = emitted_sizes m s which (layout_codes m s which pieces) v strict (layouts_hold m s which pieces v slim) (layouts_small m s which pieces v strict) few

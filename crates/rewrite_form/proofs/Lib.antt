@@ -2,7 +2,6 @@ pub use Rattle.slim_modules.proofs.Calls
 pub use Rattle.slim_modules.proofs.SlimModules
 pub use Rattle.slim_modules.proofs.UnitsAlike
 pub use Rattle.slim_modules.proofs.Whole
-pub mod Emitted
 pub mod EmittedBy
 pub mod EmittedRewritten
 pub mod EmittedSizes

@@ -79,7 +79,8 @@ module _ {X : Type 0} (k : Marking X) where
   marks_slim t n ts out f sh _ _ (S.gets {rest = rest} {rest' = rest'} x fr sl) = ap (λ z. k.marks (local_get x) ++ z) (marks_slim t n ts out f (None ∷ sh) rest rest' sl)
   marks_slim t n ts out f sh _ _ (S.sets {sh2 = sh2} {rest = rest} {rest' = rest'} x g co ta la sl) = ap (λ z. k.marks (local_set x) ++ z) (marks_slim t n ts out g sh2 rest rest' sl)
   marks_slim t n ts out f sh _ _ (S.tees {sh2 = sh2} {rest = rest} {rest' = rest'} x g co ta la sl) = ap (λ z. k.marks (local_tee x) ++ z) (marks_slim t n ts out g (None ∷ sh2) rest rest' sl)
-  marks_slim t n ts out f sh _ code' (S.keeps {sh2 = sh2} {rest = rest} x g is lt co gx ta la sl) = marks_slim t n ts out g (Some x ∷ sh2) rest code' sl ∙ sym (unmarked (local_set x) rest (k.on_set x))
+  marks_slim t n ts out f sh _ code' (S.keeps {sh2 = sh2} {rest = rest} x g is lt co gx ta la sl) =
+      marks_slim t n ts out g (Some x ∷ sh2) rest code' sl ∙ sym (unmarked (local_set x) rest (k.on_set x))
   marks_slim t n ts out f sh _ code' (S.uses {sh2 = sh2} {rest = rest} x is ri sl) = marks_slim t n ts out f sh2 rest code' sl ∙ sym (unmarked (local_get x) rest (k.on_get x))
   marks_slim t n ts out f _ code _ (S.saves {sh = sh} {code' = code'} x g lt co sl) = unmarked (local_set x) code' (k.on_set x) ∙ marks_slim t n ts out g sh code code' sl
   marks_slim t n ts out f sh code code' (S.narrows g co sl) = marks_slim t n ts out g sh code code' sl

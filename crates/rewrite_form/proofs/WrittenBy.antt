@@ -146,4 +146,5 @@ module _ (m : Module) (s : Settings) (which : List Bool) (codes : (index : ℕ) 
         (restores c (None ∷ c.result ∷ []) memory_is address_is locals_are)
         (saves c (None ∷ c.result ∷ []) memory_is address_is locals_are)
         result
-        (typed_law c ls (flat_terms m (Numbered m s which f) x f) 0 (sp.out ∷ []) sp.out sp.here [] first0 gf.first units0 gf.body [] sp.slim types_same (pieces_law c (None ∷ c.result ∷ []) (Numbered m s which f) 0 (flattened m x f).body stmts))
+        (typed_law c ls (flat_terms m (Numbered m s which f) x f) 0 (sp.out ∷ []) sp.out sp.here [] first0 gf.first units0 gf.body [] sp.slim types_same
+        (pieces_law c (None ∷ c.result ∷ []) (Numbered m s which f) 0 (flattened m x f).body stmts))

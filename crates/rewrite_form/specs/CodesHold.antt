@@ -12,7 +12,7 @@ use Rattle.wa_types.specs.Syntax.{Code, Func, Module}
 use Rattle.wa_types.specs.Typing.{Around, Types}
 use Rattle.wa_model.specs.Rewrites.{frames_size, instructions_and_labels}
 use Rattle.slim_modules.specs.Flatten.{flattened}
-use Rattle.slim_modules.specs.SlimModule.{SlimPieces}
+use Rattle.slim_modules.specs.SlimModule.{Pieces, SlimPieces}
 use Rattle.rewrite_form.specs.EmittedBy.{FrameCode}
 
 -- behind the flat locals: the call index, and a scratch local of each type
@@ -49,7 +49,11 @@ pub record CodesHold (m : Module) (s : Settings) (which : List Bool) (x : ℕ) (
 abbrev pub AllCodesHold : Module → Settings → (which : List Bool) → (codes : (index : ℕ) → Func → FrameCode) → Type 0
 AllCodesHold m s which codes = (x : ℕ) (f : Func) → defined_at m x ≡ Some f → is_told (slice_get which x) ≡ true → CodesHold m s which x f (codes x f)
 
--- each told function has slim pieces
+-- The pieces of each told function are slim.
+abbrev pub AllSlim : Module → Settings → (which : List Bool) → (pieces : (index : ℕ) → Pieces) → Type 0
+AllSlim m s which pieces = (x : ℕ) (f : Func) → defined_at m x ≡ Some f → is_told (slice_get which x) ≡ true → SlimPieces m (Numbered m s which f) x f (pieces x)
+
+-- so are those that its codes go with
 abbrev pub AllCodesSlim : Module → Settings → (which : List Bool) → (codes : (index : ℕ) → Func → FrameCode) → Type 0
 AllCodesSlim m s which codes = (x : ℕ) (f : Func) → defined_at m x ≡ Some f → is_told (slice_get which x) ≡ true → SlimPieces m (Numbered m s which f) x f (codes x f).pieces
 

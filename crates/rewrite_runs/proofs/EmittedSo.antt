@@ -159,6 +159,7 @@ module _ (m : Module) (s : Settings) (which : List Bool) (codes : (index : ℕ) 
         written = written_at;
         slim = λ x f is told.
             let here = sym (base_defined m x) ∙ is in
-            subst (SlimPieces (Base m) (Numbered m s which f) x f) (ap (λ (c : FrameCode). c.pieces) (have x f here)) (based_slim m (Numbered m s which f) x f (codes x f).pieces valid here (hold x f here told).slim);
+            subst (SlimPieces (Base m) (Numbered m s which f) x f) (ap (λ (c : FrameCode). c.pieces) (have x f here))
+            (based_slim m (Numbered m s which f) x f (codes x f).pieces valid here (hold x f here told).slim);
         few = λ x f is told. few_numbers x f is sizes (few x f is told);
       }
