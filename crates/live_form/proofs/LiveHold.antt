@@ -30,6 +30,7 @@ use Rattle.call_frames.proofs.PlainHeld.{depth_law, held_law}
 use Rattle.call_frames.proofs.PlainTold.{fields_law, tell_law}
 use Rattle.call_frames.proofs.PlainTypes.{restore_law, save_law}
 use Rattle.live_guards.specs.LiveFrames as Live
+use Rattle.live_guards.specs.SlimModule.{Pieces, SlimPieces}
 use Rattle.rewrite_runs.specs.EmittedBy.{FrameCode}
 use Rattle.rewrite_runs.specs.CodesHold.{codes_size, CodeTyped, CodesHold, three}
 use Rattle.rewrite_runs.proofs.EmittedBy.{defined_where}
@@ -49,8 +50,8 @@ there_is [] k lt = absurd (omega (arith, lt))
 there_is (x ∷ xs) zero lt = (x, refl)
 there_is (x ∷ xs) (suc k) lt = there_is xs k (omega (arith, lt))
 
-module _ (m : Module) (s : Settings) (which : List Bool) (valid : Valid m) (sizes : StrictSizeRule m) (x : ℕ) (f : Func) (p : SavedParts)
-    (is : defined_at m x ≡ Some f) (some : 0 < length (Numbered m s which f)) (few : Count m f ≤ 50000) (owed : LiveParts m s which x f p) where
+module _ (m : Module) (s : Settings) (which : List Bool) (valid : Valid m) (sizes : StrictSizeRule m) (x : ℕ) (f : Func) (ps : Pieces) (p : SavedParts)
+    (is : defined_at m x ≡ Some f) (some : 0 < length (Numbered m s which f)) (few : Count m f ≤ 50000) (slim : SlimPieces m (Numbered m s which f) x f ps) (owed : LiveParts m s which x f p) where
   abbrev n : ℕ
   n = length (Numbered m s which f)
 
@@ -58,7 +59,7 @@ module _ (m : Module) (s : Settings) (which : List Bool) (valid : Valid m) (size
   w = code_weight m (pruned f.body)
 
   abbrev codes : FrameCode
-  codes = live_codes (λ y. p) x f
+  codes = live_codes (λ y. ps) (λ y. p) x f
 
   abbrev locals : List ValType
   locals = (flattened m x f).locals ++ three
@@ -181,6 +182,7 @@ module _ (m : Module) (s : Settings) (which : List Bool) (valid : Valid m) (size
 
   pub live_hold : s.policy ≡ save_live → CodesHold m s which x f codes
   live_hold policy = record {
+    slim = slim;
     restoring_typed = restoring_typed;
     saving_typed = saving_typed;
     restoring_quiet = record { calls = restoring_fits.calls; lists = restoring_fits.lists; depth = depth_law.restoring p plain_small };

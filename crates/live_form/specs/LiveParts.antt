@@ -1,4 +1,4 @@
--- The module that the policy `live` emits: its frames are told by numbers of calls, and keep at each call what the policy saves there.
+-- The module that the policy `live` emits: its pieces are slim, its frames are told by numbers of calls, and keep at each call what the policy saves there.
 use Rattle.std.specs.Prelude.{◌≡◌, ◌≤◌, ◌<◌, ℕ, suc, ◌+◌, ◌*◌, List, [], ◌∷◌, length, map, Some, Bool, true, slice_get}
 use Rattle.std.specs.List.{sum_by}
 use Rattle.wa_types.specs.Frames.{Saved}
@@ -13,17 +13,18 @@ use Rattle.call_frames.specs.FrameParts.{restoring_by_call, saving_by_call}
 use Rattle.call_frames.specs.PlainFrames.{SavedPart, at_every, at_these, SavedParts, call_fields, frames_of}
 use Rattle.call_frames.specs.PlainLaws.{NameCalls, named_calls, parts_size, sizes_size}
 use Rattle.live_guards.specs.LiveFrames.{fields_at}
+use Rattle.live_guards.specs.SlimModule.{Pieces}
 use Rattle.rewrite_runs.specs.EmittedBy.{FrameCode, asyncified_by}
 
 -- ---- the module
 
--- the codes of the frames of each function
-abbrev pub live_codes : (parts : (index : ℕ) → SavedParts) → (index : ℕ) → Func → FrameCode
-live_codes parts x f = record { restoring = restoring_by_call (frames_of (parts x)) done; saving = saving_by_call (frames_of (parts x)) done }
+-- the pieces of each function, and the codes of its frames
+abbrev pub live_codes : (pieces : (index : ℕ) → Pieces) → (parts : (index : ℕ) → SavedParts) → (index : ℕ) → Func → FrameCode
+live_codes pieces parts x f = record { pieces = pieces x; restoring = restoring_by_call (frames_of (parts x)) done; saving = saving_by_call (frames_of (parts x)) done }
 
--- The module in which each function that may pause is written with such frames, `which` telling them.
-abbrev pub live_asyncified : Module → Settings → (which : List Bool) → (parts : (index : ℕ) → SavedParts) → Module
-live_asyncified m s which parts = asyncified_by m s which (live_codes parts)
+-- The module in which each function that may pause is written with these pieces and such frames, `which` telling them.
+abbrev pub live_asyncified : Module → Settings → (which : List Bool) → (pieces : (index : ℕ) → Pieces) → (parts : (index : ℕ) → SavedParts) → Module
+live_asyncified m s which pieces parts = asyncified_by m s which (live_codes pieces parts)
 
 -- ---- what parts owe
 

@@ -19,6 +19,8 @@ use Rattle.local_spill.specs.declared.RuntimeIds.{RuntimeIds}
 use Rattle.guard_form.specs.Guarded.{function_body, guarded_code}
 use Rattle.call_frames.specs.FrameParts.{restoring_by_call, saving_by_call}
 use Rattle.call_frames.specs.PlainFrames.{SavedParts, frames_of}
+use Rattle.live_form.specs.SlimModule.{Pieces, plain_pieces}
+use Rattle.live_form.proofs.SlimModules.{plain_slim}
 use Rattle.save_laws.specs.LiveAt.{LiveAtCalls}
 use Rattle.call_classes.specs.declared.frames.FrameParts.{FrameParts}
 use Rattle.call_classes.specs.CallParts.{call_parts, kept_by_sets}
@@ -70,7 +72,11 @@ module _ (m : Module) (s : Settings) (which : List Bool) (f : Func) (v : Flatten
   abbrev whole : ℕ → SavedParts → List ℕ → FlatFunc → Code
   whole g p ks fl = function_body g (restoring_by_call (frames_of p) done) (saving_by_call (frames_of p) done) (result_got fl.result) (guarded_code g ks fl)
 
-  body_same : whole ids.state told ns (flat_func_of v.func) ≡ (live_written m s which x f told).body
+  -- pieces as flattening gives them
+  abbrev plain : Pieces
+  plain = plain_pieces (Numbered m s which f) (flattened m x f)
+
+  body_same : whole ids.state told ns (flat_func_of v.func) ≡ (live_written m s which x f plain told).body
   body_same =
       ap (λ (i : RuntimeIds). whole i.state told ns (flat_func_of v.func)) ei
       ∙ ap (λ ks. whole (global_space m) told ks (flat_func_of v.func)) en
@@ -79,7 +85,10 @@ module _ (m : Module) (s : Settings) (which : List Bool) (f : Func) (v : Flatten
   pub live_is : (locals : List Run) (body : Code) → locals ≡ f.locals ++ map one_run (drop v.first_slot v.func.locals.items ++ I32 ∷ I32 ∷ I64 ∷ [])
       → body ≡ whole ids.state told ns (flat_func_of v.func) → IsLiveWritten m s which x f (mk_func f.sort locals body)
   live_is locals body el eb = record {
+    pieces = plain;
+    slim = plain_slim m (Numbered m s which f) x f;
+    chosen = refl;
     parts = told;
     live = owed;
-    is = func_is (live_written m s which x f told) f.sort locals body refl (el ∙ runs_same m s which f v valid sizes h v.first_slot refl) (eb ∙ body_same);
+    is = func_is (live_written m s which x f plain told) f.sort locals body refl (el ∙ runs_same m s which f v valid sizes h v.first_slot refl) (eb ∙ body_same);
   }
