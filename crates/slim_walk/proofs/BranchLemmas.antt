@@ -35,13 +35,13 @@ operands_next xs i d out new lt h e =
 
 -- ---- labels
 
-reaches_by : (f g : Free) (ts : List Free) (l : ℕ) → Covers g f → Reaches f ts l → Reaches g ts l
+pub reaches_by : (f g : Free) (ts : List Free) (l : ℕ) → Covers g f → Reaches f ts l → Reaches g ts l
 reaches_by f g [] l co re = re
 reaches_by f g (h ∷ ts) zero co re = λ y e. co y (re y e)
 reaches_by f g (h ∷ ts) (suc l) co re = reaches_by f g ts l co re
 
 -- from where all of the construct's is set
-reaches_at : (t : Terms) (a b : Walk) (ts : List Free) (l : ℕ) → Good b → Alike a b → Reaches (free_by t.slot (take a.floor a.stack.items)) ts l → Reaches (free_at t b) ts l
+pub reaches_at : (t : Terms) (a b : Walk) (ts : List Free) (l : ℕ) → Good b → Alike a b → Reaches (free_by t.slot (take a.floor a.stack.items)) ts l → Reaches (free_at t b) ts l
 reaches_at t a b ts l good alike re =
     let e : take a.floor (take b.set b.stack.items) ≡ take a.floor a.stack.items =
     cut_below b.stack.items a.floor b.set (let q = alike.floor in let h = good.floor in omega arith) ∙ alike.below in
@@ -79,13 +79,13 @@ plainly_all : (k : ℕ) → Plainly (more k [])
 plainly_all zero = plainly
 plainly_all (suc k) = plainly_held (plainly_all k)
 
-bare_shape : (b : Walk) → b.set ≡ length b.stack.items → shape_at b ≡ []
+pub bare_shape : (b : Walk) → b.set ≡ length b.stack.items → shape_at b ≡ []
 bare_shape b e = ap (λ ys. kept_onto ys []) (drop_all b.set b.stack.items (omega arith))
 
 one_got : (o : Operand) (c : Code) → all_got (o ∷ []) c ≡ got o c
 one_got o c = refl
 
-got_slots : (xs : List ℕ) (c : Code) → all_got (map Local xs) c ≡ slots_got xs c
+pub got_slots : (xs : List ℕ) (c : Code) → all_got (map Local xs) c ≡ slots_got xs c
 got_slots [] c = refl
 got_slots (x ∷ xs) c = ap (plain (local_get x)) (got_slots xs c)
 
@@ -149,7 +149,7 @@ module _ (a b d : Walk) (args : List Operand) (good : Good a) (taken : Taken a b
   sole_slim t n ts out (plain (call_indirect s) done) f k c c' e h sl = S.calls_by s (plainly_all k) h sl
   sole_slim t n ts out _ f k c c' e h sl = absurd e
 
-  calls_to : (to : Option ℕ) (c : Code) → calls_of (set_to to c) ≡ calls_of c
+  pub calls_to : (to : Option ℕ) (c : Code) → calls_of (set_to to c) ≡ calls_of c
   unfolding calls_of
   calls_to None c = refl
   calls_to (Some x) c = refl

@@ -53,7 +53,7 @@ local_stepped a b v to x good own puts given = record {
       (given.step t (among_next t a (record a { piece = v }) (alike_piece a a v (alike_same a)) among) n ts out c c' sl);
 }
 
-held_by : (t : Terms) (x : ℕ) (xs : List ℕ) → elem x xs ≡ true → free_by t.slot xs x ≡ false
+pub held_by : (t : Terms) (x : ℕ) (xs : List ℕ) → elem x xs ≡ true → free_by t.slot xs x ≡ false
 held_by t x xs e = by (t.slot x) (elem x xs) e
   where
     by : (s e : Bool) → e ≡ true → (s && not e) ≡ false

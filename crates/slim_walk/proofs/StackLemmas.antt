@@ -208,6 +208,20 @@ cut_good a b n good low places stack le floor set above =
       floor = omega arith;
     }
 
+pub good_by : (a b : Walk) (n : ℕ) → Good a → b.low ≡ a.low → b.places.items ≡ a.places.items → b.stack.items ≡ take n a.stack.items → n ≤ length a.stack.items → b.set ≤ n
+    → b.floor ≤ b.set → Good b
+good_by a b n good low places stack le set floor =
+    let m = ap length stack ∙ length-take-le n a.stack.items le in
+    let i2 : (i : ℕ) → i < length b.stack.items → i < length a.stack.items = λ i lt. omega arith in
+    let same : (i : ℕ) → i < length b.stack.items → get_or b.stack.items i 0 ≡ get_or a.stack.items i 0 =
+    λ i lt. ap (λ ys. get_or ys i 0) stack ∙ cut_get a.stack.items n i (subst (λ ys. i < length ys) stack lt) in
+    record {
+      slots = λ i lt. slot_same a b (get_or b.stack.items i 0) low (ap length places) ∙ ap (slot_in a) (same i lt) ∙ good.slots i (i2 i lt);
+      places = λ i lt. (λ j. get_or (places j) (same i lt j - low j) 0) ∙ good.places i (i2 i lt);
+      set = omega arith;
+      floor = floor;
+    }
+
 pub cut_below : (xs : List ℕ) (floor n : ℕ) → floor ≤ n → take floor (take n xs) ≡ take floor xs
 cut_below xs zero n le = refl
 cut_below [] (suc f) zero le = refl

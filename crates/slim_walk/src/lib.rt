@@ -12,5 +12,5 @@ mod operators;
 mod stack;
 
 pub use branches::{put_br, put_br_if, put_br_table, put_free_call, put_unreachable};
-pub use moves::{put_move, put_plain};
-pub use stack::{Walk, flush, is_slot, keep, take};
+pub use moves::{keep_told, put_move, put_plain};
+pub use stack::{Walk, flush, is_slot, is_top, keep, take};

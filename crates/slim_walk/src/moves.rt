@@ -1,6 +1,6 @@
 //! Plain statements, and moves.
 
-ghost use Rattle.std.specs.Prelude.{◌≡◌, true, false, IfOk};
+ghost use Rattle.std.specs.Prelude.{◌≡◌, ℕ, true, false, IfOk};
 ghost use Rattle.wa_types.specs.Syntax.{local_get, local_set, done, plain};
 ghost use Rattle.wa_types.specs.View.{in_front};
 ghost use Rattle.wa_model.specs.Flat.{all_got, followed_by, got, set_to};
@@ -16,7 +16,7 @@ use wa_model::Operand;
 use wa_types::Instr;
 
 /// Puts a result where it is told. False where it can't be kept.
-pub(crate) fn keep_told(at: &mut Walk, to: Option<u32>) -> Result<bool, AllocError>
+pub fn keep_told(at: &mut Walk, to: Option<u32>) -> Result<bool, AllocError>
     requires { Good at.old }
     ensures { IfOk result (λ kept. kept ≡ true → KeptTold at.old at.new to) }
 {
@@ -32,11 +32,10 @@ pub fn put_plain(
     op: &Instr,
     args: &[Operand],
     to: Option<u32>,
-    _locals: u32,
 ) -> Result<bool, AllocError>
     requires good { Good at.old }
     requires leaf { is_leaf op.now ≡ true }
-    requires fits { ComputesFit _locals (in_front op.now done) to }
+    requires fits { (n : ℕ) × ComputesFit n (in_front op.now done) to }
     ensures { IfOk result (λ put. put ≡ true → Stepped at.old at.new false (λ c. all_got args.now (followed_by (in_front op.now done) (set_to to c)))) }
 {
     let Some(count) = taken_by(at, op) else {

@@ -82,7 +82,7 @@ pub fn flush(at: &mut Walk) -> Result<(), AllocError>
 }
 
 /// Whether the operands are the topmost slots.
-fn is_top(stack: &[u32], args: &[Operand]) -> bool
+pub fn is_top(stack: &[u32], args: &[Operand]) -> bool
     ensures { result ≡ true → IsTop stack.now args.now }
 {
     if stack.len() < args.len() {
