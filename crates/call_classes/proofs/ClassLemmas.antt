@@ -8,7 +8,7 @@ use Rattle.call_frames.specs.Layout.{FrameField, kept_count}
 use Rattle.call_frames.specs.PlainFrames.{SavedPart, at_every, at_these, is_one_of, call_fields, test_size}
 use Rattle.call_frames.specs.PlainLaws.{NameCalls, named_calls, sizes_size, parts_size}
 use Rattle.call_classes.specs.declared.frames.CallClass.{CallClass}
-use Rattle.call_classes.specs.Classes.{AllBelow, NumbersBelow, KeepSets, HasFields, with_call}
+use Rattle.call_classes.specs.Classes.{AllBelow, NumbersBelow, KeepByClasses, HasFields, with_call}
 use Rattle.call_classes.specs.Views.{class_parts, fields_in, kept_total}
 
 -- no part is kept by all calls
@@ -225,7 +225,7 @@ module _ (types : List ValType) (sets : List (List Bool)) (set : List Bool) wher
       this : k ≡ n → call_fields k new ≡ fields_in 0 (get_or (sets ++ set ∷ []) k []) types
       this e = ap (λ i. call_fields i new) e ∙ last ∙ ap (λ s. fields_in 0 s types) (sym (get_or_at sets set [] [] k (sym e)))
 
-  pub keep_with : (c : ℕ) (ps : List SavedPart) → OnlyThese ps → HasFields c ps gs → KeepSets types sets ps → KeepSets types (sets ++ set ∷ []) (with_call c n ps)
+  pub keep_with : (c : ℕ) (ps : List SavedPart) → OnlyThese ps → HasFields c ps gs → KeepByClasses types sets ps → KeepByClasses types (sets ++ set ∷ []) (with_call c n ps)
   keep_with c ps o has h =
       let l = length-append sets (set ∷ []) in
       let t = total_more types sets set in
@@ -235,15 +235,17 @@ module _ (types : List ValType) (sets : List (List Bool)) (set : List Bool) wher
       let few = h.numbers in
       let small = h.size in
       record {
-        fields = each_more (with_call c n ps) (λ k lt. others_stay c n k ps (ne_eqb k n (λ e. absurd (omega (arith, e, lt)))) ∙ h.fields k lt) (it_keeps c n ps gs o h.below has);
-        below = subst (λ i. NumbersBelow i (with_call c n ps)) (sym l) (below_with c n ps h.below);
-        named = named_with c n ps h.named;
+        keep = record {
+          fields = each_more (with_call c n ps) (λ k lt. others_stay c n k ps (ne_eqb k n (λ e. absurd (omega (arith, e, lt)))) ∙ h.keep.fields k lt) (it_keeps c n ps gs o h.keep.below has);
+          below = subst (λ i. NumbersBelow i (with_call c n ps)) (sym l) (below_with c n ps h.keep.below);
+          named = named_with c n ps h.keep.named;
+        };
         numbers = omega arith;
         size = omega arith;
       }
 
-  pub keep_new : (fs : List FrameField) (ps : List SavedPart) → OnlyThese ps → fs ≡ gs → 1 ≤ kept_count fs → KeepSets types sets ps
-      → KeepSets types (sets ++ set ∷ []) (ps ++ at_these (n ∷ []) fs ∷ [])
+  pub keep_new : (fs : List FrameField) (ps : List SavedPart) → OnlyThese ps → fs ≡ gs → 1 ≤ kept_count fs → KeepByClasses types sets ps
+      → KeepByClasses types (sets ++ set ∷ []) (ps ++ at_these (n ∷ []) fs ∷ [])
   keep_new fs ps o e some h =
       let one : List SavedPart = at_these (n ∷ []) fs ∷ [] in
       let l = length-append sets (set ∷ []) in
@@ -254,27 +256,31 @@ module _ (types : List ValType) (sets : List (List Bool)) (set : List Bool) wher
       let small = h.size in
       let same : kept_count fs ≡ kept_count gs = ap kept_count e in
       record {
-        fields = each_more (ps ++ one)
-            (λ k lt. fields_join k ps one ∙ ap (λ b. call_fields k ps ++ ((if b then fs else []) ++ [])) (ap (λ b. b || false) (ne_eqb k n (λ q. absurd (omega (arith, q, lt)))))
-            ∙ append-nil (call_fields k ps) ∙ h.fields k lt)
-            (fields_join n ps one ∙ ap (λ xs. xs ++ call_fields n one) (none_at n n ps o h.below (omega arith))
-            ∙ ap (λ b. (if b then fs else []) ++ []) (ap (λ b. b || false) (eq-eqb n n refl)) ∙ append-nil fs ∙ e);
-        below = subst (λ i. NumbersBelow i (ps ++ one)) (sym l) (below_join (n + 1) ps one (below_wider n ps h.below) ((omega arith, tt), tt));
-        named = named_join ps one h.named (omega arith, tt);
+        keep = record {
+          fields = each_more (ps ++ one)
+              (λ k lt. fields_join k ps one ∙ ap (λ b. call_fields k ps ++ ((if b then fs else []) ++ [])) (ap (λ b. b || false) (ne_eqb k n (λ q. absurd (omega (arith, q, lt)))))
+              ∙ append-nil (call_fields k ps) ∙ h.keep.fields k lt)
+              (fields_join n ps one ∙ ap (λ xs. xs ++ call_fields n one) (none_at n n ps o h.keep.below (omega arith))
+              ∙ ap (λ b. (if b then fs else []) ++ []) (ap (λ b. b || false) (eq-eqb n n refl)) ∙ append-nil fs ∙ e);
+          below = subst (λ i. NumbersBelow i (ps ++ one)) (sym l) (below_join (n + 1) ps one (below_wider n ps h.keep.below) ((omega arith, tt), tt));
+          named = named_join ps one h.keep.named (omega arith, tt);
+        };
         numbers = omega arith;
         size = omega arith;
       }
 
-  pub keep_none : (ps : List SavedPart) → OnlyThese ps → gs ≡ [] → KeepSets types sets ps → KeepSets types (sets ++ set ∷ []) ps
+  pub keep_none : (ps : List SavedPart) → OnlyThese ps → gs ≡ [] → KeepByClasses types sets ps → KeepByClasses types (sets ++ set ∷ []) ps
   keep_none ps o e h =
       let l = length-append sets (set ∷ []) in
       let t = total_more types sets set in
       let few = h.numbers in
       let small = h.size in
       record {
-        fields = each_more ps h.fields (none_at n n ps o h.below (omega arith) ∙ sym e);
-        below = subst (λ i. NumbersBelow i ps) (sym l) (below_wider n ps h.below);
-        named = h.named;
+        keep = record {
+          fields = each_more ps h.keep.fields (none_at n n ps o h.keep.below (omega arith) ∙ sym e);
+          below = subst (λ i. NumbersBelow i ps) (sym l) (below_wider n ps h.keep.below);
+          named = h.keep.named;
+        };
         numbers = omega arith;
         size = omega arith;
       }

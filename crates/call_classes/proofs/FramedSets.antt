@@ -127,7 +127,8 @@ typed_parts locals (at_these ks fs ∷ ps) h = (h.0, typed_parts locals ps h.1)
 -- ---- frames
 
 pub framed_law : SetsAreFramed
-framed_law types sets base address p keep some few index adr many =
+framed_law weight types sets base address p cheap some few index adr many =
+    let keep = cheap.keep in
     let f = told_frames (length sets) base address p in
     let ps = parts_view p in
     let at : (k : ℕ) → k < length sets → fields_at k (parts_of base ps) ≡ fields_in 0 (get_or sets k []) types = λ k lt. fields_law base k ps ∙ keep.fields k lt in
@@ -143,15 +144,15 @@ framed_law types sets base address p keep some few index adr many =
         codes = λ body result. codes_law (frames_of f) k body result tell lt;
         fields = at k lt;
         cost =
-            let c = cost_law f k keep.named in
-            let n = keep.numbers in
+            let c = cost_law f k in
+            let n = cheap.tests in
             let e = ap kept_count (keep.fields k lt) in
             omega arith;
       };
       size =
           let a = size_law.saving f in
           let b = size_law.restoring f in
-          let c = keep.size in
+          let c = cheap.size in
           omega arith;
       small = record {
         address = adr;

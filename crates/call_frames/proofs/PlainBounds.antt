@@ -12,7 +12,7 @@ use Rattle.frame_laws.specs.Layout.{FrameField, kept, gap, fields_size, kept_cou
 use Rattle.call_frames.specs.CallTests.{at_call, at_either}
 use Rattle.call_frames.specs.FrameParts.{parts_cost_at, shared_size, scratch_raised, scratch_lowered, parts_stored, parts_loaded, frame_stored_by_call, location_lowered}
 use Rattle.call_frames.specs.PlainFrames.{SavedPart, at_every, at_these, SavedParts, is_one_of, call_fields, or_calls, at_calls, test_size, parts_of, sizes_added, sizes_cost, frames_of}
-use Rattle.call_frames.specs.PlainLaws.{NameCalls, named_calls, PlainFramesCost, sizes_size, parts_size, PlainFramesSize}
+use Rattle.call_frames.specs.PlainLaws.{tests_cost, PlainFramesCost, NamesCostLittle, sizes_size, parts_size, PlainFramesSize}
 
 -- ---- cost
 
@@ -25,23 +25,27 @@ test_few : (ks : List ℕ) → 1 ≤ length ks → test_size ks + 1 ≤ 4 * leng
 test_few [] h = omega arith
 test_few (k ∷ ks) h = omega arith
 
-parts_cost : (index k : ℕ) (ps : List SavedPart) → NameCalls ps
-    → sizes_cost ps + 2 * parts_cost_at k (parts_of index ps) ≤ 27 * named_calls ps + 6 * kept_count (call_fields k ps)
-parts_cost index k [] h = omega arith
-parts_cost index k (at_every fs ∷ ps) h =
-    let ih = parts_cost index k ps h in
+parts_cost : (index k : ℕ) (ps : List SavedPart) → sizes_cost ps + 2 * parts_cost_at k (parts_of index ps) ≤ tests_cost ps + 6 * kept_count (call_fields k ps)
+parts_cost index k [] = omega arith
+parts_cost index k (at_every fs ∷ ps) =
+    let ih = parts_cost index k ps in
     let j = join_count fs (call_fields k ps) in
     omega arith
-parts_cost index k (at_these ks fs ∷ ps) h = by (is_one_of ks k) (parts_cost index k ps h.1)
+parts_cost index k (at_these ks fs ∷ ps) = by (is_one_of ks k) (parts_cost index k ps)
   where
-    by : (b : Bool) → sizes_cost ps + 2 * parts_cost_at k (parts_of index ps) ≤ 27 * named_calls ps + 6 * kept_count (call_fields k ps)
+    by : (b : Bool) → sizes_cost ps + 2 * parts_cost_at k (parts_of index ps) ≤ tests_cost ps + 6 * kept_count (call_fields k ps)
         → test_size ks + 6 + sizes_cost ps + 2 * (test_size ks + (if b then 6 + 3 * kept_count fs else 2) + parts_cost_at k (parts_of index ps))
-        ≤ 27 * (length ks + named_calls ps) + 6 * kept_count ((if b then fs else []) ++ call_fields k ps)
-    by true ih = let t = test_few ks h.0 in let j = join_count fs (call_fields k ps) in omega (arith, h.0)
-    by false ih = let t = test_few ks h.0 in omega (arith, h.0)
+        ≤ 3 * test_size ks + 18 + tests_cost ps + 6 * kept_count ((if b then fs else []) ++ call_fields k ps)
+    by true ih = let j = join_count fs (call_fields k ps) in omega arith
+    by false ih = omega arith
 
 pub cost_law : PlainFramesCost
-cost_law f k h = let c = parts_cost f.index k f.parts h in omega arith
+cost_law f k = let c = parts_cost f.index k f.parts in omega arith
+
+pub names_law : NamesCostLittle
+names_law [] h = omega arith
+names_law (at_every fs ∷ ps) h = names_law ps h
+names_law (at_these ks fs ∷ ps) h = let ih = names_law ps h.1 in let t = test_few ks h.0 in omega (arith, h.0)
 
 -- ---- size
 

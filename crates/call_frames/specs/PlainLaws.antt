@@ -36,11 +36,21 @@ named_calls [] = 0
 named_calls (at_every fs ∷ ps) = named_calls ps
 named_calls (at_these ks fs ∷ ps) = length ks + named_calls ps
 
--- The bound at call k counts each name, and of the fields those that the call keeps.
+-- what the tests of parts cost at both ends, with what stands under each beside its fields
+abbrev pub tests_cost : List SavedPart → ℕ
+tests_cost [] = 0
+tests_cost (at_every fs ∷ ps) = tests_cost ps
+tests_cost (at_these ks fs ∷ ps) = 3 * test_size ks + 18 + tests_cost ps
+
+-- The bound at call k counts all tests, and of the fields those that the call keeps.
 abbrev pub PlainFramesCost : Type 0
 PlainFramesCost =
-    (f : SavedParts) (k : ℕ) → NameCalls f.parts
-    → save_bound_at (frames_of f) k + restore_bound_at (frames_of f) k ≤ 32 + 27 * named_calls f.parts + 6 * kept_count (call_fields k f.parts)
+    (f : SavedParts) (k : ℕ)
+    → save_bound_at (frames_of f) k + restore_bound_at (frames_of f) k ≤ 32 + tests_cost f.parts + 6 * kept_count (call_fields k f.parts)
+
+-- Tests cost at most 27 for each name.
+abbrev pub NamesCostLittle : Type 0
+NamesCostLittle = (ps : List SavedPart) → NameCalls ps → tests_cost ps ≤ 27 * named_calls ps
 
 -- ---- how large they are
 
