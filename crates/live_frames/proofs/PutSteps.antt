@@ -10,12 +10,13 @@ use Rattle.local_spill.specs.Spilling.{stored_value, loaded_value}
 use Rattle.frame_laws.specs.Layout.{fields_size, stores, loads}
 use Rattle.call_frames.specs.CallTests.{at_call}
 use Rattle.call_frames.specs.FrameParts.{parts_stored, parts_loaded}
-use Rattle.call_frames.specs.PlainFrames.{at_calls, parts_of, sizes_added}
+use Rattle.call_frames.specs.PlainFrames.{SavedPart, at_calls, parts_of, sizes_added}
 use Rattle.call_classes.specs.declared.frames.CallClass.{CallClass}
 use Rattle.call_classes.specs.declared.frames.KeptLocal.{KeptLocal}
+use Rattle.call_classes.specs.declared.frames.KeptPart.{KeptPart}
 use Rattle.live_frames.specs.Putting.{calls_joined}
-use Rattle.call_classes.specs.Views.{fields_of, class_parts}
-use Rattle.live_frames.proofs.PieceLemmas.{stored_more, loaded_more, joined_more, joined_is, class_code, raised_arm, stored_arm, loaded_arm, class_added, class_stored, class_loaded}
+use Rattle.call_classes.specs.Views.{fields_of, part_view, part_views}
+use Rattle.live_frames.proofs.PieceLemmas.{stored_more, loaded_more, joined_more, joined_is, class_code, shared_bytes, part_added, part_stored, part_loaded}
 
 -- what is put, told otherwise
 pub put_same : {X : Type 0} (old new : List Instr) (f : X → Code → Code) (x y : X) → x ≡ y → Puts old new (f x) → Puts old new (f y)
@@ -65,37 +66,44 @@ pub test_put : (old mid new : List Instr) (index first : ℕ) (ks calls : List �
 test_put old mid new index first ks calls e h k rest =
     k rest ∙ h (calls_joined index ks rest) ∙ ap (onto old) (sym (joined_is index ks (at_call index first) rest)) ∙ ap (λ js. onto old (at_calls index js rest)) (sym e)
 
--- ---- classes
+-- ---- parts
 
--- under the test of a class, told otherwise
+-- under the test of these calls, told otherwise
 pub under_class : (old new : List Instr) (index : ℕ) (x : CallClass) (calls : List ℕ) (arm code : Code) → calls ≡ x.calls.items → arm ≡ code
     → Puts old new (λ c. at_calls index calls (branch None arm done c)) → Puts old new (λ c. class_code index x code c)
-under_class old new index x calls arm code e a h rest =
-    h rest ∙ ap (λ ks. onto old (at_calls index ks (branch None arm done rest))) e ∙ ap (λ z. onto old (at_calls index x.calls.items (branch None z done rest))) a
+under_class old new index x calls arm code ec ea h rest =
+    h rest ∙ ap (λ js. onto old (at_calls index js (branch None arm done rest))) ec ∙ ap (λ a. onto old (at_calls index x.calls.items (branch None a done rest))) ea
 
-module _ (old mid new : List Instr) (index sp : ℕ) (xs : List CallClass) (i : ℕ) (d : CallClass) (lt : i < length xs) where
-  pub added_step : Puts old mid (sizes_added index sp (class_parts (take i xs))) → Puts mid new (λ c. class_code index (get_or xs i d) (raised_arm sp (get_or xs i d)) c)
-      → Puts old new (sizes_added index sp (class_parts (take (i + 1) xs)))
-  added_step h k rest = k rest ∙ h (class_code index (get_or xs i d) (raised_arm sp (get_or xs i d)) rest) ∙ ap (onto old) (class_added index sp xs i d lt rest)
+module _ (old mid new : List Instr) (index sp : ℕ) (xs : List KeptPart) (i : ℕ) (d : KeptPart) (lt : i < length xs) where
+  pub added_step : Puts old mid (sizes_added index sp (part_views (take i xs))) → Puts mid new (sizes_added index sp (part_view (get_or xs i d) ∷ []))
+      → Puts old new (sizes_added index sp (part_views (take (i + 1) xs)))
+  added_step h k rest = k rest ∙ h (sizes_added index sp (part_view (get_or xs i d) ∷ []) rest) ∙ ap (onto old) (part_added index sp xs i d lt rest)
 
-  pub class_stored_step : (off : ℕ) → Puts old mid (parts_stored sp off (parts_of index (class_parts (take i xs))))
-      → Puts mid new (λ c. class_code index (get_or xs i d) (stored_arm sp off (get_or xs i d)) c) → Puts old new (parts_stored sp off (parts_of index (class_parts (take (i + 1) xs))))
-  class_stored_step off h k rest = k rest ∙ h (class_code index (get_or xs i d) (stored_arm sp off (get_or xs i d)) rest) ∙ ap (onto old) (class_stored index sp xs i d lt off rest)
+  pub part_stored_step : (o : ℕ) → o ≡ shared_bytes index (part_views (take i xs)) → Puts old mid (parts_stored sp 0 (parts_of index (part_views (take i xs))))
+      → Puts mid new (parts_stored sp o (parts_of index (part_view (get_or xs i d) ∷ []))) → Puts old new (parts_stored sp 0 (parts_of index (part_views (take (i + 1) xs))))
+  part_stored_step o e h k rest = k rest ∙ h (parts_stored sp o (parts_of index (part_view (get_or xs i d) ∷ [])) rest) ∙ ap (onto old) (part_stored index sp xs i d lt o rest e)
 
-  pub class_loaded_step : (off : ℕ) → Puts old mid (parts_loaded sp off (parts_of index (class_parts (drop (i + 1) xs))))
-      → Puts mid new (λ c. class_code index (get_or xs i d) (loaded_arm sp off (get_or xs i d)) c) → Puts old new (parts_loaded sp off (parts_of index (class_parts (drop i xs))))
-  class_loaded_step off h k rest = k rest ∙ h (class_code index (get_or xs i d) (loaded_arm sp off (get_or xs i d)) rest) ∙ ap (onto old) (class_loaded index sp xs i d lt off rest)
+  pub part_loaded_step : (off o : ℕ) → o ≡ off + shared_bytes index (part_view (get_or xs i d) ∷ []) → Puts old mid (parts_loaded sp o (parts_of index (part_views (drop (i + 1) xs))))
+      → Puts mid new (parts_loaded sp off (parts_of index (part_view (get_or xs i d) ∷ []))) → Puts old new (parts_loaded sp off (parts_of index (part_views (drop i xs))))
+  part_loaded_step off o e h k rest = k rest ∙ h (parts_loaded sp off (parts_of index (part_view (get_or xs i d) ∷ [])) rest) ∙ ap (onto old) (part_loaded index sp xs i d lt off o rest e)
 
-pub added_end : (old new : List Instr) (index sp : ℕ) (xs : List CallClass) (i : ℕ) → length xs ≤ i → Puts old new (sizes_added index sp (class_parts (take i xs))) → Puts old new (sizes_added index sp (class_parts xs))
-added_end old new index sp xs i le h rest = h rest ∙ ap (λ ys. onto old (sizes_added index sp (class_parts ys) rest)) (take_all i xs le)
+-- all parts
+module _ (old new : List Instr) (index sp : ℕ) (xs : List KeptPart) (i : ℕ) (le : length xs ≤ i) where
+  pub added_end : Puts old new (sizes_added index sp (part_views (take i xs))) → Puts old new (sizes_added index sp (part_views xs))
+  added_end h rest = h rest ∙ ap (λ ys. onto old (sizes_added index sp (part_views ys) rest)) (take_all i xs le)
 
-pub class_stored_end : (old new : List Instr) (index sp off : ℕ) (xs : List CallClass) (i : ℕ) → length xs ≤ i → Puts old new (parts_stored sp off (parts_of index (class_parts (take i xs))))
-    → Puts old new (parts_stored sp off (parts_of index (class_parts xs)))
-class_stored_end old new index sp off xs i le h rest = h rest ∙ ap (λ ys. onto old (parts_stored sp off (parts_of index (class_parts ys)) rest)) (take_all i xs le)
+  pub part_stored_end : Puts old new (parts_stored sp 0 (parts_of index (part_views (take i xs)))) → Puts old new (parts_stored sp 0 (parts_of index (part_views xs)))
+  part_stored_end h rest = h rest ∙ ap (λ ys. onto old (parts_stored sp 0 (parts_of index (part_views ys)) rest)) (take_all i xs le)
 
-pub class_loaded_first : (old : List Instr) (index sp off : ℕ) (xs : List CallClass) (n : ℕ) → n ≡ length xs → Puts old old (parts_loaded sp off (parts_of index (class_parts (drop n xs))))
-class_loaded_first old index sp off xs n e rest = ap (λ ys. onto old (parts_loaded sp off (parts_of index (class_parts ys)) rest)) (sym (drop_all n xs (omega (arith, e))))
+pub part_loaded_first : (old : List Instr) (index sp o : ℕ) (xs : List KeptPart) (n : ℕ) → n ≡ length xs → Puts old old (parts_loaded sp o (parts_of index (part_views (drop n xs))))
+part_loaded_first old index sp o xs n e rest = ap (λ ys. onto old (parts_loaded sp o (parts_of index (part_views ys)) rest)) (sym (drop_all n xs (omega (arith, e))))
 
-pub class_loaded_end : (old new : List Instr) (index sp off : ℕ) (xs : List CallClass) (n : ℕ) → n ≡ 0 → Puts old new (parts_loaded sp off (parts_of index (class_parts (drop n xs))))
-    → Puts old new (parts_loaded sp off (parts_of index (class_parts xs)))
-class_loaded_end old new index sp off xs n e h rest = h rest ∙ ap (λ k. onto old (parts_loaded sp off (parts_of index (class_parts (drop k xs))) rest)) e
+pub part_loaded_end : (old new : List Instr) (index sp o : ℕ) (xs : List KeptPart) (n : ℕ) → n ≡ 0 → o ≡ shared_bytes index (part_views (take n xs))
+    → Puts old new (parts_loaded sp o (parts_of index (part_views (drop n xs)))) → Puts old new (parts_loaded sp 0 (parts_of index (part_views xs)))
+part_loaded_end old new index sp o xs n e eo h rest =
+    let z : o ≡ 0 = eo ∙ ap (λ k. shared_bytes index (part_views (take k xs))) e in
+    h rest ∙ ap (λ k. onto old (parts_loaded sp o (parts_of index (part_views (drop k xs))) rest)) e ∙ ap (λ k. onto old (parts_loaded sp k (parts_of index (part_views xs)) rest)) z
+
+-- one part, told otherwise
+pub part_same : (old new : List Instr) (f : SavedPart → Code → Code) (p q : KeptPart) → p ≡ q → Puts old new (f (part_view q)) → Puts old new (f (part_view p))
+part_same old new f p q e h rest = h rest ∙ ap (λ z. onto old (f (part_view z) rest)) (sym e)
