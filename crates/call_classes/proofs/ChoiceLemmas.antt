@@ -9,7 +9,7 @@ use Rattle.call_frames.specs.PlainFrames.{SavedPart, at_every, at_these, is_one_
 use Rattle.call_frames.specs.PlainLaws.{tests_cost}
 use Rattle.call_frames.proofs.PlainBounds.{names_law}
 use Rattle.call_classes.specs.declared.frames.CallClass.{CallClass}
-use Rattle.call_classes.specs.CallParts.{keeps, keepers, same_calls, with_field, with_kept, grouped, shared_where, groups, parts_length, are_better, better_parts, kept_by_sets}
+use Rattle.call_classes.specs.CallParts.{keeps, keepers, same_calls, with_field, with_kept, grouped, shared_where, groups, parts_length, tests_most, are_better, better_parts, kept_by_sets}
 use Rattle.call_classes.specs.Classes.{AllAre, AllShared, NumbersBelow, FewFields, FewParts, KeepByClasses, KeepCheaply, KeepSets, part_fields, shared_fields}
 use Rattle.call_classes.specs.Views.{class_part, class_parts, fields_in, kept_field, kept_total, kept_where}
 use Rattle.call_classes.proofs.GroupLemmas.{AreGroups, Rows, fields_where, groups_fields, grouped_groups, keepers_few, row_fields, shared_below, shared_named, shared_same}
@@ -289,25 +289,28 @@ length_least k (at_these ks fs ∷ ps) = by (is_one_of ks k) (length_least k ps)
 
 -- ---- the choice
 
-module _ (weight : ℕ) (types : List ValType) (sets : List (List Bool)) (sized : Sized types sets) (light : length sets ≤ weight) (cs : List SavedPart) (by_classes : KeepByClasses types sets cs) where
+module _ (types : List ValType) (sets : List (List Bool)) (sized : Sized types sets) (cs : List SavedPart) (by_classes : KeepByClasses types sets cs) where
   abbrev pub gs : List SavedPart
   gs = groups types (rows_of types sets)
 
-  classes_tests : tests_cost cs ≤ 56 * (weight + 4)
-  classes_tests = let a = names_law cs by_classes.keep.named in let b = by_classes.numbers in omega (arith, a, b, light)
+  abbrev pub most : ℕ
+  most = tests_most (length types) (length sets)
 
-  pub chosen_keep : KeepCheaply weight types sets (better_parts weight gs cs)
-  chosen_keep = by (are_better weight gs cs) refl
+  classes_tests : tests_cost cs ≤ most
+  classes_tests = let a = names_law cs by_classes.keep.named in let b = by_classes.numbers in omega (arith, a, b)
+
+  pub chosen_keep : KeepCheaply types sets (better_parts most gs cs)
+  chosen_keep = by (are_better most gs cs) refl
     where
-      by : (b : Bool) → are_better weight gs cs ≡ b → KeepCheaply weight types sets (if b then gs else cs)
+      by : (b : Bool) → are_better most gs cs ≡ b → KeepCheaply types sets (if b then gs else cs)
       by true e =
-          let both = both_true (nat_le (tests_cost gs) (56 * (weight + 4))) (nat_le (parts_length gs) (parts_length cs)) e in
+          let both = both_true (nat_le (tests_cost gs) most) (nat_le (parts_length gs) (parts_length cs)) e in
           let less = leb-true (parts_length gs) (parts_length cs) both.1 in
           let size = by_classes.size in
-          record { keep = groups_keep types sets sized; tests = leb-true (tests_cost gs) (56 * (weight + 4)) both.0; size = omega (arith, less, size) }
+          record { keep = groups_keep types sets sized; tests = leb-true (tests_cost gs) most both.0; size = omega (arith, less, size) }
       by false e = record { keep = by_classes.keep; tests = classes_tests; size = by_classes.size }
 
-  pub chosen_alike : (set : List Bool) → 1 ≤ length sets → AllAre set sets → AllShared (better_parts weight gs cs)
+  pub chosen_alike : (set : List Bool) → 1 ≤ length sets → AllAre set sets → AllShared (better_parts most gs cs)
   chosen_alike set some h =
       let shared = groups_shared types set sets h in
       let cost = shared_cost gs shared in
@@ -315,6 +318,6 @@ module _ (weight : ℕ) (types : List ValType) (sets : List (List Bool)) (sized 
       let least = length_least 0 cs in
       let keep : call_fields 0 gs ≡ call_fields 0 cs = (groups_keep types sets sized).fields 0 some ∙ sym (by_classes.keep.fields 0 some) in
       let same = ap kept_count keep in
-      let better : are_better weight gs cs ≡ true = join_true (nat_le (tests_cost gs) (56 * (weight + 4))) (nat_le (parts_length gs) (parts_length cs))
-      (le-leb (tests_cost gs) (56 * (weight + 4)) (omega (arith, cost))) (le-leb (parts_length gs) (parts_length cs) (omega (arith, own, least, same))) in
+      let better : are_better most gs cs ≡ true = join_true (nat_le (tests_cost gs) most) (nat_le (parts_length gs) (parts_length cs))
+      (le-leb (tests_cost gs) most (omega (arith, cost))) (le-leb (parts_length gs) (parts_length cs) (omega (arith, own, least, same))) in
       subst (λ b. AllShared (if b then gs else cs)) (sym better) shared

@@ -127,7 +127,7 @@ typed_parts locals (at_these ks fs ∷ ps) h = (h.0, typed_parts locals ps h.1)
 -- ---- frames
 
 pub framed_law : SetsAreFramed
-framed_law weight types sets base address p cheap some few index adr many =
+framed_law types sets base address p cheap some few index adr many =
     let keep = cheap.keep in
     let f = told_frames (length sets) base address p in
     let ps = parts_view p in

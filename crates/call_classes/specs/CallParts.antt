@@ -86,16 +86,20 @@ groups types rows = map (shared_where (length rows)) (grouped 0 types rows [])
 abbrev pub parts_length : List SavedPart → ℕ
 parts_length ps = sizes_size ps + 2 * parts_size ps
 
--- Groups are taken where their tests cost little beside the function's weight, and their codes are no longer than those of classes.
-abbrev pub are_better : (weight : ℕ) → (groups classes : List SavedPart) → Bool
-are_better w gs cs = nat_le (tests_cost gs) (56 * (w + 4)) && nat_le (parts_length gs) (parts_length cs)
+-- Groups are taken where their tests cost no more than this, and their codes are no longer than those of classes.
+abbrev pub are_better : (most : ℕ) → (groups classes : List SavedPart) → Bool
+are_better most gs cs = nat_le (tests_cost gs) most && nat_le (parts_length gs) (parts_length cs)
 
-abbrev pub better_parts : (weight : ℕ) → (groups classes : List SavedPart) → List SavedPart
-better_parts w gs cs = if are_better w gs cs then gs else cs
+abbrev pub better_parts : (most : ℕ) → (groups classes : List SavedPart) → List SavedPart
+better_parts most gs cs = if are_better most gs cs then gs else cs
 
--- The parts of the frames of a function of this weight with locals of these types, whose calls keep these fields, call by call.
-unfoldable pub call_parts : (weight : ℕ) → List ValType → (kept_by : List (List FrameField)) → List SavedPart
-call_parts w types rows = better_parts w (groups types rows) (classed 0 rows [])
+-- what tests may cost: 27 for each local and each call
+abbrev pub tests_most : (locals calls : ℕ) → ℕ
+tests_most locals calls = 27 * (locals + calls)
+
+-- The parts of the frames of a function with locals of these types, whose calls keep these fields, call by call.
+unfoldable pub call_parts : List ValType → (kept_by : List (List FrameField)) → List SavedPart
+call_parts types rows = better_parts (tests_most (length types) (length rows)) (groups types rows) (classed 0 rows [])
 
 -- the fields of sets
 abbrev pub kept_by_sets : List ValType → List (List Bool) → List (List FrameField)

@@ -8,7 +8,7 @@ use Rattle.wa_types.specs.declared.values.ValType.{ValType}
 use Rattle.call_frames.specs.Layout.{FrameField, kept_count}
 use Rattle.call_frames.specs.PlainFrames.{SavedPart, at_every, at_these, call_fields}
 use Rattle.call_frames.specs.PlainLaws.{NameCalls, named_calls, tests_cost}
-use Rattle.call_classes.specs.CallParts.{joined, parts_length}
+use Rattle.call_classes.specs.CallParts.{joined, parts_length, tests_most}
 use Rattle.call_classes.specs.declared.frames.CallClass.{CallClass}
 use Rattle.call_classes.specs.Views.{fields_in, kept_total}
 
@@ -31,10 +31,10 @@ pub record KeepSets (types : List ValType) (sets : List (List Bool)) (ps : List 
   pub below : NumbersBelow (length sets) ps
   pub named : NameCalls ps
 
--- So do these, with bounds on the codes by what the calls keep, and on the tests by the weight of the function.
-pub record KeepCheaply (weight : ℕ) (types : List ValType) (sets : List (List Bool)) (ps : List SavedPart) : Type 0 where
+-- So do these, with bounds on the codes by what the calls keep, and on the tests by how many locals and calls there are.
+pub record KeepCheaply (types : List ValType) (sets : List (List Bool)) (ps : List SavedPart) : Type 0 where
   pub keep : KeepSets types sets ps
-  pub tests : tests_cost ps ≤ 56 * (weight + 4)
+  pub tests : tests_cost ps ≤ tests_most (length types) (length sets)
   pub size : parts_length ps ≤ 30 * kept_total types sets
 
 -- .. and these, each call in one part at most

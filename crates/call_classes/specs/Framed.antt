@@ -12,6 +12,7 @@ use Rattle.call_frames.specs.FrameParts.{CallFrames, fields_at, saving_by_call, 
 use Rattle.call_frames.specs.PlainFrames.{frames_of}
 use Rattle.call_frames.specs.PlainLaws.{PlainTyped, PlainSmall}
 use Rattle.call_classes.specs.declared.frames.FrameParts.{FrameParts}
+use Rattle.call_classes.specs.CallParts.{tests_most}
 use Rattle.call_classes.specs.Classes.{KeepCheaply}
 use Rattle.call_classes.specs.Views.{fields_in, kept_total, parts_view, told_frames}
 
@@ -20,10 +21,10 @@ abbrev pub set_frames : (sets : List (List Bool)) → (base address : ℕ) → F
 set_frames sets base address p = frames_of (told_frames (length sets) base address p)
 
 -- At call k the codes save and restore exactly the locals of its set, in order, and cost little.
-pub record FramedAt (weight : ℕ) (types : List ValType) (sets : List (List Bool)) (base address : ℕ) (p : FrameParts) (k : ℕ) : Type 0 where
+pub record FramedAt (types : List ValType) (sets : List (List Bool)) (base address : ℕ) (p : FrameParts) (k : ℕ) : Type 0 where
   pub codes : (body : Code) (result : Option ℕ) → FrameCodes (by_call (set_frames sets base address p) k body result) k
   pub fields : fields_at k (set_frames sets base address p).parts ≡ fields_in 0 (get_or sets k []) types
-  pub cost : save_bound_at (set_frames sets base address p) k + restore_bound_at (set_frames sets base address p) k ≤ 32 + 56 * (weight + 4) + 6 * kept_count (fields_in 0 (get_or sets k []) types)
+  pub cost : save_bound_at (set_frames sets base address p) k + restore_bound_at (set_frames sets base address p) k ≤ 32 + tests_most (length types) (length sets) + 6 * kept_count (fields_in 0 (get_or sets k []) types)
 
 -- A function's locals have these types first, and there are a memory, the address, the index and the scratch local.
 pub record HasPlaces (c : Around) (types : List ValType) (base adr : ℕ) : Type 0 where
@@ -34,8 +35,8 @@ pub record HasPlaces (c : Around) (types : List ValType) (base adr : ℕ) : Type
   pub first : (i : ℕ) (t : ValType) → slice_get types i ≡ Some t → slice_get c.locals i ≡ Some t
 
 -- So it is at each call; and both codes are small, and have what is asked of written code.
-pub record SetsFramed (weight : ℕ) (types : List ValType) (sets : List (List Bool)) (base address : ℕ) (p : FrameParts) : Type 0 where
-  pub calls : (k : ℕ) → k < length sets → FramedAt weight types sets base address p k
+pub record SetsFramed (types : List ValType) (sets : List (List Bool)) (base address : ℕ) (p : FrameParts) : Type 0 where
+  pub calls : (k : ℕ) → k < length sets → FramedAt types sets base address p k
   pub size : instructions_and_labels (saving_by_call (set_frames sets base address p) done) + instructions_and_labels (restoring_by_call (set_frames sets base address p) done)
       ≤ 32 + 30 * kept_total types sets
   pub small : PlainSmall (told_frames (length sets) base address p)
@@ -43,5 +44,5 @@ pub record SetsFramed (weight : ℕ) (types : List ValType) (sets : List (List B
 
 abbrev pub SetsAreFramed : Type 0
 SetsAreFramed =
-    (weight : ℕ) (types : List ValType) (sets : List (List Bool)) (base address : ℕ) (p : FrameParts) → KeepCheaply weight types sets (parts_view p) → 1 ≤ length sets → length types ≤ 50000 → base ≤ 50000
-    → address < 2 ^ 32 → length sets < 2 ^ 32 → SetsFramed weight types sets base address p
+    (types : List ValType) (sets : List (List Bool)) (base address : ℕ) (p : FrameParts) → KeepCheaply types sets (parts_view p) → 1 ≤ length sets → length types ≤ 50000 → base ≤ 50000
+    → address < 2 ^ 32 → length sets < 2 ^ 32 → SetsFramed types sets base address p

@@ -14,28 +14,26 @@ use crate::parting::{parts_of_classes, parts_of_groups};
 use std::alloc::{AllocError, Global};
 use wa_types::ValType;
 
-/// The parts of the frames of a function of this weight, whose calls keep these sets of locals: at each call exactly the fields of
-/// its set, in order. Neighbours that the same calls keep are a part, and what all calls keep stands under no test; where the tests
-/// of that cost too much, or classes of calls that keep the same are shorter, it is these. Where all calls keep the same, nothing
-/// stands under a test.
+/// The parts of the frames of calls that keep these sets of locals: at each call exactly the fields of its set, in order. Neighbours
+/// that the same calls keep are a part, and what all calls keep stands under no test; where the tests of that cost too much, or
+/// classes of calls that keep the same are shorter, it is these. Where all calls keep the same, nothing stands under a test.
 pub fn saved_parts(
     alloc: Global,
     sets: &[Vec<bool>],
     types: &[ValType],
-    weight: u64,
 ) -> Result<FrameParts, AllocError>
     requires sizes { All (λ (set : Vec Bool AGlobal). length set.items ≡ length types.now) sets.now }
     requires few { length types.now ≤ 50000 }
-    requires calls { length sets.now ≤ weight }
-    requires weight { weight < 2 ^ 32 }
-    ensures keep { IfOk result (λ p. KeepCheaply weight types.now (sets_of sets.now) (parts_view p)) }
+    requires calls { length sets.now < 2 ^ 32 }
+    ensures keep { IfOk result (λ p. KeepCheaply types.now (sets_of sets.now) (parts_view p)) }
     ensures alike { IfOk result (λ p. (set : List Bool) → 1 ≤ length sets.now → AllAre set (sets_of sets.now) → AllShared (parts_view p)) }
-    ensures parts { IfOk result (λ p. parts_view p ≡ call_parts weight types.now (kept_by_sets types.now (sets_of sets.now))) }
+    ensures parts { IfOk result (λ p. parts_view p ≡ call_parts types.now (kept_by_sets types.now (sets_of sets.now))) }
     ensures few { IfOk result (λ p. FewParts (parts_view p)) }
 {
     let groups = parts_of_groups(alloc, sets.len(), groups_of(alloc, sets, types)?)?;
     let classes = parts_of_classes(alloc, classes_of(alloc, sets, types)?)?;
-    if are_better(&groups, &classes, weight) {
+    let most = 27 * (types.len() as u64 + sets.len() as u64);
+    if are_better(&groups, &classes, most) {
         return Ok(FrameParts { parts: groups });
     }
     Ok(FrameParts { parts: classes })

@@ -3,7 +3,7 @@
 ghost use Rattle.call_classes.specs.Framed.{SetsAreFramed};
 
 /// Parts that keep the sets of calls have codes that save and restore at each call exactly the locals of its set, in order, and
-/// cost little there beside the function's weight. Together they have at most 30 instructions for each local that a call keeps, and 32, and they have their types.
+/// cost little there. Together they have at most 30 instructions for each local that a call keeps, and 32, and they have their types.
 pub fn sets_are_framed()
     ensures { SetsAreFramed }
 {}

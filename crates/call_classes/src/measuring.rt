@@ -73,14 +73,13 @@ fn cost_of(parts: &[KeptPart]) -> u64
     cost
 }
 
-/// Whether groups are taken in place of classes.
-pub(crate) fn are_better(groups: &[KeptPart], classes: &[KeptPart], weight: u64) -> bool
+/// Whether groups are taken in place of classes, where tests may cost so much.
+pub(crate) fn are_better(groups: &[KeptPart], classes: &[KeptPart], most: u64) -> bool
     requires groups { parts_length (part_views groups.now) < 2 ^ 60 }
     requires classes { parts_length (part_views classes.now) < 2 ^ 60 }
-    requires weight { weight < 2 ^ 32 }
-    ensures { result ≡ are_better weight (part_views groups.now) (part_views classes.now) }
+    ensures { result ≡ are_better most (part_views groups.now) (part_views classes.now) }
 {
-    if cost_of(groups) > 56 * (weight + 4) {
+    if cost_of(groups) > most {
         return false;
     }
     length_of(groups) <= length_of(classes)
