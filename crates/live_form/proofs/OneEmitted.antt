@@ -6,7 +6,7 @@ use Rattle.wa_types.specs.Pausing.{Policy, Settings, is_told, save_all, save_liv
 use Rattle.wa_types.specs.Runtime.{with_runtime}
 use Rattle.wa_types.specs.Syntax.{Func, Module}
 use Rattle.call_frames.specs.PlainFrames.{SavedPart, SavedParts}
-use Rattle.rewrite_runs.specs.EmittedBy.{func_by, funcs_by, written_by}
+use Rattle.rewrite_runs.specs.EmittedBy.{FrameCode, func_by, funcs_by, written_by}
 use Rattle.rewrite_runs.proofs.EmittedBy.{defined_of}
 use Rattle.live_form.specs.EmittedAs.{EmittedUnder}
 use Rattle.live_form.specs.LiveParts.{LiveParts, live_codes}
