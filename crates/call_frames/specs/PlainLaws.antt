@@ -15,9 +15,19 @@ use Rattle.call_frames.specs.ByCall.{FramesTell}
 use Rattle.call_frames.specs.FrameParts.{fields_at, saving_by_call, save_bound_at, restoring_by_call, restore_bound_at, shared_size}
 use Rattle.call_frames.specs.PlainFrames.{SavedPart, at_every, at_these, SavedParts, call_fields, test_size, parts_of, frames_of, FramesSmall}
 
+abbrev pub NumbersSmall : List ℕ → Type 0
+NumbersSmall [] = Unit {0}
+NumbersSmall (k ∷ ks) = (k < 2 ^ 32) × NumbersSmall ks
+
+-- the numbers of calls are in range
+abbrev pub CallsSmall : List SavedPart → Type 0
+CallsSmall [] = Unit {0}
+CallsSmall (at_every fs ∷ ps) = CallsSmall ps
+CallsSmall (at_these ks fs ∷ ps) = NumbersSmall ks × CallsSmall ps
+
 -- The tests tell their calls, and the code of sizes the size of the call's frame.
 abbrev pub PlainFramesTell : Type 0
-PlainFramesTell = (f : SavedParts) → f.index ≢ f.scratch → FramesSmall f → FramesTell (frames_of f)
+PlainFramesTell = (f : SavedParts) → f.index ≢ f.scratch → f.count ≤ 2 ^ 32 → CallsSmall f.parts → FramesSmall f → FramesTell (frames_of f)
 
 abbrev pub PlainFieldsAt : Type 0
 PlainFieldsAt = (index k : ℕ) (ps : List SavedPart) → fields_at k (parts_of index ps) ≡ call_fields k ps
@@ -102,10 +112,6 @@ abbrev pub FieldsSmall : List FrameField → Type 0
 FieldsSmall [] = Unit {0}
 FieldsSmall (kept x t ∷ fs) = (x < 2 ^ 32) × FieldsSmall fs
 FieldsSmall (gap t ∷ fs) = FieldsSmall fs
-
-abbrev pub NumbersSmall : List ℕ → Type 0
-NumbersSmall [] = Unit {0}
-NumbersSmall (k ∷ ks) = (k < 2 ^ 32) × NumbersSmall ks
 
 -- so are their numbers, and their sizes beside so many bytes that all calls keep
 abbrev pub PartsSmall : (shared : ℕ) → List SavedPart → Type 0
