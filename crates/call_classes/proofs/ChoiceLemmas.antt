@@ -6,11 +6,11 @@ use Rattle.std.proofs.lemmas.List.Elements.{All-nil, All-cons, All-head, All-tai
 use Rattle.wa_types.specs.declared.values.ValType.{ValType}
 use Rattle.call_frames.specs.Layout.{FrameField, kept, gap, kept_count}
 use Rattle.call_frames.specs.PlainFrames.{SavedPart, at_every, at_these, is_one_of, call_fields, test_size}
-use Rattle.call_frames.specs.PlainLaws.{tests_cost}
-use Rattle.call_frames.proofs.PlainBounds.{names_law}
+use Rattle.call_frames.specs.PlainLaws.{NameCalls, tests_cost}
+use Rattle.call_frames.proofs.PlainBounds.{names_law, test_few}
 use Rattle.call_classes.specs.declared.frames.CallClass.{CallClass}
 use Rattle.call_classes.specs.CallParts.{keeps, keepers, same_calls, with_field, with_kept, grouped, shared_where, groups, parts_length, tests_most, are_better, better_parts, kept_by_sets}
-use Rattle.call_classes.specs.Classes.{AllAre, AllShared, NumbersBelow, FewFields, FewParts, KeepByClasses, KeepCheaply, KeepSets, part_fields, shared_fields}
+use Rattle.call_classes.specs.Classes.{AllAre, AllShared, NumbersBelow, FewFields, FewParts, KeepByClasses, KeepCheaply, KeepSets, named_length, part_fields, shared_fields}
 use Rattle.call_classes.specs.Views.{class_part, class_parts, fields_in, kept_field, kept_total, kept_where}
 use Rattle.call_classes.proofs.GroupLemmas.{AreGroups, Rows, fields_where, groups_fields, grouped_groups, keepers_few, row_fields, shared_below, shared_named, shared_same}
 use Rattle.call_classes.proofs.PartLemmas.{Sized, both_true, join_true}
@@ -118,7 +118,13 @@ classes_few cs h = record { each = classes_each cs h; shared = let n = no_shared
 
 test_most : (ks : List ℕ) → test_size ks ≤ 4 * length ks + 1
 test_most [] = omega arith
-test_most (k ∷ ks) = omega arith
+test_most (k ∷ ks) = let a = test_few (k ∷ ks) (omega arith) in omega (arith, a)
+
+-- rows are no longer than their calls, compared one by one
+pub named_most : (ps : List SavedPart) → NameCalls ps → parts_length ps ≤ named_length ps
+named_most [] h = omega arith
+named_most (at_every fs ∷ ps) h = let ih = named_most ps h in omega (arith, ih)
+named_most (at_these ks fs ∷ ps) h = let ih = named_most ps h.1 in let t = test_few ks h.0 in omega (arith, ih, t)
 
 count_most : (fs : List FrameField) → kept_count fs ≤ length fs
 count_most [] = omega arith
@@ -306,9 +312,13 @@ module _ (types : List ValType) (sets : List (List Bool)) (sized : Sized types s
       by true e =
           let both = both_true (nat_le (tests_cost gs) most) (nat_le (parts_length gs) (parts_length cs)) e in
           let less = leb-true (parts_length gs) (parts_length cs) both.1 in
+          let named = named_most cs by_classes.keep.named in
           let size = by_classes.size in
-          record { keep = groups_keep types sets sized; tests = leb-true (tests_cost gs) most both.0; size = omega (arith, less, size) }
-      by false e = record { keep = by_classes.keep; tests = classes_tests; size = by_classes.size }
+          record { keep = groups_keep types sets sized; tests = leb-true (tests_cost gs) most both.0; size = omega (arith, less, named, size) }
+      by false e =
+          let named = named_most cs by_classes.keep.named in
+          let size = by_classes.size in
+          record { keep = by_classes.keep; tests = classes_tests; size = omega (arith, named, size) }
 
   pub chosen_alike : (set : List Bool) → 1 ≤ length sets → AllAre set sets → AllShared (better_parts most gs cs)
   chosen_alike set some h =

@@ -9,7 +9,7 @@ use Rattle.call_classes.specs.declared.frames.KeptPart.{KeptPart}
 use Rattle.call_classes.specs.CallParts.{are_better, better_parts, call_parts, classed, grouped, groups, kept_by_sets, parts_length, shared_where, tests_most}
 use Rattle.call_classes.specs.Classes.{AllAre, AllShared, FewFields, FewParts, KeepByClasses, KeepCheaply}
 use Rattle.call_classes.specs.Views.{class_parts, fields_in, part_views, sets_of}
-use Rattle.call_classes.proofs.ChoiceLemmas.{chosen_alike, chosen_keep, classes_few, groups_few, groups_short, total_short}
+use Rattle.call_classes.proofs.ChoiceLemmas.{chosen_alike, chosen_keep, classes_few, groups_few, groups_short, named_most, total_short}
 use Rattle.call_classes.proofs.GroupLemmas.{Rows}
 use Rattle.call_classes.proofs.PartLemmas.{sets_sized}
 
@@ -53,9 +53,10 @@ module _ (types : List ValType) (sets : List (Vec Bool Global)) where
 
     pub classes_fit : parts_length (part_views cs) < 2 ^ 60
     classes_fit =
+        let n = named_most (part_views cs) made.keep.keep.named in
         let a = made.keep.size in
         let b = total_short types (sets_of sets) few in
-        let m = sets_many in omega (arith, a, b, m, calls)
+        let m = sets_many in omega (arith, n, a, b, m, calls)
 
     -- the taken ones
     abbrev pub taken : Bool → List KeptPart

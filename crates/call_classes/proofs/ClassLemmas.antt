@@ -1,14 +1,14 @@
 -- Classes that keep the sets of calls, with one more call.
-use Rattle.std.proofs.Common.{inr, inl, ◌≡◌, ℕ, zero, suc, ◌+◌, ◌*◌, ◌<◌, ◌≤◌, ◌⊎◌, List, [], ◌∷◌, ◌++◌, length, get_or, Bool, true, false, nat_eq, refl, sym, ap, ◌∙◌, subst, arith, ⊎_elim, eq-eqb, length-append}
+use Rattle.std.proofs.Common.{inr, inl, ◌≡◌, ℕ, zero, suc, ◌+◌, ◌<◌, ◌≤◌, ◌⊎◌, List, [], ◌∷◌, ◌++◌, length, get_or, Bool, true, false, nat_eq, refl, sym, ap, ◌∙◌, subst, arith, ⊎_elim, eq-eqb, length-append}
 use Rattle.std.specs.Prelude.{◌||◌, if◌then◌else◌}
 use Rattle.std.proofs.lemmas.Bool.{ne_eqb}
 use Rattle.std.proofs.lemmas.List.{append-nil, append_assoc, get_or_append_left, get_or_at}
 use Rattle.wa_types.specs.declared.values.ValType.{ValType}
 use Rattle.call_frames.specs.Layout.{FrameField, kept_count}
-use Rattle.call_frames.specs.PlainFrames.{SavedPart, at_every, at_these, is_one_of, call_fields, test_size}
-use Rattle.call_frames.specs.PlainLaws.{NameCalls, named_calls, sizes_size, parts_size}
+use Rattle.call_frames.specs.PlainFrames.{SavedPart, at_every, at_these, is_one_of, call_fields}
+use Rattle.call_frames.specs.PlainLaws.{NameCalls, named_calls}
 use Rattle.call_classes.specs.declared.frames.CallClass.{CallClass}
-use Rattle.call_classes.specs.Classes.{AllBelow, NumbersBelow, KeepByClasses, HasFields, with_call}
+use Rattle.call_classes.specs.Classes.{AllBelow, NumbersBelow, KeepByClasses, named_length, HasFields, with_call}
 use Rattle.call_classes.specs.Views.{class_parts, fields_in, kept_total}
 
 -- no part is kept by all calls
@@ -110,16 +110,12 @@ calls_with zero n (at_these ks fs ∷ ps) = let l = length-append ks (n ∷ []) 
 calls_with (suc c) n (at_every fs ∷ ps) = calls_with c n ps
 calls_with (suc c) n (at_these ks fs ∷ ps) = let ih = calls_with c n ps in omega arith
 
-test_with : (ks : List ℕ) (n : ℕ) → test_size (ks ++ n ∷ []) ≤ test_size ks + 4
-test_with [] n = omega arith
-test_with (k ∷ ks) n = let l = length-append ks (n ∷ []) in omega arith
-
-size_with : (c n : ℕ) (ps : List SavedPart) → sizes_size (with_call c n ps) + 2 * parts_size (with_call c n ps) ≤ sizes_size ps + 2 * parts_size ps + 12
+size_with : (c n : ℕ) (ps : List SavedPart) → named_length (with_call c n ps) ≤ named_length ps + 12
 size_with c n [] = omega arith
 size_with zero n (at_every fs ∷ ps) = omega arith
-size_with zero n (at_these ks fs ∷ ps) = let t = test_with ks n in omega arith
-size_with (suc c) n (at_every fs ∷ ps) = let ih = size_with c n ps in omega arith
-size_with (suc c) n (at_these ks fs ∷ ps) = let ih = size_with c n ps in omega arith
+size_with zero n (at_these ks fs ∷ ps) = let l = length-append ks (n ∷ []) in omega (arith, l)
+size_with (suc c) n (at_every fs ∷ ps) = let ih = size_with c n ps in omega (arith, ih)
+size_with (suc c) n (at_these ks fs ∷ ps) = let ih = size_with c n ps in omega (arith, ih)
 
 pub has_with : (c n m : ℕ) (ps : List SavedPart) (gs : List FrameField) → HasFields m ps gs → HasFields m (with_call c n ps) gs
 has_with c n m [] gs h = h
@@ -172,10 +168,10 @@ calls_join [] qs = omega arith
 calls_join (at_every fs ∷ ps) qs = calls_join ps qs
 calls_join (at_these ks fs ∷ ps) qs = let ih = calls_join ps qs in omega arith
 
-size_join : (ps qs : List SavedPart) → sizes_size (ps ++ qs) + 2 * parts_size (ps ++ qs) ≡ (sizes_size ps + 2 * parts_size ps) + (sizes_size qs + 2 * parts_size qs)
+size_join : (ps qs : List SavedPart) → named_length (ps ++ qs) ≡ named_length ps + named_length qs
 size_join [] qs = omega arith
-size_join (at_every fs ∷ ps) qs = let ih = size_join ps qs in omega arith
-size_join (at_these ks fs ∷ ps) qs = let ih = size_join ps qs in omega arith
+size_join (at_every fs ∷ ps) qs = let ih = size_join ps qs in omega (arith, ih)
+size_join (at_these ks fs ∷ ps) qs = let ih = size_join ps qs in omega (arith, ih)
 
 pub has_join : (m : ℕ) (ps qs : List SavedPart) (gs : List FrameField) → HasFields m ps gs → HasFields m (ps ++ qs) gs
 has_join m [] qs gs h = absurd h

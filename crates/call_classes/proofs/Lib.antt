@@ -8,3 +8,4 @@ pub mod GroupLemmas
 pub mod GroupSteps
 pub mod IndexLemmas
 pub mod PartLemmas
+pub mod RowLemmas

@@ -37,11 +37,17 @@ pub record KeepCheaply (types : List ValType) (sets : List (List Bool)) (ps : Li
   pub tests : tests_cost ps ≤ tests_most (length types) (length sets)
   pub size : parts_length ps ≤ 30 * kept_total types sets
 
+-- the instructions of both codes, where each test compares call by call
+abbrev pub named_length : List SavedPart → ℕ
+named_length [] = 0
+named_length (at_every fs ∷ ps) = 6 * kept_count fs + named_length ps
+named_length (at_these ks fs ∷ ps) = 12 * length ks + 12 + 6 * kept_count fs + named_length ps
+
 -- .. and these, each call in one part at most
 pub record KeepByClasses (types : List ValType) (sets : List (List Bool)) (ps : List SavedPart) : Type 0 where
   pub keep : KeepSets types sets ps
   pub numbers : named_calls ps ≤ length sets
-  pub size : parts_length ps ≤ 30 * kept_total types sets
+  pub size : named_length ps ≤ 30 * kept_total types sets
 
 -- all sets are this one
 abbrev pub AllAre : List Bool → List (List Bool) → Type 0

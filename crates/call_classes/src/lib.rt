@@ -14,7 +14,9 @@ mod keeping;
 mod laws;
 mod measuring;
 mod parting;
+mod rows;
 
 pub use classing::saved_parts;
 pub use frames::{CallClass, FrameParts, KeptLocal, KeptPart};
 pub use laws::sets_are_framed;
+pub use rows::{RowAt, row_at};

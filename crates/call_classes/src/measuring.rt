@@ -1,12 +1,29 @@
 //! How long the codes of parts are, and what their tests cost.
 
-ghost use Rattle.std.specs.Prelude.{◌≡◌, ◌<◌, ◌^◌, ◌∷◌, []};
+ghost use Rattle.std.specs.Prelude.{◌≡◌, ◌≤◌, ◌<◌, ◌^◌, ◌∷◌, []};
+ghost use Rattle.call_frames.specs.CallTests.{row_size};
 ghost use Rattle.call_frames.specs.PlainFrames.{test_size};
 ghost use Rattle.call_frames.specs.PlainLaws.{tests_cost};
 ghost use Rattle.call_classes.specs.CallParts.{are_better, parts_length};
+ghost use Rattle.call_classes.specs.CallRows.{row_view};
 ghost use Rattle.call_classes.specs.Views.{class_part, part_view, part_views};
 
 use crate::frames::{CallClass, KeptPart};
+use crate::rows::{RowAt, row_at};
+
+/// How many instructions the test of a row has.
+fn row_size(row: RowAt) -> u64
+    ensures size { result ≡ row_size (row_view row) }
+    ensures few { result ≤ 5 }
+{
+    if row.more == 0 {
+        return 3;
+    }
+    if row.first == 0 {
+        return 3;
+    }
+    5
+}
 
 /// How many instructions the test of these calls has.
 fn test_size(calls: &[u32]) -> u64
@@ -16,7 +33,14 @@ fn test_size(calls: &[u32]) -> u64
     if calls.is_empty() {
         return 1;
     }
-    4 * (calls.len() as u64 - 1) + 3
+    let mut size = 0;
+    let mut at = 0;
+    while at < calls.len() {
+        let row = row_at(calls, at);
+        size += row_size(row) + 1;
+        at = row.end;
+    }
+    size - 1
 }
 
 /// The length of a class in both codes.
