@@ -27,7 +27,7 @@ use Rattle.call_frames.specs.PlainFrames.{FramesSmall, SavedParts, call_fields, 
 use Rattle.call_frames.specs.PlainLaws.{PlainCodes, PlainSmall, PlainTyped}
 use Rattle.call_frames.proofs.PlainBounds.{cost_law, size_law}
 use Rattle.call_frames.proofs.PlainHeld.{depth_law, held_law}
-use Rattle.call_frames.proofs.PlainTold.{fields_law, tell_law}
+use Rattle.call_frames.proofs.PlainTold.{calls_small as named_small, fields_law, tell_law}
 use Rattle.call_frames.proofs.PlainTypes.{restore_law, save_law}
 use Rattle.live_guards.specs.LiveFrames as Live
 use Rattle.rewrite_runs.specs.EmittedBy.{FrameCode}
@@ -215,7 +215,7 @@ module _ (m : Module) (s : Settings) (which : List Bool) (valid : Valid m) (size
 
   pub live_kept : PartsKeepLive m s which x f (frames_of p)
   live_kept = record {
-    tells = tell_law p apart frames_small;
+    tells = tell_law p apart (let c = owed.count in let n = calls_small in omega (arith, c, n)) (named_small (shared_size (parts_of p.index p.parts)) p.parts plain_small.parts) frames_small;
     count = let c = owed.count in omega (arith, c);
     address = owed.address;
     index = owed.index;

@@ -1,23 +1,22 @@
 -- Rows of fields and rows of classes, one more behind or in front.
 use Rattle.std.proofs.Common.{◌≡◌, ℕ, zero, suc, All, ◌+◌, ◌*◌, ◌<◌, ◌≤◌, List, [], ◌∷◌, ◌++◌, length, take, drop, get_or, None, refl, sym, ap, ◌∙◌, arith, length-take}
-use Rattle.std.proofs.lemmas.List.{map_more, take_more, drop_more, length-map}
+use Rattle.std.proofs.lemmas.List.{map_more, drop_more, length-map}
 use Rattle.std.proofs.lemmas.List.Elements.{All-head, All-tail}
-use Rattle.wa_types.specs.declared.operators.NumOp.TheVariants.{I32Or}
 use Rattle.wa_types.specs.declared.values.ValType.{ValType}
 use Rattle.wa_types.specs.declared.values.ValType.TheVariants.{I32, I64}
 use Rattle.wa_types.specs.Frames.{width}
-use Rattle.wa_types.specs.Syntax.{num, basic, local_get, local_set, Code, done, plain, branch}
+use Rattle.wa_types.specs.Syntax.{local_get, local_set, Code, done, plain, branch}
 use Rattle.local_spill.specs.Spilling.{stored_value, loaded_value}
 use Rattle.frame_laws.specs.Layout.{FrameField, kept, gap, fields_size, stores, loads}
-use Rattle.call_frames.specs.CallTests.{at_call, at_either}
+use Rattle.call_frames.specs.CallTests.{CallRow, at_either, at_row}
 use Rattle.call_frames.specs.FrameParts.{parts_stored, parts_loaded, scratch_raised, scratch_lowered, shared_size}
-use Rattle.call_frames.specs.PlainFrames.{SavedPart, at_every, at_these, or_calls, at_calls, parts_of, sizes_added}
+use Rattle.call_frames.specs.PlainFrames.{SavedPart, at_every, at_these, or_rows, at_calls, parts_of, sizes_added}
 use Rattle.call_frames.proofs.FieldRows.{join_size}
 use Rattle.call_classes.specs.declared.frames.CallClass.{CallClass}
 use Rattle.call_classes.specs.declared.frames.KeptLocal.{KeptLocal}
 use Rattle.call_classes.specs.declared.frames.KeptPart.{KeptPart}
 use Rattle.call_classes.specs.Classes.{FewParts, part_fields, shared_fields}
-use Rattle.live_frames.specs.Putting.{calls_joined}
+use Rattle.live_frames.specs.Putting.{rows_joined}
 use Rattle.call_classes.specs.Views.{kept_field, fields_of, part_view, part_views}
 
 -- ---- sizes
@@ -83,18 +82,10 @@ loaded_more sp off o xs i d c lt e =
 
 -- ---- tests
 
-joined_behind : (index : ℕ) (ks : List ℕ) (k : ℕ) (c : Code) → calls_joined index (ks ++ k ∷ []) c ≡ calls_joined index ks (at_call index k (plain (basic (num I32Or)) c))
-joined_behind index [] k c = refl
-joined_behind index (j ∷ ks) k c = ap (λ z. at_call index j (plain (basic (num I32Or)) z)) (joined_behind index ks k c)
-
-pub joined_more : (index : ℕ) (ks : List ℕ) (i d : ℕ) (c : Code) → i < length ks
-    → calls_joined index (take i ks) (at_call index (get_or ks i d) (plain (basic (num I32Or)) c)) ≡ calls_joined index (take (i + 1) ks) c
-joined_more index ks i d c lt = sym (joined_behind index (take i ks) (get_or ks i d) c) ∙ ap (λ js. calls_joined index js c) (sym (take_more ks i d lt))
-
--- a test joined with more calls
-pub joined_is : (index : ℕ) (ks : List ℕ) (test : Code → Code) (c : Code) → or_calls index test ks c ≡ test (calls_joined index ks c)
+-- a test joined with those of more rows
+pub joined_is : (index : ℕ) (rs : List CallRow) (test : Code → Code) (c : Code) → or_rows index test rs c ≡ test (rows_joined index rs c)
 joined_is index [] test c = refl
-joined_is index (k ∷ ks) test c = joined_is index ks (at_either test (at_call index k)) c
+joined_is index (r ∷ rs) test c = joined_is index rs (at_either test (at_row index r)) c
 
 -- ---- parts
 

@@ -1,22 +1,23 @@
 -- What is put behind a list of instructions, loop by loop.
-use Rattle.std.proofs.Common.{◌≡◌, ℕ, ◌+◌, ◌-◌, ◌<◌, ◌≤◌, List, [], ◌∷◌, length, take, drop, get_or, None, refl, sym, ap, ◌∙◌, arith}
+use Rattle.std.proofs.Common.{◌≡◌, ℕ, Bool, nat_eq, ◌+◌, ◌-◌, ◌<◌, ◌≤◌, List, [], ◌∷◌, length, take, drop, get_or, None, refl, sym, ap, ◌∙◌, arith}
 use Rattle.std.proofs.lemmas.List.{take_all, drop_all}
 use Rattle.wa_types.specs.declared.instrs.Instr.{Instr}
 use Rattle.wa_types.specs.declared.operators.NumOp.TheVariants.{I32Or}
-use Rattle.wa_types.specs.Syntax.{num, basic, local_get, local_set, Code, done, plain, branch}
+use Rattle.wa_types.specs.declared.values.Value.TheVariants as V
+use Rattle.wa_types.specs.Syntax.{const, num, basic, local_get, local_set, Code, done, plain, branch}
 use Rattle.wa_types.specs.View.{onto}
 use Rattle.local_spill.specs.Putting.{Puts}
 use Rattle.local_spill.specs.Spilling.{stored_value, loaded_value}
 use Rattle.frame_laws.specs.Layout.{fields_size, stores, loads}
-use Rattle.call_frames.specs.CallTests.{at_call}
+use Rattle.call_frames.specs.CallTests.{CallRow, at_row, row_test}
 use Rattle.call_frames.specs.FrameParts.{parts_stored, parts_loaded}
-use Rattle.call_frames.specs.PlainFrames.{SavedPart, at_calls, parts_of, sizes_added}
+use Rattle.call_frames.specs.PlainFrames.{SavedPart, rows_of, at_rows, at_calls, parts_of, sizes_added}
 use Rattle.call_classes.specs.declared.frames.CallClass.{CallClass}
 use Rattle.call_classes.specs.declared.frames.KeptLocal.{KeptLocal}
 use Rattle.call_classes.specs.declared.frames.KeptPart.{KeptPart}
-use Rattle.live_frames.specs.Putting.{calls_joined}
+use Rattle.live_frames.specs.Putting.{rows_joined}
 use Rattle.call_classes.specs.Views.{fields_of, part_view, part_views}
-use Rattle.live_frames.proofs.PieceLemmas.{stored_more, loaded_more, joined_more, joined_is, class_code, shared_bytes, part_added, part_stored, part_loaded}
+use Rattle.live_frames.proofs.PieceLemmas.{stored_more, loaded_more, joined_is, class_code, shared_bytes, part_added, part_stored, part_loaded}
 
 -- what is put, told otherwise
 pub put_same : {X : Type 0} (old new : List Instr) (f : X → Code → Code) (x y : X) → x ≡ y → Puts old new (f x) → Puts old new (f y)
@@ -52,19 +53,35 @@ loaded_end old new sp off xs i le h rest = h rest ∙ ap (λ ys. onto old (loads
 
 -- ---- tests
 
-pub joined_step : (old mid mid2 new : List Instr) (index : ℕ) (ks : List ℕ) (i d : ℕ) → i < length ks → Puts old mid (calls_joined index (take i ks))
-    → Puts mid mid2 (at_call index (get_or ks i d)) → Puts mid2 new (λ c. plain (basic (num I32Or)) c) → Puts old new (calls_joined index (take (i + 1) ks))
-joined_step old mid mid2 new index ks i d lt h k o rest =
-    let joined : Code = plain (basic (num I32Or)) rest in
-    o rest ∙ k joined ∙ h (at_call index (get_or ks i d) joined) ∙ ap (onto old) (joined_more index ks i d rest lt)
+-- the test of a row, its case told
+pub row_put : (old new : List Instr) (index : ℕ) (r : CallRow) (one from_0 : Bool) → nat_eq r.more 0 ≡ one → nat_eq r.first 0 ≡ from_0 → Puts old new (row_test one from_0 index r.first r.more)
+    → Puts old new (at_row index r)
+row_put old new index r one from_0 e f h rest =
+    h rest ∙ ap (λ b. onto old (row_test b from_0 index r.first r.more rest)) (sym e) ∙ ap (λ b. onto old (row_test (nat_eq r.more 0) b index r.first r.more rest)) (sym f)
 
-pub joined_end : (old new : List Instr) (index : ℕ) (ks : List ℕ) (i : ℕ) → length ks ≤ i → Puts old new (calls_joined index (take i ks)) → Puts old new (calls_joined index ks)
-joined_end old new index ks i le h rest = h rest ∙ ap (λ js. onto old (calls_joined index js rest)) (take_all i ks le)
+-- What is put, with the tests of the rows from a place on, is the test of all calls.
+abbrev pub Owes : (old new : List Instr) → (index : ℕ) → (calls : List ℕ) → (at : ℕ) → Type 0
+Owes old new index calls at = (rest : Code) → onto new (rows_joined index (rows_of (drop at calls)) rest) ≡ onto old (at_calls index calls rest)
 
-pub test_put : (old mid new : List Instr) (index first : ℕ) (ks calls : List ℕ) → calls ≡ first ∷ ks → Puts old mid (at_call index first) → Puts mid new (calls_joined index ks)
-    → Puts old new (at_calls index calls)
-test_put old mid new index first ks calls e h k rest =
-    k rest ∙ h (calls_joined index ks rest) ∙ ap (onto old) (sym (joined_is index ks (at_call index first) rest)) ∙ ap (λ js. onto old (at_calls index js rest)) (sym e)
+pub row_first : (old new : List Instr) (index : ℕ) (calls : List ℕ) (r : CallRow) (end : ℕ) → rows_of (drop 0 calls) ≡ r ∷ rows_of (drop end calls) → Puts old new (at_row index r)
+    → Owes old new index calls end
+row_first old new index calls r end is h rest =
+    h (rows_joined index (rows_of (drop end calls)) rest)
+    ∙ ap (onto old) (sym (joined_is index (rows_of (drop end calls)) (at_row index r) rest))
+    ∙ ap (λ rs. onto old (at_rows index rs rest)) (sym is)
+
+pub row_next : (old mid mid2 new : List Instr) (index : ℕ) (calls : List ℕ) (at : ℕ) (r : CallRow) (end : ℕ) → rows_of (drop at calls) ≡ r ∷ rows_of (drop end calls)
+    → Puts mid mid2 (at_row index r) → Puts mid2 new (λ c. plain (basic (num I32Or)) c) → Owes old mid index calls at → Owes old new index calls end
+row_next old mid mid2 new index calls at r end is h o before rest =
+    let others : Code = rows_joined index (rows_of (drop end calls)) rest in
+    o others ∙ h (plain (basic (num I32Or)) others) ∙ ap (λ rs. onto mid (rows_joined index rs rest)) (sym is) ∙ before rest
+
+pub rows_end : (old new : List Instr) (index : ℕ) (calls : List ℕ) (at : ℕ) → length calls ≤ at → Owes old new index calls at → Puts old new (at_calls index calls)
+rows_end old new index calls at le h rest = ap (λ js. onto new (rows_joined index (rows_of js) rest)) (sym (drop_all at calls le)) ∙ h rest
+
+pub none_put : (old new : List Instr) (index : ℕ) (calls : List ℕ) → length calls ≡ 0 → Puts old new (λ c. plain (basic (const (V.I32 0))) c) → Puts old new (at_calls index calls)
+none_put old new index [] e h rest = h rest
+none_put old new index (k ∷ ks) e h rest = absurd (omega (arith, e))
 
 -- ---- parts
 
