@@ -27,7 +27,7 @@ use Rattle.call_frames.specs.PlainFrames.{FramesSmall, SavedParts, call_fields, 
 use Rattle.call_frames.specs.PlainLaws.{PlainCodes, PlainSmall, PlainTyped}
 use Rattle.call_frames.proofs.PlainBounds.{cost_law, size_law}
 use Rattle.call_frames.proofs.PlainHeld.{depth_law, held_law}
-use Rattle.call_frames.proofs.PlainTold.{fields_law, tell_law}
+use Rattle.call_frames.proofs.PlainTold.{calls_small as named_small, fields_law, tell_law}
 use Rattle.call_frames.proofs.PlainTypes.{restore_law, save_law}
 use Rattle.live_guards.specs.LiveFrames as Live
 use Rattle.live_guards.specs.SlimModule.{Pieces, SlimPieces}
@@ -203,20 +203,21 @@ module _ (m : Module) (s : Settings) (which : List Bool) (valid : Valid m) (size
 
   call_cost : (k place : ℕ) → slice_get (Numbered m s which f) k ≡ Some place → save_bound_at (frames_of p) k + restore_bound_at (frames_of p) k ≤ 64 * (Weight m f + 4)
   call_cost k place at =
-      let a = cost_law p k owed.named in
-      let b = owed.numbers in
+      let a = cost_law p k in
+      let b = owed.tests in
       let c = numbers_few m s which f in
+      let l = counted m x f in
       let d = ap kept_count (owed.fields k place at) in
       let e = all_kept (saved place) in
       let g = saved_few m f place in
       let where_ = defined_where m x f is in
       let h = slots_are_few m where_.0 f valid where_.1 in
       let i = counts_less (pruned f.body) in
-      let j = code_weighs m (pruned f.body) in omega (arith, a, b, c, d, e, g, h, i, j)
+      let j = code_weighs m (pruned f.body) in omega (arith, a, b, c, l, d, e, g, h, i, j)
 
   pub live_kept : PartsKeepLive m s which x f (frames_of p)
   live_kept = record {
-    tells = tell_law p apart frames_small;
+    tells = tell_law p apart (let c = owed.count in let n = calls_small in omega (arith, c, n)) (named_small (shared_size (parts_of p.index p.parts)) p.parts plain_small.parts) frames_small;
     count = let c = owed.count in omega (arith, c);
     address = owed.address;
     index = owed.index;
