@@ -12,7 +12,7 @@ use Rattle.wa_types.specs.Reading.{SpellsModule}
 use Rattle.wa_types.specs.Sizes.{FuncSizes, StrictSizeRule}
 use Rattle.wa_types.specs.Syntax.{Func, Module}
 use Rattle.wa_types.specs.Validity.{Valid}
-use Rattle.wa_types.proofs.FileWriting.{written_spells}
+use Rattle.file_laws.proofs.FileWriting.{written_spells}
 use Rattle.wasm_encode.specs.Modules.{FewLocals}
 use Rattle.wasm_reader.specs.Answers.{IsAccepted}
 use Rattle.prepared_modules.specs.Emitted.{asyncified}

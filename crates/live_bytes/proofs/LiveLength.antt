@@ -8,7 +8,7 @@ use Rattle.wa_types.specs.Leb.{shortest}
 use Rattle.wa_types.specs.Pausing.{Callee, Numbered, Settings, callee, callee_onto, calls_in, calls_of, has_number}
 use Rattle.wa_types.specs.Pruned.{is_last, pruned}
 use Rattle.wa_types.specs.Syntax.{basic, local_get, local_set, local_tee, br, br_if, br_table, return, unreachable, call, call_indirect, Plain, Code, done, plain, nest, branch, Func, Module}
-use Rattle.wa_types.proofs.FileWriting.{written_spells}
+use Rattle.file_laws.proofs.FileWriting.{written_spells}
 use Rattle.live_form.specs.PlainFrames.{SavedParts}
 use Rattle.live_form.proofs.EmittedSo.{numbered_few}
 use Rattle.prepared_modules.proofs.Grown.{enc_length}

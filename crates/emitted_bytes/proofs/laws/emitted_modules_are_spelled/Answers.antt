@@ -1,5 +1,5 @@
 use Rattle.std.proofs.Common.{arith}
-use Rattle.wa_types.proofs.FileWriting.{written_spells}
+use Rattle.file_laws.proofs.FileWriting.{written_spells}
 use Rattle.rewrite_form.specs.Emitted.{asyncified}
 use Rattle.emitted_bytes.proofs.EmittedFits.{emitted_fits}
 use Rattle.emitted_bytes.proofs.EmittedLength.{emitted_few}
