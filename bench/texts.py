@@ -2,8 +2,9 @@
 """Looks at the texts of all crates as `rt ci` does before it proves anything, in half a minute: ROOT.
 
 Layouts, links, files that no check reads, words that would mislead, must-fail edits that can't be applied; and what the gate would meet only after
-half an hour: definitions and lemmas of another crate that stand nowhere, and crates that are named and not listed in crates.txt. Uses the insides of
-the kit's `rt`, and proves nothing."""
+half an hour: definitions and lemmas of another crate that stand nowhere, crates that are named and not listed in crates.txt, and how many bytes the
+gate sums up, since `rt` sums up a crate's files once for each way through the libraries of crates.txt, which may double with each crate. Uses the
+insides of the kit's `rt`, and proves nothing."""
 
 import glob
 import os
@@ -15,6 +16,9 @@ sys.path.insert(0, os.path.dirname(os.path.abspath(__file__)))
 from libraries import KIT_RT, load  # noqa: E402
 
 CITED = re.compile(r"Rattle\.([a-z_0-9]+)\.(specs|proofs)\.([A-Za-z_0-9]+)")
+PASSED_ON = re.compile(r"^pub use \S+\.(\w+)$|^pub use \S+ as (\w+)$", re.M)
+# The bytes that the gate may sum up, in thousands of millions: some 40 MB a second, once before and once behind each library's proof.
+SUMMED = 40
 
 
 def said_of(rt, crate, crates):
@@ -44,6 +48,24 @@ def said_of(rt, crate, crates):
     return found
 
 
+def passed_on(folder, part):
+    """The modules of other crates that a crate passes on as its own."""
+    path = f"{folder}/{part}/Lib.antt"
+    if not os.path.isfile(path):
+        return set()
+    with open(path, encoding="utf-8") as file:
+        return {one or other for one, other in PASSED_ON.findall(file.read())}
+
+
+def summed(rt, crates):
+    """The bytes that the stamps of all libraries go over, each crate's once for each way that leads to it."""
+    bytes_of = {}
+    for crate in crates:
+        own = sum(os.path.getsize(it) for it in rt.rtlib.files_of(crate.folder))
+        bytes_of[crate.name] = own + sum(bytes_of[it.name] for it in crate.deps)
+    return sum(bytes_of[it.name] for it in crates if it.makes_rlib())
+
+
 def lacking(crate, crates):
     """What a crate cites of others that isn't there."""
     listed, found = {it.name for it in crate.deps}, set()
@@ -58,7 +80,9 @@ def lacking(crate, crates):
             at = f"{crates[name].folder}/{part}/{module}"
             if name not in listed:
                 found.add(f"names {name}, which crates.txt doesn't list for it")
-            elif module not in ("declared", "contracts") and not os.path.isfile(at + ".antt") and not os.path.isdir(at):
+            elif module in ("declared", "contracts") or os.path.isfile(at + ".antt") or os.path.isdir(at):
+                continue
+            elif module not in passed_on(crates[name].folder, part):
                 found.add(f"cites {name}.{part}.{module}, which isn't there")
     return sorted(found)
 
@@ -72,8 +96,9 @@ def main(root):
         for it in [*said_of(rt, crate, crates), *lacking(crate, by_name)]:
             print(f"{crate.name}: {it}")
             wrong += 1
-    print(f"{len(crates)} crates, {wrong} faults")
-    return 1 if wrong else 0
+    giga = summed(rt, sorted(crates, key=lambda it: len(it.below()))) / 1e9
+    print(f"{len(crates)} crates, {wrong} faults; the gate sums up {giga:.1f} GB, of at most {SUMMED}")
+    return 1 if wrong or giga > SUMMED else 0
 
 
 if __name__ == "__main__":
