@@ -1,5 +1,6 @@
 -- Groups or classes: either keeps the sets, and costs little.
-use Rattle.std.proofs.Common.{◌≡◌, ◌∙◌, ℕ, zero, suc, ◌+◌, ◌*◌, ◌^◌, ◌<◌, ◌≤◌, ◌⊎◌, inl, inr, ⊎_elim, List, [], ◌∷◌, ◌++◌, length, get_or, map, Bool, true, false, nat_eq, All, refl, sym, ap, subst, arith, eq-eqb, leb-true, le-leb, length-append}
+use Rattle.std.proofs.Common.{◌≡◌, ◌∙◌, ℕ, zero, suc, ◌+◌, ◌*◌, ◌^◌, ◌<◌, ◌≤◌, ◌⊎◌, inl, inr, ⊎_elim, List, [], ◌∷◌}
+use Rattle.std.proofs.Common.{◌++◌, length, get_or, map, Bool, true, false, nat_eq, All, refl, sym, ap, subst, arith, eq-eqb, leb-true, le-leb, length-append}
 use Rattle.std.specs.Prelude.{nat_le, if◌then◌else◌}
 use Rattle.std.proofs.lemmas.List.{length-map}
 use Rattle.std.proofs.lemmas.List.Elements.{All-nil, All-cons, All-head, All-tail}
@@ -169,7 +170,8 @@ shared_length n [] = omega arith
 shared_length n (at_every fs ∷ ps) = let ih = shared_length n ps in omega (arith, ih)
 shared_length n (at_these ks fs ∷ ps) = by (nat_eq (length ks) n) (shared_length n ps)
   where
-    by : (b : Bool) → parts_length (map (shared_where n) ps) ≤ parts_length ps → parts_length ((if b then at_every fs else at_these ks fs) ∷ map (shared_where n) ps) ≤ parts_length (at_these ks fs ∷ ps)
+    by : (b : Bool) → parts_length (map (shared_where n) ps) ≤ parts_length ps
+        → parts_length ((if b then at_every fs else at_these ks fs) ∷ map (shared_where n) ps) ≤ parts_length (at_these ks fs ∷ ps)
     by true ih = omega (arith, ih)
     by false ih = omega (arith, ih)
 

@@ -45,7 +45,8 @@ keepers_step x sets i d e b old new lt there is before more =
     ∙ sym (keepers_more x 0 (sets_of (take i sets)) set)
     ∙ ap (set_keepers x 0) (sym (map_more (λ (s : Vec Bool Global). s.items) sets i d lt))
 
-pub set_within : (x : ℕ) (sets : List (Vec Bool Global)) (i : ℕ) (d : Vec Bool Global) → All (λ (set : Vec Bool Global). x < length set.items) sets → i < length sets → x < length (get_or sets i d).items
+pub set_within : (x : ℕ) (sets : List (Vec Bool Global)) (i : ℕ) (d : Vec Bool Global) → All (λ (set : Vec Bool Global). x < length set.items) sets → i < length sets
+    → x < length (get_or sets i d).items
 set_within x [] i d h lt = absurd (omega (arith, lt))
 set_within x (s ∷ sets) zero d h lt = All-head (λ (set : Vec Bool Global). x < length set.items) s sets h
 set_within x (s ∷ sets) (suc i) d h lt = set_within x sets i d (All-tail (λ (set : Vec Bool Global). x < length set.items) s sets h) (omega (arith, lt))

@@ -11,7 +11,8 @@ use Rattle.local_spill.specs.Spilling.{stored_value, loaded_value, index_saved, 
 use Rattle.frame_laws.specs.Layout.{FrameField, kept, gap, fields_size, kept_count, stores, loads}
 use Rattle.call_frames.specs.CallTests.{CallRow, at_either, at_row, row_size, row_test, row_test_size}
 use Rattle.call_frames.specs.FrameParts.{parts_cost_at, shared_size, scratch_raised, scratch_lowered, parts_stored, parts_loaded, frame_stored_by_call, location_lowered}
-use Rattle.call_frames.specs.PlainFrames.{SavedPart, at_every, at_these, SavedParts, is_one_of, call_fields, onto_rows, rows_of, or_rows, at_rows, at_calls, joined_size, rows_size, test_size, parts_of, sizes_added, sizes_cost, frames_of}
+use Rattle.call_frames.specs.PlainFrames.{SavedPart, at_every, at_these, SavedParts, is_one_of, call_fields, onto_rows, rows_of, or_rows}
+use Rattle.call_frames.specs.PlainFrames.{at_rows, at_calls, joined_size, rows_size, test_size, parts_of, sizes_added, sizes_cost, frames_of}
 use Rattle.call_frames.specs.PlainLaws.{tests_cost, PlainFramesCost, NamesCostLittle, sizes_size, parts_size, PlainFramesSize}
 
 -- ---- cost

@@ -1,5 +1,6 @@
 -- Frames that are plain data: their tests tell, and so does the code of their sizes.
-use Rattle.std.proofs.Common.{◌≡◌, ◌≢◌, ℕ, suc, ◌&&◌, sym, eqb-true, ◌+◌, ◌*◌, ◌^◌, ◌<◌, ◌≤◌, List, [], ◌∷◌, ◌++◌, length, Bool, true, false, None, nat_eq, refl, ap, ◌∙◌, subst, arith, get_or-set_other, get_or-set_same, set-set}
+use Rattle.std.proofs.Common.{◌≡◌, ◌≢◌, ℕ, suc, ◌&&◌, sym, eqb-true, ◌+◌, ◌*◌, ◌^◌, ◌<◌, ◌≤◌, List, [], ◌∷◌}
+use Rattle.std.proofs.Common.{◌++◌, length, Bool, true, false, None, nat_eq, refl, ap, ◌∙◌, subst, arith, get_or-set_other, get_or-set_same, set-set}
 use Rattle.std.specs.Prelude.{◌||◌, nat_le, if◌then◌else◌, slice_set}
 use Rattle.wa_types.specs.declared.values.Value.{Value}
 use Rattle.wa_types.specs.declared.values.Value.TheVariants as V
@@ -17,7 +18,8 @@ use Rattle.frame_laws.proofs.OneFunction.{within_of, within_on}
 use Rattle.call_frames.specs.ByCall.{PartsTell, TestTells}
 use Rattle.call_frames.specs.CallTests.{CallRow, at_either, at_row, in_row, row_size}
 use Rattle.call_frames.specs.FrameParts.{own_size, shared_size, layout_at, scratch_raised}
-use Rattle.call_frames.specs.PlainFrames.{SavedPart, at_every, at_these, SavedParts, is_one_of, onto_rows, rows_of, or_rows, at_rows, at_calls, joined_size, rows_size, test_size, parts_of, sizes_added, sizes_cost, sizes_summed, frames_of}
+use Rattle.call_frames.specs.PlainFrames.{SavedPart, at_every, at_these, SavedParts, is_one_of, onto_rows, rows_of, or_rows, at_rows}
+use Rattle.call_frames.specs.PlainFrames.{at_calls, joined_size, rows_size, test_size, parts_of, sizes_added, sizes_cost, sizes_summed, frames_of}
 use Rattle.call_frames.specs.PlainLaws.{CallsSmall, NumbersSmall, PartsSmall, PlainFramesTell, PlainFieldsAt}
 use Rattle.call_frames.proofs.FieldRows.{sizes_at}
 use Rattle.call_frames.proofs.SavedParts.{raises}

@@ -1,5 +1,6 @@
 -- Tests tell their calls, and classes the sizes of frames.
-use Rattle.std.proofs.Common.{◌≡◌, ◌≢◌, ℕ, zero, suc, ◌+◌, ◌-◌, ◌%◌, ◌^◌, ◌<◌, ◌≤◌, List, [], ◌∷◌, None, Bool, true, false, ◌&&◌, nat_eq, refl, sym, ap, ◌∙◌, subst, arith, eq-eqb, eqb-true, leb-true, leb-false, le-leb, get_or-set_other, set-set}
+use Rattle.std.proofs.Common.{◌≡◌, ◌≢◌, ℕ, zero, suc, ◌+◌, ◌-◌, ◌%◌, ◌^◌, ◌<◌, ◌≤◌, List, [], ◌∷◌, None, Bool}
+use Rattle.std.proofs.Common.{true, false, ◌&&◌, nat_eq, refl, sym, ap, ◌∙◌, subst, arith, eq-eqb, eqb-true, leb-true, leb-false, le-leb, get_or-set_other, set-set}
 use Rattle.std.proofs.lemmas.Bool.{eqb-false, lt-leb}
 use Rattle.std.specs.Prelude.{◌||◌, not, nat_le, if◌then◌else◌, slice_set}
 use Rattle.wa_types.specs.declared.operators.NumOp.TheVariants.{I32Eq, I32Eqz, I32Or, I32Sub}
@@ -16,7 +17,8 @@ use Rattle.frame_laws.proofs.Walks.{walks}
 use Rattle.frame_laws.specs.Function.{KeptWithin}
 use Rattle.frame_laws.proofs.OneFunction.{within_of, within_on}
 use Rattle.frame_laws.proofs.SavedFrames.{sub_small}
-use Rattle.call_frames.specs.CallTests.{CallRow, at_call, at_most, row_test, row_test_size, row_size, RowsTell, SizeClass, size_told, classes_told, sizes_told, classes_cost, CallsTell, EitherTells, ElsewhereTells, ClassesTell, SizesTell}
+use Rattle.call_frames.specs.CallTests.{CallRow, at_call, at_most, row_test, row_test_size, row_size, RowsTell, SizeClass}
+use Rattle.call_frames.specs.CallTests.{size_told, classes_told, sizes_told, classes_cost, CallsTell, EitherTells, ElsewhereTells, ClassesTell, SizesTell}
 
 -- ---- numbers in a row
 

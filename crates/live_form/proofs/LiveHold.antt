@@ -217,7 +217,10 @@ module _ (m : Module) (s : Settings) (which : List Bool) (valid : Valid m) (size
 
   pub live_kept : PartsKeepLive m s which x f (frames_of p)
   live_kept = record {
-    tells = tell_law p apart (let c = owed.count in let n = calls_small in omega (arith, c, n)) (named_small (shared_size (parts_of p.index p.parts)) p.parts plain_small.parts) frames_small;
+    tells =
+        let c = owed.count in
+        let n = calls_small in
+        tell_law p apart (omega (arith, c, n)) (named_small (shared_size (parts_of p.index p.parts)) p.parts plain_small.parts) frames_small;
     count = let c = owed.count in omega (arith, c);
     address = owed.address;
     index = owed.index;

@@ -178,7 +178,8 @@ module _ (index sp : ℕ) (xs : List KeptPart) (i : ℕ) (d : KeptPart) (lt : i 
   part_added c = sym (added_behind index sp (part_views (take i xs)) (part_view (get_or xs i d)) c) ∙ ap (λ ps. sizes_added index sp ps c) (sym (map_more part_view xs i d lt))
 
   pub part_stored : (o : ℕ) (c : Code) → o ≡ shared_bytes index (part_views (take i xs))
-      → parts_stored sp 0 (parts_of index (part_views (take i xs))) (parts_stored sp o (parts_of index (part_view (get_or xs i d) ∷ [])) c) ≡ parts_stored sp 0 (parts_of index (part_views (take (i + 1) xs))) c
+      → parts_stored sp 0 (parts_of index (part_views (take i xs))) (parts_stored sp o (parts_of index (part_view (get_or xs i d) ∷ [])) c)
+      ≡ parts_stored sp 0 (parts_of index (part_views (take (i + 1) xs))) c
   part_stored o c e =
       let z : o ≡ 0 + shared_bytes index (part_views (take i xs)) = omega (arith, e) in
       ap (λ n. parts_stored sp 0 (parts_of index (part_views (take i xs))) (parts_stored sp n (parts_of index (part_view (get_or xs i d) ∷ [])) c)) z
@@ -186,7 +187,8 @@ module _ (index sp : ℕ) (xs : List KeptPart) (i : ℕ) (d : KeptPart) (lt : i 
 
   -- one more in front
   pub part_loaded : (off o : ℕ) (c : Code) → o ≡ off + shared_bytes index (part_view (get_or xs i d) ∷ [])
-      → parts_loaded sp o (parts_of index (part_views (drop (i + 1) xs))) (parts_loaded sp off (parts_of index (part_view (get_or xs i d) ∷ [])) c) ≡ parts_loaded sp off (parts_of index (part_views (drop i xs))) c
+      → parts_loaded sp o (parts_of index (part_views (drop (i + 1) xs))) (parts_loaded sp off (parts_of index (part_view (get_or xs i d) ∷ [])) c)
+      ≡ parts_loaded sp off (parts_of index (part_views (drop i xs))) c
   part_loaded off o c e =
       ap (λ n. parts_loaded sp n (parts_of index (part_views (drop (i + 1) xs))) (parts_loaded sp off (parts_of index (part_view (get_or xs i d) ∷ [])) c)) e
       ∙ loaded_front index sp off (part_view (get_or xs i d)) (part_views (drop (i + 1) xs)) c ∙ ap (λ ys. parts_loaded sp off (parts_of index (part_views ys)) c) (sym (drop_more xs i d lt))

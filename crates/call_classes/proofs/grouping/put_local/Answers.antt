@@ -17,7 +17,8 @@ returns-then-ne c =
     let apart = calls_other c.as_slice.result.now c.as_slice-2.result.now c.ne.result c.ne.ensures c.if-ne.true in
     let first = c.as_slice.ensures.value ∙ ap (λ (y : CallClass). y.calls.items) c.index.ensures in
     on_ok_weaker c.put_group-then-ne.result
-    (λ e. e ∙ next_group ks (kept_field c.args.field) cs i _ some last (subst (λ js. same_calls js ks ≡ false) first (subst (λ js. same_calls c.as_slice.result.now js ≡ false) c.as_slice-2.ensures.value apart)))
+    (λ e. e ∙ next_group ks (kept_field c.args.field) cs i _ some last
+    (subst (λ js. same_calls js ks ≡ false) first (subst (λ js. same_calls c.as_slice.result.now js ≡ false) c.as_slice-2.ensures.value apart)))
     c.put_group-then-ne.ensures
 
 pub returns : goal.returns
@@ -32,7 +33,8 @@ returns c =
     on_ok_weaker c.put_field.result
     (λ e.
     same_group ks (kept_field c.args.field) cs i c.index_mut.result.now c.put_field.new.group some last
-    (subst (λ js. same_calls js ks ≡ true) (first ∙ ap (λ (y : CallClass). y.calls.items) (class_any cs i c.index.result.now c.index_mut.result.now (omega (arith, last)))) (subst (λ js. same_calls c.as_slice.result.now js ≡ true) c.as_slice-2.ensures.value same))
+    (subst (λ js. same_calls js ks ≡ true) (first ∙ ap (λ (y : CallClass). y.calls.items) (class_any cs i c.index.result.now c.index_mut.result.now (omega (arith, last))))
+    (subst (λ js. same_calls c.as_slice.result.now js ≡ true) c.as_slice-2.ensures.value same))
     (c.put_field.ensures.calls ∙ ap (λ (y : CallClass). y.calls) c.index_mut.ensures.value)
     (ap fields_of (e ∙ ap (λ (y : CallClass). y.fields.items ++ c.args.field ∷ []) c.index_mut.ensures.value) ∙ map-append kept_field _ (c.args.field ∷ [])))
     c.put_field.ensures.fields

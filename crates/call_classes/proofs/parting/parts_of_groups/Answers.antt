@@ -7,8 +7,8 @@ use Rattle.call_classes.proofs.parting.parts_of_groups.Goals as goal
 
 pub loop-group-preserved : goal.loop-group-preserved
 loop-group-preserved c =
-    part_next (λ (x : CallClass). shared_where c.args.count (class_part x)) c.args.groups.items c.in-Some.group c.next.new.self.rest.items c.loop-group.group-iterator.rest.items _ c.loop-group.parts.items
-    c.push.new.self.items c.in-Some.ensures.steps.0 c.in_ok-push.ensures.items c.part_among.ensures c.loop-group.invariant
+    part_next (λ (x : CallClass). shared_where c.args.count (class_part x)) c.args.groups.items c.in-Some.group c.next.new.self.rest.items
+    c.loop-group.group-iterator.rest.items _ c.loop-group.parts.items c.push.new.self.items c.in-Some.ensures.steps.0 c.in_ok-push.ensures.items c.part_among.ensures c.loop-group.invariant
 
 pub returns : goal.returns
 returns c =

@@ -50,11 +50,13 @@ loop-left-preserved c =
     let above : c.loop-left.offset ≡ off + shared_bytes c.args.index (part_view (get_or c.args.parts.now (left - 1) c.index-parts-left.result) ∷ []) = omega (arith, o, n, e, s) in (
       omega (arith, c.loop-left.invariant.0),
       omega (arith, o, n, e, s),
-      part_loaded_step c.args.out.now.items c.loop-left.out.items c.put_part_loaded.new.out.items c.args.index c.args.scratch c.args.parts.now (left - 1) c.index-parts-left.result lt off c.loop-left.offset above
+      part_loaded_step c.args.out.now.items c.loop-left.out.items c.put_part_loaded.new.out.items c.args.index c.args.scratch c.args.parts.now (left - 1)
+          c.index-parts-left.result lt off c.loop-left.offset above
           (subst (λ k. Puts c.args.out.now.items c.loop-left.out.items (parts_loaded c.args.scratch c.loop-left.offset (parts_of c.args.index (part_views (drop k c.args.parts.now))))) back
           c.loop-left.invariant.2)
           (part_same _ _ (λ p. parts_loaded c.args.scratch off (parts_of c.args.index (p ∷ []))) _ c.index-parts-left.result (sym c.index-parts-left.is) c.in_ok-put_part_loaded.ensures),
     )
 
 pub returns : goal.returns
-returns c = part_loaded_end _ _ c.args.index c.args.scratch c.loop-left.offset c.args.parts.now c.loop-left.left (omega (arith, c.loop-left-test.false)) c.loop-left.invariant.1 c.loop-left.invariant.2
+returns c =
+    part_loaded_end _ _ c.args.index c.args.scratch c.loop-left.offset c.args.parts.now c.loop-left.left (omega (arith, c.loop-left-test.false)) c.loop-left.invariant.1 c.loop-left.invariant.2

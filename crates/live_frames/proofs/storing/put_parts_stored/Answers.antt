@@ -36,8 +36,8 @@ loop-part-preserved c =
     let e = ap (λ p. shared_bytes c.args.index (part_view p ∷ [])) c.part-item.is in
     let s = c.shared_in-offset.ensures.size c.args.index in (
       omega (arith, c.loop-part.invariant.0, n, e, s),
-      part_stored_step c.args.out.now.items c.loop-part.out.items c.put_part_stored.new.out.items c.args.index c.args.scratch c.args.parts.now i c.part-item.result lt c.loop-part.offset c.loop-part.invariant.0
-          c.loop-part.invariant.1
+      part_stored_step c.args.out.now.items c.loop-part.out.items c.put_part_stored.new.out.items c.args.index c.args.scratch c.args.parts.now i c.part-item.result lt
+          c.loop-part.offset c.loop-part.invariant.0 c.loop-part.invariant.1
           (part_same _ _ (λ p. parts_stored c.args.scratch c.loop-part.offset (parts_of c.args.index (p ∷ []))) _ c.part-item.result (sym c.part-item.is) c.in_ok-put_part_stored.ensures),
     )
 
