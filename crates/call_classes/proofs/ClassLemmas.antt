@@ -1,14 +1,14 @@
 -- Classes that keep the sets of calls, with one more call.
-use Rattle.std.proofs.Common.{inr, inl, ◌≡◌, ℕ, zero, suc, ◌+◌, ◌*◌, ◌<◌, ◌≤◌, ◌⊎◌, List, [], ◌∷◌, ◌++◌, length, get_or, Bool, true, false, nat_eq, refl, sym, ap, ◌∙◌, subst, arith, ⊎_elim, eq-eqb, length-append}
+use Rattle.std.proofs.Common.{inr, inl, ◌≡◌, ℕ, zero, suc, ◌+◌, ◌<◌, ◌≤◌, ◌⊎◌, List, [], ◌∷◌, ◌++◌, length, get_or, Bool, true, false, nat_eq, refl, sym, ap, ◌∙◌, subst, arith, ⊎_elim, eq-eqb, length-append}
 use Rattle.std.specs.Prelude.{◌||◌, if◌then◌else◌}
 use Rattle.std.proofs.lemmas.Bool.{ne_eqb}
 use Rattle.std.proofs.lemmas.List.{append-nil, append_assoc, get_or_append_left, get_or_at}
 use Rattle.wa_types.specs.declared.values.ValType.{ValType}
 use Rattle.call_frames.specs.Layout.{FrameField, kept_count}
-use Rattle.call_frames.specs.PlainFrames.{SavedPart, at_every, at_these, is_one_of, call_fields, test_size}
-use Rattle.call_frames.specs.PlainLaws.{NameCalls, named_calls, sizes_size, parts_size}
+use Rattle.call_frames.specs.PlainFrames.{SavedPart, at_every, at_these, is_one_of, call_fields}
+use Rattle.call_frames.specs.PlainLaws.{NameCalls, named_calls}
 use Rattle.call_classes.specs.declared.frames.CallClass.{CallClass}
-use Rattle.call_classes.specs.Classes.{AllBelow, NumbersBelow, KeepSets, HasFields, with_call}
+use Rattle.call_classes.specs.Classes.{AllBelow, NumbersBelow, KeepByClasses, named_length, HasFields, with_call}
 use Rattle.call_classes.specs.Views.{class_parts, fields_in, kept_total}
 
 -- no part is kept by all calls
@@ -110,16 +110,12 @@ calls_with zero n (at_these ks fs ∷ ps) = let l = length-append ks (n ∷ []) 
 calls_with (suc c) n (at_every fs ∷ ps) = calls_with c n ps
 calls_with (suc c) n (at_these ks fs ∷ ps) = let ih = calls_with c n ps in omega arith
 
-test_with : (ks : List ℕ) (n : ℕ) → test_size (ks ++ n ∷ []) ≤ test_size ks + 4
-test_with [] n = omega arith
-test_with (k ∷ ks) n = let l = length-append ks (n ∷ []) in omega arith
-
-size_with : (c n : ℕ) (ps : List SavedPart) → sizes_size (with_call c n ps) + 2 * parts_size (with_call c n ps) ≤ sizes_size ps + 2 * parts_size ps + 12
+size_with : (c n : ℕ) (ps : List SavedPart) → named_length (with_call c n ps) ≤ named_length ps + 12
 size_with c n [] = omega arith
 size_with zero n (at_every fs ∷ ps) = omega arith
-size_with zero n (at_these ks fs ∷ ps) = let t = test_with ks n in omega arith
-size_with (suc c) n (at_every fs ∷ ps) = let ih = size_with c n ps in omega arith
-size_with (suc c) n (at_these ks fs ∷ ps) = let ih = size_with c n ps in omega arith
+size_with zero n (at_these ks fs ∷ ps) = let l = length-append ks (n ∷ []) in omega (arith, l)
+size_with (suc c) n (at_every fs ∷ ps) = let ih = size_with c n ps in omega (arith, ih)
+size_with (suc c) n (at_these ks fs ∷ ps) = let ih = size_with c n ps in omega (arith, ih)
 
 pub has_with : (c n m : ℕ) (ps : List SavedPart) (gs : List FrameField) → HasFields m ps gs → HasFields m (with_call c n ps) gs
 has_with c n m [] gs h = h
@@ -172,10 +168,10 @@ calls_join [] qs = omega arith
 calls_join (at_every fs ∷ ps) qs = calls_join ps qs
 calls_join (at_these ks fs ∷ ps) qs = let ih = calls_join ps qs in omega arith
 
-size_join : (ps qs : List SavedPart) → sizes_size (ps ++ qs) + 2 * parts_size (ps ++ qs) ≡ (sizes_size ps + 2 * parts_size ps) + (sizes_size qs + 2 * parts_size qs)
+size_join : (ps qs : List SavedPart) → named_length (ps ++ qs) ≡ named_length ps + named_length qs
 size_join [] qs = omega arith
-size_join (at_every fs ∷ ps) qs = let ih = size_join ps qs in omega arith
-size_join (at_these ks fs ∷ ps) qs = let ih = size_join ps qs in omega arith
+size_join (at_every fs ∷ ps) qs = let ih = size_join ps qs in omega (arith, ih)
+size_join (at_these ks fs ∷ ps) qs = let ih = size_join ps qs in omega (arith, ih)
 
 pub has_join : (m : ℕ) (ps qs : List SavedPart) (gs : List FrameField) → HasFields m ps gs → HasFields m (ps ++ qs) gs
 has_join m [] qs gs h = absurd h
@@ -225,7 +221,7 @@ module _ (types : List ValType) (sets : List (List Bool)) (set : List Bool) wher
       this : k ≡ n → call_fields k new ≡ fields_in 0 (get_or (sets ++ set ∷ []) k []) types
       this e = ap (λ i. call_fields i new) e ∙ last ∙ ap (λ s. fields_in 0 s types) (sym (get_or_at sets set [] [] k (sym e)))
 
-  pub keep_with : (c : ℕ) (ps : List SavedPart) → OnlyThese ps → HasFields c ps gs → KeepSets types sets ps → KeepSets types (sets ++ set ∷ []) (with_call c n ps)
+  pub keep_with : (c : ℕ) (ps : List SavedPart) → OnlyThese ps → HasFields c ps gs → KeepByClasses types sets ps → KeepByClasses types (sets ++ set ∷ []) (with_call c n ps)
   keep_with c ps o has h =
       let l = length-append sets (set ∷ []) in
       let t = total_more types sets set in
@@ -235,15 +231,17 @@ module _ (types : List ValType) (sets : List (List Bool)) (set : List Bool) wher
       let few = h.numbers in
       let small = h.size in
       record {
-        fields = each_more (with_call c n ps) (λ k lt. others_stay c n k ps (ne_eqb k n (λ e. absurd (omega (arith, e, lt)))) ∙ h.fields k lt) (it_keeps c n ps gs o h.below has);
-        below = subst (λ i. NumbersBelow i (with_call c n ps)) (sym l) (below_with c n ps h.below);
-        named = named_with c n ps h.named;
+        keep = record {
+          fields = each_more (with_call c n ps) (λ k lt. others_stay c n k ps (ne_eqb k n (λ e. absurd (omega (arith, e, lt)))) ∙ h.keep.fields k lt) (it_keeps c n ps gs o h.keep.below has);
+          below = subst (λ i. NumbersBelow i (with_call c n ps)) (sym l) (below_with c n ps h.keep.below);
+          named = named_with c n ps h.keep.named;
+        };
         numbers = omega arith;
         size = omega arith;
       }
 
-  pub keep_new : (fs : List FrameField) (ps : List SavedPart) → OnlyThese ps → fs ≡ gs → 1 ≤ kept_count fs → KeepSets types sets ps
-      → KeepSets types (sets ++ set ∷ []) (ps ++ at_these (n ∷ []) fs ∷ [])
+  pub keep_new : (fs : List FrameField) (ps : List SavedPart) → OnlyThese ps → fs ≡ gs → 1 ≤ kept_count fs → KeepByClasses types sets ps
+      → KeepByClasses types (sets ++ set ∷ []) (ps ++ at_these (n ∷ []) fs ∷ [])
   keep_new fs ps o e some h =
       let one : List SavedPart = at_these (n ∷ []) fs ∷ [] in
       let l = length-append sets (set ∷ []) in
@@ -254,27 +252,31 @@ module _ (types : List ValType) (sets : List (List Bool)) (set : List Bool) wher
       let small = h.size in
       let same : kept_count fs ≡ kept_count gs = ap kept_count e in
       record {
-        fields = each_more (ps ++ one)
-            (λ k lt. fields_join k ps one ∙ ap (λ b. call_fields k ps ++ ((if b then fs else []) ++ [])) (ap (λ b. b || false) (ne_eqb k n (λ q. absurd (omega (arith, q, lt)))))
-            ∙ append-nil (call_fields k ps) ∙ h.fields k lt)
-            (fields_join n ps one ∙ ap (λ xs. xs ++ call_fields n one) (none_at n n ps o h.below (omega arith))
-            ∙ ap (λ b. (if b then fs else []) ++ []) (ap (λ b. b || false) (eq-eqb n n refl)) ∙ append-nil fs ∙ e);
-        below = subst (λ i. NumbersBelow i (ps ++ one)) (sym l) (below_join (n + 1) ps one (below_wider n ps h.below) ((omega arith, tt), tt));
-        named = named_join ps one h.named (omega arith, tt);
+        keep = record {
+          fields = each_more (ps ++ one)
+              (λ k lt. fields_join k ps one ∙ ap (λ b. call_fields k ps ++ ((if b then fs else []) ++ [])) (ap (λ b. b || false) (ne_eqb k n (λ q. absurd (omega (arith, q, lt)))))
+              ∙ append-nil (call_fields k ps) ∙ h.keep.fields k lt)
+              (fields_join n ps one ∙ ap (λ xs. xs ++ call_fields n one) (none_at n n ps o h.keep.below (omega arith))
+              ∙ ap (λ b. (if b then fs else []) ++ []) (ap (λ b. b || false) (eq-eqb n n refl)) ∙ append-nil fs ∙ e);
+          below = subst (λ i. NumbersBelow i (ps ++ one)) (sym l) (below_join (n + 1) ps one (below_wider n ps h.keep.below) ((omega arith, tt), tt));
+          named = named_join ps one h.keep.named (omega arith, tt);
+        };
         numbers = omega arith;
         size = omega arith;
       }
 
-  pub keep_none : (ps : List SavedPart) → OnlyThese ps → gs ≡ [] → KeepSets types sets ps → KeepSets types (sets ++ set ∷ []) ps
+  pub keep_none : (ps : List SavedPart) → OnlyThese ps → gs ≡ [] → KeepByClasses types sets ps → KeepByClasses types (sets ++ set ∷ []) ps
   keep_none ps o e h =
       let l = length-append sets (set ∷ []) in
       let t = total_more types sets set in
       let few = h.numbers in
       let small = h.size in
       record {
-        fields = each_more ps h.fields (none_at n n ps o h.below (omega arith) ∙ sym e);
-        below = subst (λ i. NumbersBelow i ps) (sym l) (below_wider n ps h.below);
-        named = h.named;
+        keep = record {
+          fields = each_more ps h.keep.fields (none_at n n ps o h.keep.below (omega arith) ∙ sym e);
+          below = subst (λ i. NumbersBelow i ps) (sym l) (below_wider n ps h.keep.below);
+          named = h.keep.named;
+        };
         numbers = omega arith;
         size = omega arith;
       }

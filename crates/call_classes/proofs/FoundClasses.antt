@@ -1,23 +1,21 @@
 -- Classes found by their sets, set by set.
 use Rattle.std.proofs.Common.{◌≡◌, ℕ, zero, suc, ◌+◌, ◌<◌, ◌≤◌, List, [], ◌∷◌, ◌++◌, length, take, get_or, Bool, true, false, cond, Option, Some, None, refl, sym, ap, ◌∙◌, subst, arith, eqb-true, ◌==◌}
-use Rattle.std.specs.Bool.{beq}
-use Rattle.std.specs.Cmp.{booleans_Decides}
-use Rattle.std.specs.Prelude.{not, if◌then◌else◌, slice_set, Vec}
+use Rattle.std.specs.Prelude.{if◌then◌else◌, slice_set, Vec}
 use Rattle.std.specs.declared.alloc.Global.{Global}
 use Rattle.std.specs.Borrow.{Bor}
 use Rattle.std.specs.BTreeMap.{BTreeMap, UpdatesBy, is_at}
-use Rattle.std.specs.Cmp.Lexicographic.{pointwise, pointwise_decides, slice_cmp}
+use Rattle.std.specs.Cmp.Lexicographic.{slice_cmp}
 use Rattle.std.specs.Map.{lookup}
 use Rattle.std.specs.Ordering.{bool_cmp, is_eq}
 use Rattle.std.proofs.lemmas.Bool.{eqb-false}
-use Rattle.std.proofs.lemmas.List.{append-nil, map_more, map-append, take_more, take_all, length-take-le, length-map}
+use Rattle.std.proofs.lemmas.List.{map_more, map-append, take_more, take_all, length-take-le, length-map}
 use Rattle.wa_types.specs.declared.values.ValType.{ValType}
 use Rattle.call_frames.specs.Layout.{FrameField, kept, kept_count}
-use Rattle.call_frames.specs.PlainFrames.{SavedPart, at_every, at_these}
+use Rattle.call_frames.specs.PlainFrames.{SavedPart, at_these}
 use Rattle.call_classes.specs.declared.frames.CallClass.{CallClass}
 use Rattle.call_classes.specs.declared.frames.KeptLocal.{KeptLocal}
-use Rattle.call_classes.specs.Classes.{KeepSets, AllAre, HasFields, with_call, found_at, Finds, KeepsMore}
-use Rattle.call_classes.specs.Views.{kept_field, fields_of, class_part, class_parts, kept_where, fields_in, sets_of, kept_total}
+use Rattle.call_classes.specs.Classes.{KeepByClasses, HasFields, with_call, found_at, Finds, KeepsMore}
+use Rattle.call_classes.specs.Views.{kept_field, fields_of, class_part, class_parts, kept_where, fields_in, sets_of}
 use Rattle.call_classes.proofs.ClassLemmas.{has_with, has_join, has_last}
 
 -- ---- sets in order
@@ -147,79 +145,15 @@ parts_count v n e = e ∙ v.ok.0 ∙ sym (length-map v.items class_part)
 -- ---- sets of calls
 
 pub sets_next : (types : List ValType) (sets : List (Vec Bool Global)) (i : ℕ) (d : Vec Bool Global) (set : List Bool) (old new : List SavedPart) → i < length sets → set ≡ (get_or sets i d).items
-    → KeepSets types (sets_of (take i sets)) old → KeepsMore types i set old new → KeepSets types (sets_of (take (i + 1) sets)) new
+    → KeepByClasses types (sets_of (take i sets)) old → KeepsMore types i set old new → KeepByClasses types (sets_of (take (i + 1) sets)) new
 sets_next types sets i d set old new lt e h more =
     let n : length (sets_of (take i sets)) ≡ i = length-map (take i sets) (λ (s : Vec Bool Global). s.items) ∙ length-take-le i sets (omega arith) in
-    subst (λ ss. KeepSets types ss new)
+    subst (λ ss. KeepByClasses types ss new)
     (ap (λ s. sets_of (take i sets) ++ s ∷ []) e ∙ sym (map_more (λ (s : Vec Bool Global). s.items) sets i d lt))
     (more (sets_of (take i sets)) n h)
 
-pub sets_end : (types : List ValType) (sets : List (Vec Bool Global)) (i : ℕ) (ps : List SavedPart) → length sets ≤ i → KeepSets types (sets_of (take i sets)) ps → KeepSets types (sets_of sets) ps
-sets_end types sets i ps le h = subst (λ ss. KeepSets types (sets_of ss) ps) (take_all i sets le) h
+pub sets_end : (types : List ValType) (sets : List (Vec Bool Global)) (i : ℕ) (ps : List SavedPart) → length sets ≤ i → KeepByClasses types (sets_of (take i sets)) ps → KeepByClasses types (sets_of sets) ps
+sets_end types sets i ps le h = subst (λ ss. KeepByClasses types (sets_of ss) ps) (take_all i sets le) h
 
-pub sets_none : (types : List ValType) → KeepSets types [] []
-sets_none types = record { fields = λ k lt. absurd (omega (arith, lt)); below = tt; named = tt; numbers = omega arith; size = omega arith }
-
--- ---- parts
-
-are_at : (set : List Bool) (sets : List (List Bool)) (k : ℕ) → AllAre set sets → k < length sets → get_or sets k [] ≡ set
-are_at set [] k h lt = absurd (omega (arith, lt))
-are_at set (s ∷ ss) zero h lt = h.0
-are_at set (s ∷ ss) (suc k) h lt = are_at set ss k h.1 (omega (arith, lt))
-
-total_least : (types : List ValType) (set : List Bool) (sets : List (List Bool)) → AllAre set sets → 1 ≤ length sets → kept_count (fields_in 0 set types) ≤ kept_total types sets
-total_least types set [] h le = absurd (omega (arith, le))
-total_least types set (s ∷ ss) h le = let e = ap (λ z. kept_count (fields_in 0 z types)) h.0 in omega arith
-
--- all of it is shared
-pub keep_shared : (types : List ValType) (set : List Bool) (sets : List (List Bool)) (fs : List FrameField) → AllAre set sets → 1 ≤ length sets → fs ≡ fields_in 0 set types
-    → KeepSets types sets (at_every fs ∷ [])
-keep_shared types set sets fs are some e =
-    let t = total_least types set sets are some in
-    let n = ap kept_count e in
-    record {
-      fields = λ k lt. append-nil fs ∙ e ∙ ap (λ s. fields_in 0 s types) (sym (are_at set sets k are lt));
-      below = tt;
-      named = tt;
-      numbers = omega arith;
-      size = omega arith;
-    }
-
--- nothing is shared
-pub keep_classes : (types : List ValType) (sets : List (List Bool)) (ps : List SavedPart) → KeepSets types sets ps → KeepSets types sets (at_every [] ∷ ps)
-keep_classes types sets ps h =
-    let s = h.size in
-    record { fields = h.fields; below = h.below; named = h.named; numbers = h.numbers; size = omega arith }
-
--- what all sets are the first one is
-pub first_is : (set first : List Bool) (sets : List (List Bool)) (rest : List (List Bool)) → sets ≡ first ∷ rest → AllAre set sets → first ≡ set
-first_is set first sets rest e h = let k = subst (AllAre set) e h in k.0
-
-are_step : (set : List Bool) (sets : List (List Bool)) (s : List Bool) → AllAre set sets → s ≡ set → AllAre set (sets ++ s ∷ [])
-are_step set [] s h e = (e, tt)
-are_step set (x ∷ sets) s h e = (h.0, are_step set sets s h.1 e)
-
--- the sets compared
-pub same_where : (xs ys : List Bool) (r : Bool) → r ≡ not (pointwise beq xs ys) → r ≡ false → xs ≡ ys
-same_where xs ys r e f = (pointwise_decides booleans_Decides xs ys).0 (by (pointwise beq xs ys) (sym e ∙ f))
-  where
-    by : (b : Bool) → not b ≡ false → b ≡ true
-    by true h = refl
-    by false h = let no : ⊥ = cc in absurd no
-
-pub other_where : (xs ys : List Bool) (r : Bool) → r ≡ not (pointwise beq xs ys) → r ≡ true → xs ≡ ys → ⊥
-other_where xs ys r e f h = by (pointwise beq xs ys) ((pointwise_decides booleans_Decides xs ys).1 h) (sym e ∙ f)
-  where
-    by : (b : Bool) → b ≡ true → not b ≡ true → ⊥
-    by true g k = cc
-    by false g k = cc
-
-pub all_at : (set : List Bool) (sets : List (Vec Bool Global)) (i : ℕ) (d : Vec Bool Global) → i < length sets → AllAre set (sets_of sets) → (get_or sets i d).items ≡ set
-all_at set [] i d lt h = absurd (omega (arith, lt))
-all_at set (s ∷ sets) zero d lt h = h.0
-all_at set (s ∷ sets) (suc i) d lt h = all_at set sets i d (omega (arith, lt)) h.1
-
-pub are_next : (set : List Bool) (sets : List (Vec Bool Global)) (i : ℕ) (d : Vec Bool Global) → i < length sets → (get_or sets i d).items ≡ set → AllAre set (sets_of (take i sets))
-    → AllAre set (sets_of (take (i + 1) sets))
-are_next set sets i d lt e h =
-    subst (AllAre set) (sym (map_more (λ (s : Vec Bool Global). s.items) sets i d lt)) (are_step set (sets_of (take i sets)) (get_or sets i d).items h e)
+pub sets_none : (types : List ValType) → KeepByClasses types [] []
+sets_none types = record { keep = record { fields = λ k lt. absurd (omega (arith, lt)); below = tt; named = tt }; numbers = omega arith; size = omega arith }

@@ -8,7 +8,7 @@ use Rattle.call_frames.specs.Layout.{FrameField, kept, gap, fields_size, kept_co
 use Rattle.call_frames.specs.Typed.{FieldsTyped}
 use Rattle.call_frames.specs.FrameParts.{fields_at, shared_size, own_size}
 use Rattle.call_frames.specs.PlainFrames.{SavedPart, at_every, at_these, is_one_of, call_fields, parts_of, frames_of, FramesSmall}
-use Rattle.call_frames.specs.PlainLaws.{NameCalls, PartsTyped, FieldsSmall, NumbersSmall, PartsSmall}
+use Rattle.call_frames.specs.PlainLaws.{CallsSmall, NameCalls, PartsTyped, FieldsSmall, NumbersSmall, PartsSmall}
 use Rattle.call_frames.proofs.Codes.{codes_law}
 use Rattle.call_frames.proofs.FieldRows.{sizes_at}
 use Rattle.call_frames.proofs.PlainBounds.{cost_law, size_law}
@@ -104,6 +104,11 @@ numbers_small : (n : ℕ) (ks : List ℕ) → n < 2 ^ 32 → AllBelow n ks → N
 numbers_small n [] lt h = tt
 numbers_small n (k ∷ ks) lt h = (omega (arith, lt, h.0), numbers_small n ks lt h.1)
 
+calls_below : (n : ℕ) (ps : List SavedPart) → n < 2 ^ 32 → NumbersBelow n ps → CallsSmall ps
+calls_below n [] lt h = tt
+calls_below n (at_every fs ∷ ps) lt h = calls_below n ps lt h
+calls_below n (at_these ks fs ∷ ps) lt h = (numbers_small n ks lt h.0, calls_below n ps lt h.1)
+
 -- numbers, fields and sizes
 parts_small : (index n shared : ℕ) (ps : List SavedPart) → n < 2 ^ 32 → NumbersBelow n ps → NameCalls ps → PartsHave FieldsSmall ps
     → ((k : ℕ) → k < n → shared + own_size k (parts_of index ps) ≤ 400000) → PartsSmall shared ps
@@ -127,7 +132,8 @@ typed_parts locals (at_these ks fs ∷ ps) h = (h.0, typed_parts locals ps h.1)
 -- ---- frames
 
 pub framed_law : SetsAreFramed
-framed_law types sets base address p keep some few index adr many =
+framed_law types sets base address p cheap some few index adr many =
+    let keep = cheap.keep in
     let f = told_frames (length sets) base address p in
     let ps = parts_view p in
     let at : (k : ℕ) → k < length sets → fields_at k (parts_of base ps) ≡ fields_in 0 (get_or sets k []) types = λ k lt. fields_law base k ps ∙ keep.fields k lt in
@@ -135,7 +141,7 @@ framed_law types sets base address p keep some few index adr many =
     λ k lt. let e = ap fields_size (at k lt) in let s = sizes_at k (parts_of base ps) in let m = in_size 0 (get_or sets k []) types in omega arith in
     let apart : base ≢ base + 1 = λ e. absurd (omega (arith, e)) in
     let frames : FramesSmall f = λ k lt. let s = sizes_at k (parts_of base ps) in let t = total k lt in omega arith in
-    let tell = tell_law f apart frames in
+    let tell = tell_law f apart (omega (arith, many)) (calls_below (length sets) ps many keep.below) frames in
     let small = parts_have FieldsSmall (record { first = small_first; second = small_second }) (length sets) some ps keep.below keep.named
     (λ k lt. subst FieldsSmall (sym (keep.fields k lt)) (in_small 0 (get_or sets k []) types (omega arith))) in
     record {
@@ -143,15 +149,15 @@ framed_law types sets base address p keep some few index adr many =
         codes = λ body result. codes_law (frames_of f) k body result tell lt;
         fields = at k lt;
         cost =
-            let c = cost_law f k keep.named in
-            let n = keep.numbers in
+            let c = cost_law f k in
+            let n = cheap.tests in
             let e = ap kept_count (keep.fields k lt) in
             omega arith;
       };
       size =
           let a = size_law.saving f in
           let b = size_law.restoring f in
-          let c = keep.size in
+          let c = cheap.size in
           omega arith;
       small = record {
         address = adr;

@@ -1,5 +1,11 @@
+mod Cases
+pub mod ChoiceLemmas
+pub mod Chosen
 pub mod ClassLemmas
 pub mod FoundClasses
 pub mod FramedSets
+pub mod GroupLemmas
+pub mod GroupSteps
 pub mod IndexLemmas
 pub mod PartLemmas
+pub mod RowLemmas

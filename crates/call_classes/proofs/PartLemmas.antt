@@ -1,9 +1,9 @@
 -- The parts that are made are those of the definition.
-use Rattle.std.proofs.Common.{◌≡◌, ◌∙◌, ℕ, zero, suc, ◌+◌, ◌<◌, ◌≤◌, List, [], ◌∷◌, ◌++◌, length, map, take, get_or, Some, None, Bool, true, false, ◌&&◌, All, refl, sym, ap, subst, arith}
+use Rattle.std.proofs.Common.{◌≡◌, ◌∙◌, ℕ, zero, suc, ◌+◌, ◌<◌, ◌≤◌, List, [], ◌∷◌, ◌++◌, length, take, get_or, Bool, true, false, ◌&&◌, All, refl, sym, ap, subst, arith}
 use Rattle.std.specs.Bool.{Decides}
 use Rattle.std.specs.Cmp.{unsigned_Decides}
 use Rattle.std.specs.Cmp.Lexicographic.{pointwise_decides}
-use Rattle.std.specs.Prelude.{if◌then◌else◌, nat_eq, slice_get, Vec}
+use Rattle.std.specs.Prelude.{if◌then◌else◌, nat_eq, Vec}
 use Rattle.std.specs.declared.alloc.Global.{Global}
 use Rattle.std.proofs.lemmas.List.{map_more, map-append, take_all, length-take-le, length-map}
 use Rattle.std.proofs.lemmas.List.Elements.{All-nil, All-cons, All-head, All-tail}
@@ -12,19 +12,18 @@ use Rattle.wa_types.specs.declared.values.ValType.TheVariants.{I32, I64}
 use Rattle.wa_types.specs.Encoding.{same_type}
 use Rattle.call_frames.specs.Layout.{FrameField, kept, gap, kept_count}
 use Rattle.call_frames.specs.PlainFrames.{SavedPart, at_every, at_these}
-use Rattle.call_classes.specs.CallParts.{equal_field, equal_fields, all_equal, with_part, joined, classed, call_parts, kept_by_sets}
-use Rattle.call_classes.specs.Classes.{AllAre, AreApart, HasFields, with_call}
+use Rattle.call_classes.specs.CallParts.{equal_field, equal_fields, with_part, joined, classed, kept_by_sets}
+use Rattle.call_classes.specs.Classes.{AreApart, HasFields, with_call}
 use Rattle.call_classes.specs.Views.{fields_in, sets_of}
 use Rattle.call_classes.proofs.ClassLemmas.{has_some}
-use Rattle.call_classes.proofs.IndexLemmas.{same_fields}
 
 -- ---- fields compared
 
-both_true : (a b : Bool) → (a && b) ≡ true → (a ≡ true) × (b ≡ true)
+pub both_true : (a b : Bool) → (a && b) ≡ true → (a ≡ true) × (b ≡ true)
 both_true true b e = (refl, e)
 both_true false b e = cc
 
-join_true : (a b : Bool) → a ≡ true → b ≡ true → (a && b) ≡ true
+pub join_true : (a b : Bool) → a ≡ true → b ≡ true → (a && b) ≡ true
 join_true true b e h = h
 join_true false b e h = cc
 
@@ -124,70 +123,13 @@ pub classed_end : (types : List ValType) (sets : List (Vec Bool Global)) (i : �
     → ps ≡ classed 0 (kept_by_sets types (sets_of sets)) []
 classed_end types sets i ps le h = h ∙ ap (λ (ss : List (Vec Bool Global)). classed 0 (kept_by_sets types (sets_of ss)) []) (take_all i sets le)
 
--- ---- all alike, or not
-
-rows_equal : (types : List ValType) (set : List Bool) (sets : List (List Bool)) → AllAre set sets → all_equal (fields_in 0 set types) (kept_by_sets types sets) ≡ true
-rows_equal types set [] h = refl
-rows_equal types set (s ∷ sets) h =
-    join_true (equal_fields (fields_in 0 s types) (fields_in 0 set types)) (all_equal (fields_in 0 set types) (kept_by_sets types sets))
-    (are_fields (fields_in 0 s types) (fields_in 0 set types) (ap (λ z. fields_in 0 z types) h.0)) (rows_equal types set sets h.1)
+-- ---- sets of the program
 
 abbrev pub Sized : List ValType → List (List Bool) → Type 0
 Sized types sets = All (λ (s : List Bool). length s ≡ length types) sets
-
-equal_rows : (types : List ValType) (set : List Bool) (sets : List (List Bool)) → length set ≡ length types → Sized types sets
-    → all_equal (fields_in 0 set types) (kept_by_sets types sets) ≡ true → AllAre set sets
-equal_rows types set [] n sized e = tt
-equal_rows types set (s ∷ sets) n sized e =
-    let b = both_true (equal_fields (fields_in 0 s types) (fields_in 0 set types)) (all_equal (fields_in 0 set types) (kept_by_sets types sets)) e in (
-      same_fields 0 s set types (All-head (λ (z : List Bool). length z ≡ length types) s sets sized) n (fields_are (fields_in 0 s types) (fields_in 0 set types) b.0),
-      equal_rows types set sets n (All-tail (λ (z : List Bool). length z ≡ length types) s sets sized) b.1,
-    )
-
-pub parts_none : (types : List ValType) (sets : List (List Bool)) → sets ≡ [] → at_every [] ∷ [] ≡ call_parts (kept_by_sets types sets)
-unfolding call_parts
-parts_none types sets e = ap (λ ss. call_parts (kept_by_sets types ss)) (sym e)
-
-pub parts_shared : (types : List ValType) (set : List Bool) (sets rest : List (List Bool)) → sets ≡ set ∷ rest → AllAre set sets
-    → at_every (fields_in 0 set types) ∷ [] ≡ call_parts (kept_by_sets types sets)
-unfolding call_parts
-parts_shared types set sets rest e h =
-    let fs = fields_in 0 set types in
-    let are : AllAre set (set ∷ rest) = subst (AllAre set) e h in
-    ap (λ b. if b then at_every fs ∷ [] else at_every [] ∷ classed 0 (fs ∷ kept_by_sets types rest) []) (sym (rows_equal types set rest are.1))
-    ∙ ap (λ ss. call_parts (kept_by_sets types ss)) (sym e)
-
-pub parts_apart : (types : List ValType) (set : List Bool) (sets rest : List (List Bool)) → sets ≡ set ∷ rest → Sized types sets → (AllAre set sets → ⊥)
-    → at_every [] ∷ classed 0 (kept_by_sets types sets) [] ≡ call_parts (kept_by_sets types sets)
-unfolding call_parts
-parts_apart types set sets rest e sized differ =
-    let fs = fields_in 0 set types in
-    let all : Sized types (set ∷ rest) = subst (Sized types) e sized in
-    ap (λ ss. at_every [] ∷ classed 0 (kept_by_sets types ss) []) e
-    ∙ ap (λ b. if b then at_every fs ∷ [] else at_every [] ∷ classed 0 (fs ∷ kept_by_sets types rest) []) (sym (by (all_equal fs (kept_by_sets types rest)) refl all))
-    ∙ ap (λ ss. call_parts (kept_by_sets types ss)) (sym e)
-  where
-    by : (b : Bool) → all_equal (fields_in 0 set types) (kept_by_sets types rest) ≡ b → Sized types (set ∷ rest) → b ≡ false
-    by false h all = refl
-    by true h all =
-        absurd (differ (subst (AllAre set) (sym e) (
-          refl,
-          equal_rows types set rest (All-head (λ (z : List Bool). length z ≡ length types) set rest all)
-              (All-tail (λ (z : List Bool). length z ≡ length types) set rest all) h,
-        )))
-
--- ---- sets of the program
 
 pub sets_sized : (types : List ValType) (sets : List (Vec Bool Global)) → All (λ (set : Vec Bool Global). length set.items ≡ length types) sets → Sized types (sets_of sets)
 sets_sized types [] h = All-nil (λ (s : List Bool). length s ≡ length types)
 sets_sized types (s ∷ sets) h =
     All-cons (λ (z : List Bool). length z ≡ length types) s.items (sets_of sets) (All-head (λ (z : Vec Bool Global). length z.items ≡ length types) s sets h)
     (sets_sized types sets (All-tail (λ (z : Vec Bool Global). length z.items ≡ length types) s sets h))
-
-pub no_sets : (sets : List (Vec Bool Global)) → slice_get sets 0 ≡ None → sets_of sets ≡ []
-no_sets [] e = refl
-no_sets (s ∷ sets) e = cc
-
-pub first_set : (sets : List (Vec Bool Global)) (s : Vec Bool Global) → slice_get sets 0 ≡ Some s → (rest : List (List Bool)) × (sets_of sets ≡ s.items ∷ rest)
-first_set [] s e = cc
-first_set (z ∷ sets) s e = let same : z ≡ s = cc in (sets_of sets, ap (λ (y : Vec Bool Global). y.items ∷ sets_of sets) same)

@@ -12,7 +12,8 @@ use Rattle.call_frames.specs.FrameParts.{CallFrames, fields_at, saving_by_call, 
 use Rattle.call_frames.specs.PlainFrames.{frames_of}
 use Rattle.call_frames.specs.PlainLaws.{PlainTyped, PlainSmall}
 use Rattle.call_classes.specs.declared.frames.FrameParts.{FrameParts}
-use Rattle.call_classes.specs.Classes.{KeepSets}
+use Rattle.call_classes.specs.CallParts.{tests_most}
+use Rattle.call_classes.specs.Classes.{KeepCheaply}
 use Rattle.call_classes.specs.Views.{fields_in, kept_total, parts_view, told_frames}
 
 -- the frames of the calls of these sets
@@ -23,7 +24,8 @@ set_frames sets base address p = frames_of (told_frames (length sets) base addre
 pub record FramedAt (types : List ValType) (sets : List (List Bool)) (base address : ℕ) (p : FrameParts) (k : ℕ) : Type 0 where
   pub codes : (body : Code) (result : Option ℕ) → FrameCodes (by_call (set_frames sets base address p) k body result) k
   pub fields : fields_at k (set_frames sets base address p).parts ≡ fields_in 0 (get_or sets k []) types
-  pub cost : save_bound_at (set_frames sets base address p) k + restore_bound_at (set_frames sets base address p) k ≤ 32 + 27 * length sets + 6 * kept_count (fields_in 0 (get_or sets k []) types)
+  pub cost : save_bound_at (set_frames sets base address p) k + restore_bound_at (set_frames sets base address p) k
+      ≤ 32 + tests_most (length types) (length sets) + 6 * kept_count (fields_in 0 (get_or sets k []) types)
 
 -- A function's locals have these types first, and there are a memory, the address, the index and the scratch local.
 pub record HasPlaces (c : Around) (types : List ValType) (base adr : ℕ) : Type 0 where
@@ -43,5 +45,5 @@ pub record SetsFramed (types : List ValType) (sets : List (List Bool)) (base add
 
 abbrev pub SetsAreFramed : Type 0
 SetsAreFramed =
-    (types : List ValType) (sets : List (List Bool)) (base address : ℕ) (p : FrameParts) → KeepSets types sets (parts_view p) → 1 ≤ length sets → length types ≤ 50000 → base ≤ 50000
+    (types : List ValType) (sets : List (List Bool)) (base address : ℕ) (p : FrameParts) → KeepCheaply types sets (parts_view p) → 1 ≤ length sets → length types ≤ 50000 → base ≤ 50000
     → address < 2 ^ 32 → length sets < 2 ^ 32 → SetsFramed types sets base address p

@@ -7,6 +7,8 @@ use Rattle.call_frames.specs.PlainFrames.{SavedPart, at_every, at_these, SavedPa
 use Rattle.call_classes.specs.declared.frames.CallClass.{CallClass}
 use Rattle.call_classes.specs.declared.frames.FrameParts.{FrameParts}
 use Rattle.call_classes.specs.declared.frames.KeptLocal.{KeptLocal}
+use Rattle.call_classes.specs.declared.frames.KeptPart.{KeptPart}
+use Rattle.call_classes.specs.declared.frames.KeptPart.TheVariants as P
 
 abbrev pub kept_field : KeptLocal → FrameField
 kept_field k = kept k.local k.ty
@@ -20,8 +22,15 @@ class_part c = at_these c.calls.items (fields_of c.fields.items)
 abbrev pub class_parts : List CallClass → List SavedPart
 class_parts cs = map class_part cs
 
+abbrev pub part_view : KeptPart → SavedPart
+part_view (P.Every fields) = at_every (fields_of fields.items)
+part_view (P.These c) = class_part c
+
+abbrev pub part_views : List KeptPart → List SavedPart
+part_views ps = map part_view ps
+
 abbrev pub parts_view : FrameParts → List SavedPart
-parts_view p = at_every (fields_of p.shared.items) ∷ class_parts p.classes.items
+parts_view p = part_views p.parts.items
 
 -- the frames of so many calls, where the call index stands in local `base`, and the scratch local behind it
 abbrev pub told_frames : (count base address : ℕ) → FrameParts → SavedParts

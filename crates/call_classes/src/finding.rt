@@ -4,7 +4,7 @@ ghost use Rattle.std.specs.Prelude.{◌≡◌, ◌≤◌, ◌<◌, ◌^◌, ◌+
 ghost use Rattle.std.specs.declared.alloc.Global.{Global as AGlobal};
 ghost use Rattle.call_frames.specs.PlainFrames.{at_these};
 ghost use Rattle.call_classes.specs.CallParts.{classed, kept_by_sets};
-ghost use Rattle.call_classes.specs.Classes.{AreApart, FindsMore, IsIndex, KeepSets};
+ghost use Rattle.call_classes.specs.Classes.{FindsMore, IsIndex, KeepByClasses};
 ghost use Rattle.call_classes.specs.Classes.{FewFields};
 ghost use Rattle.call_classes.specs.Views.{class_part, class_parts, fields_of, sets_of};
 
@@ -78,8 +78,7 @@ pub(crate) fn classes_of(
     requires sizes { All (λ (set : Vec Bool AGlobal). length set.items ≡ length types.now) sets.now }
     requires few { length types.now ≤ 50000 }
     requires calls { length sets.now < 2 ^ 32 }
-    ensures keep { IfOk result (λ v. KeepSets types.now (sets_of sets.now) (class_parts v.items)) }
-    ensures apart { IfOk result (λ v. AreApart (class_parts v.items)) }
+    ensures keep { IfOk result (λ v. KeepByClasses types.now (sets_of sets.now) (class_parts v.items)) }
     ensures parts { IfOk result (λ v. class_parts v.items ≡ classed 0 (kept_by_sets types.now (sets_of sets.now)) []) }
     ensures few { IfOk result (λ v. FewFields v.items) }
 {

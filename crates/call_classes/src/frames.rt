@@ -16,9 +16,15 @@ pub struct CallClass {
     pub fields: Vec<KeptLocal>,
 }
 
-/// The frames of a function: what all calls keep, and what each class of calls keeps.
+/// What all calls keep, or what some do.
+#[derive(Debug, Drop)]
+pub enum KeptPart {
+    Every(Vec<KeptLocal>),
+    These(CallClass),
+}
+
+/// The frames of a function: what its calls keep, part by part.
 #[derive(Debug, Drop)]
 pub struct FrameParts {
-    pub shared: Vec<KeptLocal>,
-    pub classes: Vec<CallClass>,
+    pub parts: Vec<KeptPart>,
 }

@@ -1,5 +1,5 @@
 -- What codes of frames that are plain data cost, and how many instructions they have.
-use Rattle.std.proofs.Common.{◌≡◌, ℕ, ◌+◌, ◌*◌, ◌≤◌, List, [], ◌∷◌, ◌++◌, length, Bool, true, false, arith}
+use Rattle.std.proofs.Common.{◌≡◌, ℕ, suc, nat_eq, ◌+◌, ◌*◌, ◌≤◌, List, [], ◌∷◌, ◌++◌, length, Bool, true, false, arith}
 use Rattle.std.specs.Prelude.{None, if◌then◌else◌}
 use Rattle.wa_types.specs.declared.values.ValType.{ValType}
 use Rattle.wa_types.specs.declared.values.ValType.TheVariants.{I32, I64}
@@ -9,10 +9,11 @@ use Rattle.wa_types.specs.Syntax.{num, global_get, load, basic, local_get, local
 use Rattle.wa_model.specs.Rewrites.{instructions_and_labels}
 use Rattle.local_spill.specs.Spilling.{stored_value, loaded_value, index_saved, location_of, location_raised}
 use Rattle.frame_laws.specs.Layout.{FrameField, kept, gap, fields_size, kept_count, stores, loads}
-use Rattle.call_frames.specs.CallTests.{at_call, at_either}
+use Rattle.call_frames.specs.CallTests.{CallRow, at_either, at_row, row_size, row_test, row_test_size}
 use Rattle.call_frames.specs.FrameParts.{parts_cost_at, shared_size, scratch_raised, scratch_lowered, parts_stored, parts_loaded, frame_stored_by_call, location_lowered}
-use Rattle.call_frames.specs.PlainFrames.{SavedPart, at_every, at_these, SavedParts, is_one_of, call_fields, or_calls, at_calls, test_size, parts_of, sizes_added, sizes_cost, frames_of}
-use Rattle.call_frames.specs.PlainLaws.{NameCalls, named_calls, PlainFramesCost, sizes_size, parts_size, PlainFramesSize}
+use Rattle.call_frames.specs.PlainFrames.{SavedPart, at_every, at_these, SavedParts, is_one_of, call_fields, onto_rows, rows_of, or_rows}
+use Rattle.call_frames.specs.PlainFrames.{at_rows, at_calls, joined_size, rows_size, test_size, parts_of, sizes_added, sizes_cost, frames_of}
+use Rattle.call_frames.specs.PlainLaws.{tests_cost, PlainFramesCost, NamesCostLittle, sizes_size, parts_size, PlainFramesSize}
 
 -- ---- cost
 
@@ -21,27 +22,70 @@ join_count [] ys = omega arith
 join_count (kept x t ∷ xs) ys = let ih = join_count xs ys in omega arith
 join_count (gap t ∷ xs) ys = join_count xs ys
 
-test_few : (ks : List ℕ) → 1 ≤ length ks → test_size ks + 1 ≤ 4 * length ks
-test_few [] h = omega arith
-test_few (k ∷ ks) h = omega arith
+row_few : (a b : Bool) → row_test_size a b ≤ 5
+row_few true b = omega arith
+row_few false true = omega arith
+row_few false false = omega arith
 
-parts_cost : (index k : ℕ) (ps : List SavedPart) → NameCalls ps
-    → sizes_cost ps + 2 * parts_cost_at k (parts_of index ps) ≤ 27 * named_calls ps + 6 * kept_count (call_fields k ps)
-parts_cost index k [] h = omega arith
-parts_cost index k (at_every fs ∷ ps) h =
-    let ih = parts_cost index k ps h in
+row_least : (a b : Bool) → 3 ≤ row_test_size a b
+row_least true b = omega arith
+row_least false true = omega arith
+row_least false false = omega arith
+
+onto_few : (k : ℕ) (rs : List CallRow) → joined_size (onto_rows k rs) ≤ joined_size rs + 4
+onto_few k [] = omega arith
+onto_few k (r ∷ rs) = by (nat_eq r.first (suc k))
+  where
+    by : (b : Bool) → joined_size (if b then record { first = k; more = suc r.more } ∷ rs else record { first = k; more = 0 } ∷ r ∷ rs) ≤ joined_size (r ∷ rs) + 4
+    by true =
+        let a = row_few (nat_eq (suc r.more) 0) (nat_eq k 0) in
+        let c = row_least (nat_eq r.more 0) (nat_eq r.first 0) in omega (arith, a, c)
+    by false = omega arith
+
+joined_few : (ks : List ℕ) → joined_size (rows_of ks) ≤ 4 * length ks
+joined_few [] = omega arith
+joined_few (k ∷ ks) = let a = onto_few k (rows_of ks) in let ih = joined_few ks in omega (arith, a, ih)
+
+-- without the first `or`
+rows_few : (rs : List CallRow) → 1 ≤ length rs → rows_size rs + 1 ≡ joined_size rs
+rows_few [] h = absurd (omega (arith, h))
+rows_few (r ∷ rs) h = omega arith
+
+onto_some : (k : ℕ) (rs : List CallRow) → 1 ≤ length (onto_rows k rs)
+onto_some k [] = omega arith
+onto_some k (r ∷ rs) = by (nat_eq r.first (suc k))
+  where
+    by : (b : Bool) → 1 ≤ length (if b then record { first = k; more = suc r.more } ∷ rs else record { first = k; more = 0 } ∷ r ∷ rs)
+    by true = omega arith
+    by false = omega arith
+
+pub test_few : (ks : List ℕ) → 1 ≤ length ks → test_size ks + 1 ≤ 4 * length ks
+test_few [] h = absurd (omega (arith, h))
+test_few (k ∷ ks) h =
+    let a = rows_few (rows_of (k ∷ ks)) (onto_some k (rows_of ks)) in
+    let b = joined_few (k ∷ ks) in omega (arith, a, b)
+
+parts_cost : (index k : ℕ) (ps : List SavedPart) → sizes_cost ps + 2 * parts_cost_at k (parts_of index ps) ≤ tests_cost ps + 6 * kept_count (call_fields k ps)
+parts_cost index k [] = omega arith
+parts_cost index k (at_every fs ∷ ps) =
+    let ih = parts_cost index k ps in
     let j = join_count fs (call_fields k ps) in
     omega arith
-parts_cost index k (at_these ks fs ∷ ps) h = by (is_one_of ks k) (parts_cost index k ps h.1)
+parts_cost index k (at_these ks fs ∷ ps) = by (is_one_of ks k) (parts_cost index k ps)
   where
-    by : (b : Bool) → sizes_cost ps + 2 * parts_cost_at k (parts_of index ps) ≤ 27 * named_calls ps + 6 * kept_count (call_fields k ps)
+    by : (b : Bool) → sizes_cost ps + 2 * parts_cost_at k (parts_of index ps) ≤ tests_cost ps + 6 * kept_count (call_fields k ps)
         → test_size ks + 6 + sizes_cost ps + 2 * (test_size ks + (if b then 6 + 3 * kept_count fs else 2) + parts_cost_at k (parts_of index ps))
-        ≤ 27 * (length ks + named_calls ps) + 6 * kept_count ((if b then fs else []) ++ call_fields k ps)
-    by true ih = let t = test_few ks h.0 in let j = join_count fs (call_fields k ps) in omega (arith, h.0)
-    by false ih = let t = test_few ks h.0 in omega (arith, h.0)
+        ≤ 3 * test_size ks + 18 + tests_cost ps + 6 * kept_count ((if b then fs else []) ++ call_fields k ps)
+    by true ih = let j = join_count fs (call_fields k ps) in omega arith
+    by false ih = omega arith
 
 pub cost_law : PlainFramesCost
-cost_law f k h = let c = parts_cost f.index k f.parts h in omega arith
+cost_law f k = let c = parts_cost f.index k f.parts in omega arith
+
+pub names_law : NamesCostLittle
+names_law [] h = omega arith
+names_law (at_every fs ∷ ps) h = names_law ps h
+names_law (at_these ks fs ∷ ps) h = let ih = names_law ps h.1 in let t = test_few ks h.0 in omega (arith, h.0)
 
 -- ---- size
 
@@ -73,18 +117,31 @@ loads_size sp off (kept x t ∷ ps) next =
     omega arith
 loads_size sp off (gap t ∷ ps) next = loads_size sp (off + width t) ps next
 
-or_calls_size : (index : ℕ) (ks : List ℕ) (test : Code → Code) (n : ℕ) → ((c : Code) → instructions_and_labels (test c) ≡ n + instructions_and_labels c) → (next : Code)
-    → instructions_and_labels (or_calls index test ks next) ≡ n + 4 * length ks + instructions_and_labels next
+row_code_size : (a b : Bool) (index k n : ℕ) (next : Code) → instructions_and_labels (row_test a b index k n next) ≡ row_test_size a b + instructions_and_labels next
 unfolding instructions_and_labels
-or_calls_size index [] test n h next = let e = h next in omega arith
-or_calls_size index (k ∷ ks) test n h next =
-    let ih = or_calls_size index ks (at_either test (at_call index k)) (n + 4) (λ c. let e = h (at_call index k (plain (basic (num I32Or)) c)) in omega arith) next in
-    omega arith
+row_code_size true b index k n next = omega arith
+row_code_size false true index k n next = omega arith
+row_code_size false false index k n next = omega arith
+
+at_row_size : (index : ℕ) (r : CallRow) (next : Code) → instructions_and_labels (at_row index r next) ≡ row_size r + instructions_and_labels next
+at_row_size index r next = row_code_size (nat_eq r.more 0) (nat_eq r.first 0) index r.first r.more next
+
+or_rows_size : (index : ℕ) (rs : List CallRow) (test : Code → Code) (n : ℕ) → ((c : Code) → instructions_and_labels (test c) ≡ n + instructions_and_labels c) → (next : Code)
+    → instructions_and_labels (or_rows index test rs next) ≡ n + joined_size rs + instructions_and_labels next
+unfolding instructions_and_labels
+or_rows_size index [] test n h next = let e = h next in omega arith
+or_rows_size index (r ∷ rs) test n h next =
+    let ih = or_rows_size index rs (at_either test (at_row index r)) (n + row_size r + 1)
+    (λ c. let e = h (at_row index r (plain (basic (num I32Or)) c)) in let w = at_row_size index r (plain (basic (num I32Or)) c) in omega (arith, e, w)) next in
+    omega (arith, ih)
+
+at_rows_size : (index : ℕ) (rs : List CallRow) (next : Code) → instructions_and_labels (at_rows index rs next) ≡ rows_size rs + instructions_and_labels next
+unfolding instructions_and_labels
+at_rows_size index [] next = omega arith
+at_rows_size index (r ∷ rs) next = or_rows_size index rs (at_row index r) (row_size r) (λ c. at_row_size index r c) next
 
 at_calls_size : (index : ℕ) (ks : List ℕ) (next : Code) → instructions_and_labels (at_calls index ks next) ≡ test_size ks + instructions_and_labels next
-unfolding instructions_and_labels
-at_calls_size index [] next = omega arith
-at_calls_size index (k ∷ ks) next = or_calls_size index ks (at_call index k) 3 (λ c. omega arith) next
+at_calls_size index ks next = at_rows_size index (rows_of ks) next
 
 added_size : (index sp : ℕ) (ps : List SavedPart) (next : Code) → instructions_and_labels (sizes_added index sp ps next) ≡ sizes_size ps + instructions_and_labels next
 unfolding instructions_and_labels

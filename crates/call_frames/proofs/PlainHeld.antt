@@ -1,9 +1,9 @@
 -- What each instruction of the codes has, the codes have: one induction for all properties of their code.
-use Rattle.std.proofs.Common.{◌≡◌, ◌≢◌, ℕ, ◌+◌, ◌^◌, ◌<◌, ◌≤◌, List, [], ◌∷◌, ◌++◌, None, refl, ap, ◌∙◌, arith}
+use Rattle.std.proofs.Common.{◌≡◌, ◌≢◌, ℕ, Bool, true, false, nat_eq, ◌+◌, ◌^◌, ◌<◌, ◌≤◌, List, [], ◌∷◌, ◌++◌, None, refl, ap, ◌∙◌, arith}
 use Rattle.std.specs.Prelude.{if◌then◌else◌}
 use Rattle.std.proofs.lemmas.Bool.{ne_eqb}
 use Rattle.wa_types.specs.declared.operators.NumOp.{NumOp}
-use Rattle.wa_types.specs.declared.operators.NumOp.TheVariants.{I32Add, I32Sub, I32LtU, I32Eq, I32Or}
+use Rattle.wa_types.specs.declared.operators.NumOp.TheVariants.{I32Add, I32Sub, I32LeU, I32LtU, I32Eq, I32Or}
 use Rattle.wa_types.specs.declared.values.ValType.{ValType}
 use Rattle.wa_types.specs.declared.values.ValType.TheVariants.{I32, I64}
 use Rattle.wa_types.specs.declared.values.Value.TheVariants as V
@@ -15,11 +15,12 @@ use Rattle.wa_types.specs.Syntax.{const, num, global_get, basic, local_get, loca
 use Rattle.frame_laws.specs.Bounds.{plain_reads, reads}
 use Rattle.local_spill.specs.Spilling.{stored_value, loaded_value, location_of}
 use Rattle.frame_laws.specs.Layout.{FrameField, kept, gap, fields_size, stores, loads}
-use Rattle.call_frames.specs.CallTests.{at_call, at_either}
+use Rattle.call_frames.specs.CallTests.{CallRow, at_call, at_either, at_most, at_row, row_test}
 use Rattle.call_frames.specs.FrameParts.{shared_size, scratch_raised, scratch_lowered, parts_stored, parts_loaded, frame_stored_by_call, frame_loaded_by_call, location_lowered, saving_by_call, restoring_by_call}
-use Rattle.call_frames.specs.PlainFrames.{SavedPart, at_every, at_these, SavedParts, or_calls, at_calls, parts_of, sizes_added, frames_of}
+use Rattle.call_frames.specs.PlainFrames.{SavedPart, at_every, at_these, SavedParts, rows_of, or_rows, at_rows, at_calls, parts_of, sizes_added, frames_of}
 use Rattle.call_frames.specs.PlainLaws.{FieldsSmall, NumbersSmall, PartsSmall, PlainSmall, PlainFramesDepth, PlainFramesHold}
 use Rattle.call_frames.proofs.PlainBounds.{behind_sizes, behind_parts}
+use Rattle.call_frames.proofs.PlainTold.{RowsSmall, rows_small}
 
 -- A property of code that stays where one of these instructions is put in front.
 pub record Stays (address : ℕ) (P : Code → Type 0) : Type 0 where
@@ -42,15 +43,29 @@ module _ (f : SavedParts) (small : PlainSmall f) where
     call_has k c lt h =
         stays.got f.index (plain (basic (const (V.I32 k))) (plain (basic (num I32Eq)) c)) small.index (stays.number k (plain (basic (num I32Eq)) c) lt (stays.operator I32Eq c h))
 
-    or_has : (ks : List ℕ) (test : Code → Code) → ((c : Code) → P c → P (test c)) → NumbersSmall ks → (c : Code) → P c → P (or_calls f.index test ks c)
+    row_has : (a b : Bool) (k n : ℕ) (c : Code) → k < 2 ^ 32 → n < 2 ^ 32 → P c → P (row_test a b f.index k n c)
+    row_has true b k n c lk ln h = call_has k c lk h
+    row_has false true k n c lk ln h = stays.got f.index (at_most n c) small.index (stays.number n (plain (basic (num I32LeU)) c) ln (stays.operator I32LeU c h))
+    row_has false false k n c lk ln h =
+        stays.got f.index (plain (basic (const (V.I32 k))) (plain (basic (num I32Sub)) (at_most n c))) small.index
+        (stays.number k (plain (basic (num I32Sub)) (at_most n c)) lk
+        (stays.operator I32Sub (at_most n c) (stays.number n (plain (basic (num I32LeU)) c) ln (stays.operator I32LeU c h))))
+
+    at_row_has : (r : CallRow) (c : Code) → r.first + r.more < 2 ^ 32 → P c → P (at_row f.index r c)
+    at_row_has r c lt h = row_has (nat_eq r.more 0) (nat_eq r.first 0) r.first r.more c (omega (arith, lt)) (omega (arith, lt)) h
+
+    or_has : (rs : List CallRow) (test : Code → Code) → ((c : Code) → P c → P (test c)) → RowsSmall rs → (c : Code) → P c → P (or_rows f.index test rs c)
     or_has [] test t lt c h = t c h
-    or_has (k ∷ ks) test t lt c h =
-        or_has ks (at_either test (at_call f.index k))
-        (λ rest r. t (at_call f.index k (plain (basic (num I32Or)) rest)) (call_has k (plain (basic (num I32Or)) rest) lt.0 (stays.operator I32Or rest r))) lt.1 c h
+    or_has (r ∷ rs) test t lt c h =
+        or_has rs (at_either test (at_row f.index r))
+        (λ rest q. t (at_row f.index r (plain (basic (num I32Or)) rest)) (at_row_has r (plain (basic (num I32Or)) rest) lt.0 (stays.operator I32Or rest q))) lt.1 c h
+
+    rows_have : (rs : List CallRow) (c : Code) → RowsSmall rs → P c → P (at_rows f.index rs c)
+    rows_have [] c lt h = stays.number 0 c (omega arith) h
+    rows_have (r ∷ rs) c lt h = or_has rs (at_row f.index r) (λ rest q. at_row_has r rest lt.0 q) lt.1 c h
 
     test_has : (ks : List ℕ) (c : Code) → NumbersSmall ks → P c → P (at_calls f.index ks c)
-    test_has [] c lt h = stays.number 0 c (omega arith) h
-    test_has (k ∷ ks) c lt h = or_has ks (at_call f.index k) (λ rest r. call_has k rest lt.0 r) lt.1 c h
+    test_has ks c lt h = rows_have (rows_of ks) c (rows_small ks lt) h
 
     stores_have : (off : ℕ) (fs : List FrameField) (c : Code) → FieldsSmall fs → off + fields_size fs < 2 ^ 32 → P c → P (stores f.scratch off fs c)
     stores_have off [] c lt room h = h

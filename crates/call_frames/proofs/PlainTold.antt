@@ -1,6 +1,7 @@
 -- Frames that are plain data: their tests tell, and so does the code of their sizes.
-use Rattle.std.proofs.Common.{◌≡◌, ◌≢◌, ℕ, ◌+◌, ◌*◌, ◌^◌, ◌<◌, ◌≤◌, List, [], ◌∷◌, ◌++◌, length, Bool, true, false, None, nat_eq, refl, ap, ◌∙◌, subst, arith, get_or-set_other, get_or-set_same, set-set}
-use Rattle.std.specs.Prelude.{◌||◌, if◌then◌else◌, slice_set}
+use Rattle.std.proofs.Common.{◌≡◌, ◌≢◌, ℕ, suc, ◌&&◌, sym, eqb-true, ◌+◌, ◌*◌, ◌^◌, ◌<◌, ◌≤◌, List, [], ◌∷◌}
+use Rattle.std.proofs.Common.{◌++◌, length, Bool, true, false, None, nat_eq, refl, ap, ◌∙◌, subst, arith, get_or-set_other, get_or-set_same, set-set}
+use Rattle.std.specs.Prelude.{◌||◌, nat_le, if◌then◌else◌, slice_set}
 use Rattle.wa_types.specs.declared.values.Value.{Value}
 use Rattle.wa_types.specs.declared.values.Value.TheVariants as V
 use Rattle.wa_types.specs.Syntax.{Code, done, branch, Module}
@@ -15,13 +16,14 @@ use Rattle.frame_laws.specs.Function.{KeptWithin}
 use Rattle.frame_laws.specs.Layout.{fields_size, frame_size}
 use Rattle.frame_laws.proofs.OneFunction.{within_of, within_on}
 use Rattle.call_frames.specs.ByCall.{PartsTell, TestTells}
-use Rattle.call_frames.specs.CallTests.{at_call, at_either}
+use Rattle.call_frames.specs.CallTests.{CallRow, at_either, at_row, in_row, row_size}
 use Rattle.call_frames.specs.FrameParts.{own_size, shared_size, layout_at, scratch_raised}
-use Rattle.call_frames.specs.PlainFrames.{SavedPart, at_every, at_these, SavedParts, is_one_of, or_calls, at_calls, test_size, parts_of, sizes_added, sizes_cost, sizes_summed, frames_of}
-use Rattle.call_frames.specs.PlainLaws.{PlainFramesTell, PlainFieldsAt}
+use Rattle.call_frames.specs.PlainFrames.{SavedPart, at_every, at_these, SavedParts, is_one_of, onto_rows, rows_of, or_rows, at_rows}
+use Rattle.call_frames.specs.PlainFrames.{at_calls, joined_size, rows_size, test_size, parts_of, sizes_added, sizes_cost, sizes_summed, frames_of}
+use Rattle.call_frames.specs.PlainLaws.{CallsSmall, NumbersSmall, PartsSmall, PlainFramesTell, PlainFieldsAt}
 use Rattle.call_frames.proofs.FieldRows.{sizes_at}
 use Rattle.call_frames.proofs.SavedParts.{raises}
-use Rattle.call_frames.proofs.TestsTold.{calls_law, either_law}
+use Rattle.call_frames.proofs.TestsTold.{either_law, longer_row, row_law, single_row}
 
 or_false : (b : Bool) → b ≡ (b || false)
 or_false true = refl
@@ -30,6 +32,46 @@ or_false false = refl
 or_past : (a b c : Bool) → ((a || b) || c) ≡ (a || (b || c))
 or_past true b c = refl
 or_past false b c = refl
+
+-- ---- rows of calls
+
+-- a call is in one of these rows
+abbrev pub in_rows : List CallRow → ℕ → Bool
+in_rows [] j = false
+in_rows (r ∷ rs) j = in_row r j || in_rows rs j
+
+abbrev pub RowsSmall : List CallRow → Type 0
+RowsSmall [] = Unit {0}
+RowsSmall (r ∷ rs) = (r.first + r.more < 2 ^ 32) × RowsSmall rs
+
+onto_in : (k : ℕ) (rs : List CallRow) (j : ℕ) → in_rows (onto_rows k rs) j ≡ (nat_eq j k || in_rows rs j)
+onto_in k [] j = ap (λ b. b || false) (single_row k j)
+onto_in k (r ∷ rs) j = by (nat_eq r.first (suc k)) refl
+  where
+    by : (b : Bool) → nat_eq r.first (suc k) ≡ b
+        → in_rows (if b then record { first = k; more = suc r.more } ∷ rs else record { first = k; more = 0 } ∷ r ∷ rs) j ≡ (nat_eq j k || (in_row r j || in_rows rs j))
+    by true e =
+        let first = eqb-true r.first (suc k) e in
+        ap (λ b. b || in_rows rs j) (longer_row k r.more j ∙ ap (λ n. nat_eq j k || (nat_le n j && nat_le j (n + r.more))) (sym first)) ∙ or_past (nat_eq j k) (in_row r j) (in_rows rs j)
+    by false e = ap (λ b. b || (in_row r j || in_rows rs j)) (single_row k j)
+
+named_in_rows : (ks : List ℕ) (j : ℕ) → in_rows (rows_of ks) j ≡ is_one_of ks j
+named_in_rows [] j = refl
+named_in_rows (k ∷ ks) j = onto_in k (rows_of ks) j ∙ ap (λ b. nat_eq j k || b) (named_in_rows ks j)
+
+onto_small : (k : ℕ) (rs : List CallRow) → k < 2 ^ 32 → RowsSmall rs → RowsSmall (onto_rows k rs)
+onto_small k [] lt small = (omega (arith, lt), tt)
+onto_small k (r ∷ rs) lt small = by (nat_eq r.first (suc k)) refl
+  where
+    by : (b : Bool) → nat_eq r.first (suc k) ≡ b → RowsSmall (if b then record { first = k; more = suc r.more } ∷ rs else record { first = k; more = 0 } ∷ r ∷ rs)
+    by true e = let first = eqb-true r.first (suc k) e in let room = small.0 in (omega (arith, first, room), small.1)
+    by false e = (omega (arith, lt), small)
+
+pub rows_small : (ks : List ℕ) → NumbersSmall ks → RowsSmall (rows_of ks)
+rows_small [] h = tt
+rows_small (k ∷ ks) h = onto_small k (rows_of ks) h.0 (rows_small ks h.1)
+
+-- ---- tests
 
 module _ (count index : ℕ) where
   -- one and the same test, told otherwise
@@ -42,23 +84,34 @@ module _ (count index : ℕ) where
       record { cost = w.cost; within = omega arith; goes = w.goes } in
       subst (λ b. KeptWithin g area p (running s fn under ls ops (test next) labels) cost2 (running s fn under ls (V.I32 (of_bool b) ∷ ops) next labels)) (same k) wider
 
-  or_told : (ks : List ℕ) (calls : ℕ → Bool) (test : Code → Code) (cost : ℕ) → TestTells count index calls test cost
-      → TestTells count index (λ j. calls j || is_one_of ks j) (λ next. or_calls index test ks next) (cost + 4 * length ks)
-  or_told [] calls test cost t = same_told calls (λ j. calls j || false) test cost (cost + 4 * 0) (λ j. or_false (calls j)) (omega arith) t
-  or_told (k ∷ ks) calls test cost t =
-      let both = either_law count index calls (λ j. nat_eq j k) test (at_call index k) cost 3 t (calls_law count index k) in
-      let rest = or_told ks (λ j. calls j || nat_eq j k) (at_either test (at_call index k)) (cost + 3 + 1) both in
-      same_told (λ j. (calls j || nat_eq j k) || is_one_of ks j) (λ j. calls j || (nat_eq j k || is_one_of ks j)) (λ next. or_calls index (at_either test (at_call index k)) ks next)
-      (cost + 3 + 1 + 4 * length ks) (cost + 4 * length (k ∷ ks)) (λ j. or_past (calls j) (nat_eq j k) (is_one_of ks j)) (omega arith) rest
+  or_told : (rs : List CallRow) (calls : ℕ → Bool) (test : Code → Code) (cost : ℕ) → count ≤ 2 ^ 32 → RowsSmall rs → TestTells count index calls test cost
+      → TestTells count index (λ j. calls j || in_rows rs j) (λ next. or_rows index test rs next) (cost + joined_size rs)
+  or_told [] calls test cost few small t = same_told calls (λ j. calls j || false) test cost (cost + 0) (λ j. or_false (calls j)) (omega arith) t
+  or_told (r ∷ rs) calls test cost few small t =
+      let w = row_size r in
+      let both = either_law count index calls (in_row r) test (at_row index r) cost w t (row_law count index r few small.0) in
+      let rest = or_told rs (λ j. calls j || in_row r j) (at_either test (at_row index r)) (cost + w + 1) few small.1 both in
+      same_told (λ j. (calls j || in_row r j) || in_rows rs j) (λ j. calls j || (in_row r j || in_rows rs j)) (λ next. or_rows index (at_either test (at_row index r)) rs next)
+      (cost + w + 1 + joined_size rs) (cost + (w + 1 + joined_size rs)) (λ j. or_past (calls j) (in_row r j) (in_rows rs j)) (omega arith) rest
 
-  pub calls_told : (ks : List ℕ) → TestTells count index (is_one_of ks) (at_calls index ks) (test_size ks)
-  calls_told [] = λ g area p fn under labels s ls ops k next few e. within_of g area p _ _ 1 (walks (keeps g area) p 1 _ _ refl)
-  calls_told (k ∷ ks) = or_told ks (λ j. nat_eq j k) (at_call index k) 3 (calls_law count index k)
+  rows_told : (rs : List CallRow) → count ≤ 2 ^ 32 → RowsSmall rs → TestTells count index (in_rows rs) (λ next. at_rows index rs next) (rows_size rs)
+  rows_told [] few small = λ g area p fn under labels s ls ops k next lt e. within_of g area p _ _ 1 (walks (keeps g area) p 1 _ _ refl)
+  rows_told (r ∷ rs) few small = or_told rs (in_row r) (at_row index r) (row_size r) few small.1 (row_law count index r few small.0)
 
-  parts_told : (ps : List SavedPart) → PartsTell count index (parts_of index ps)
-  parts_told [] = tt
-  parts_told (at_every fs ∷ ps) = parts_told ps
-  parts_told (at_these ks fs ∷ ps) = (calls_told ks, parts_told ps)
+  pub calls_told : (ks : List ℕ) → count ≤ 2 ^ 32 → NumbersSmall ks → TestTells count index (is_one_of ks) (λ next. at_calls index ks next) (test_size ks)
+  calls_told ks few small =
+      same_told (in_rows (rows_of ks)) (is_one_of ks) (λ next. at_rows index (rows_of ks) next) (test_size ks) (test_size ks) (named_in_rows ks) (omega arith)
+      (rows_told (rows_of ks) few (rows_small ks small))
+
+  parts_told : (ps : List SavedPart) → count ≤ 2 ^ 32 → CallsSmall ps → PartsTell count index (parts_of index ps)
+  parts_told [] few small = tt
+  parts_told (at_every fs ∷ ps) few small = parts_told ps few small
+  parts_told (at_these ks fs ∷ ps) few small = (calls_told ks few small.0, parts_told ps few small.1)
+
+pub calls_small : (n : ℕ) (ps : List SavedPart) → PartsSmall n ps → CallsSmall ps
+calls_small n [] h = tt
+calls_small n (at_every fs ∷ ps) h = calls_small n ps h.1
+calls_small n (at_these ks fs ∷ ps) h = (h.0, calls_small n ps h.3)
 
 pub fields_law : PlainFieldsAt
 fields_law index k [] = refl
@@ -68,7 +121,7 @@ fields_law index k (at_these js fs ∷ ps) = ap (λ rest. (if is_one_of js k the
 -- ---- sizes
 
 module _ (f : SavedParts) (apart : f.index ≢ f.scratch) (g : ℕ) (area : Area) (p : Module) (fn : ℕ) (under : List Activation) (labels : List Label) (s : Store) (ls : List Value) (k : ℕ)
-    (few : k < f.count) (ix : value_at ls f.index ≡ V.I32 k) (there : f.scratch < length ls) where
+    (few : k < f.count) (many : f.count ≤ 2 ^ 32) (ix : value_at ls f.index ≡ V.I32 k) (there : f.scratch < length ls) where
   abbrev with_size : ℕ → List Value
   with_size n = slice_set ls f.scratch (V.I32 n)
 
@@ -78,13 +131,13 @@ module _ (f : SavedParts) (apart : f.index ≢ f.scratch) (g : ℕ) (area : Area
   abbrev own : List SavedPart → ℕ
   own ps = own_size k (parts_of f.index ps)
 
-  added : (t : ℕ) (ps : List SavedPart) (next : Code) → t + own ps < 2 ^ 32
+  added : (t : ℕ) (ps : List SavedPart) (next : Code) → CallsSmall ps → t + own ps < 2 ^ 32
       → KeptWithin g area p (at_size t (sizes_added f.index f.scratch ps next)) (sizes_cost ps) (at_size (t + own ps) next)
-  added t [] next small =
+  added t [] next named small =
       let z : t ≡ t + 0 = omega arith in
       subst (λ n. KeptWithin g area p (at_size t next) 0 (at_size n next)) z (within_of g area p _ _ 0 (none (keeps g area) p (at_size t next)))
-  added t (at_every fs ∷ ps) next small = added t ps next small
-  added t (at_these ks fs ∷ ps) next small = by (is_one_of ks k) refl small (λ n h. added n ps next h)
+  added t (at_every fs ∷ ps) next named small = added t ps next named small
+  added t (at_these ks fs ∷ ps) next named small = by (is_one_of ks k) refl small (λ n h. added n ps next named.1 h)
     where
       code : Code
       code = sizes_added f.index f.scratch ps next
@@ -100,7 +153,7 @@ module _ (f : SavedParts) (apart : f.index ≢ f.scratch) (g : ℕ) (area : Area
 
       tested : (b : Bool) → is_one_of ks k ≡ b → KeptWithin g area p (at_size t (sizes_added f.index f.scratch (at_these ks fs ∷ ps) next)) (test_size ks) (after_test b)
       tested b e = subst (λ x. KeptWithin g area p (at_size t (sizes_added f.index f.scratch (at_these ks fs ∷ ps) next)) (test_size ks) (after_test x)) e
-          (calls_told f.count f.index ks g area p fn under labels s (with_size t) [] k (branch None arm done code) few here)
+          (calls_told f.count f.index ks many named.0 g area p fn under labels s (with_size t) [] k (branch None arm done code) few here)
 
       by : (b : Bool) → is_one_of ks k ≡ b → t + ((if b then fields_size fs else 0) + own ps) < 2 ^ 32
           → ((n : ℕ) → n + own ps < 2 ^ 32 → KeptWithin g area p (at_size n code) (sizes_cost ps) (at_size (n + own ps) next))
@@ -126,21 +179,21 @@ module _ (f : SavedParts) (apart : f.index ≢ f.scratch) (g : ℕ) (area : Area
           let rest = subst (λ n. KeptWithin g area p (at_size (t + w) code) (sizes_cost ps) (at_size n next)) z (go (t + w) (omega (arith, h))) in
           within_on g area p _ _ _ (test_size ks + 6) (sizes_cost ps) _ a rest (omega arith)
 
-  summed : (next : Code) → frame_size (layout_at (frames_of f) k) < 2 ^ 32
+  summed : (next : Code) → CallsSmall f.parts → frame_size (layout_at (frames_of f) k) < 2 ^ 32
       → KeptWithin g area p (running s fn under ls [] (sizes_summed f next) labels) (2 + sizes_cost f.parts) (at_size (frame_size (layout_at (frames_of f) k)) next)
-  summed next small =
+  summed next named small =
       let shared = shared_size (parts_of f.index f.parts) in
       let sum = sizes_at k (parts_of f.index f.parts) in
       let begin : Comes (keeps g area) p (running s fn under ls [] (sizes_summed f next) labels) 2 (at_size (shared + 4) (sizes_added f.index f.scratch f.parts next)) =
       walks (keeps g area) p 2 _ _ refl in
       let z : shared + 4 + own f.parts ≡ frame_size (layout_at (frames_of f) k) = omega arith in
       let rest = subst (λ n. KeptWithin g area p (at_size (shared + 4) (sizes_added f.index f.scratch f.parts next)) (sizes_cost f.parts) (at_size n next)) z
-      (added (shared + 4) f.parts next (omega arith)) in
+      (added (shared + 4) f.parts next named (omega arith)) in
       within_on g area p _ _ _ 2 (sizes_cost f.parts) _ (within_of g area p _ _ 2 begin) rest (omega arith)
 
 pub tell_law : PlainFramesTell
-tell_law f apart small = record {
-  sizing = λ g area p fn under labels s ls k next few ix there. summed f apart g area p fn under labels s ls k few ix there next (small k few);
-  parts = parts_told f.count f.index f.parts;
+tell_law f apart many named small = record {
+  sizing = λ g area p fn under labels s ls k next few ix there. summed f apart g area p fn under labels s ls k few many ix there next named (small k few);
+  parts = parts_told f.count f.index f.parts many named;
   apart = apart;
 }

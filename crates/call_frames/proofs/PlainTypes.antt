@@ -1,10 +1,10 @@
 -- Codes of frames that are plain data have their types.
-use Rattle.std.proofs.Common.{◌≡◌, ℕ, ◌+◌, List, [], ◌∷◌, Option, Some, None, true, refl, sym, subst}
+use Rattle.std.proofs.Common.{◌≡◌, ℕ, ◌+◌, List, [], ◌∷◌, Option, Some, None, Bool, true, false, nat_eq, refl, sym, subst}
 use Rattle.std.specs.Prelude.{slice_get}
 use Rattle.wa_types.specs.declared.values.ValType.{ValType}
 use Rattle.wa_types.specs.declared.values.ValType.TheVariants.{I32, I64}
 use Rattle.wa_types.specs.declared.values.Value.TheVariants as V
-use Rattle.wa_types.specs.declared.operators.NumOp.TheVariants.{I32Add, I32Sub, I32LtU, I32Eq, I32Or}
+use Rattle.wa_types.specs.declared.operators.NumOp.TheVariants.{I32Add, I32Sub, I32LeU, I32LtU, I32Eq, I32Or}
 use Rattle.wa_types.specs.Accesses.{load_row, store_row}
 use Rattle.wa_types.specs.Syntax.{const, num, global_get, basic, local_get, local_set, local_tee, unreachable, Code, done, plain, branch}
 use Rattle.wa_types.specs.Frames.{width}
@@ -12,9 +12,9 @@ use Rattle.wa_types.specs.Typing.{Around, gets, sets, tees, gets_global, loads a
 use Rattle.local_spill.specs.Spilling.{stored_value, loaded_value, location_of}
 use Rattle.frame_laws.specs.Layout.{FrameField, kept, gap, fields_size, stores, loads}
 use Rattle.frame_laws.specs.Typed.{FieldsTyped}
-use Rattle.call_frames.specs.CallTests.{at_call, at_either}
+use Rattle.call_frames.specs.CallTests.{CallRow, at_call, at_either, at_most, at_row, row_test}
 use Rattle.call_frames.specs.FrameParts.{shared_size, scratch_raised, scratch_lowered, parts_stored, parts_loaded, frame_stored_by_call, frame_loaded_by_call, location_lowered}
-use Rattle.call_frames.specs.PlainFrames.{SavedPart, at_every, at_these, SavedParts, or_calls, at_calls, parts_of, sizes_added, frames_of}
+use Rattle.call_frames.specs.PlainFrames.{SavedPart, at_every, at_these, SavedParts, rows_of, or_rows, at_rows, at_calls, parts_of, sizes_added, frames_of}
 use Rattle.call_frames.specs.PlainLaws.{PartsTyped, PlainTyped, PlainSaveTyped, PlainRestoreTyped}
 use Rattle.call_frames.proofs.PlainBounds.{behind_sizes, behind_parts}
 
@@ -74,6 +74,10 @@ module _ (c : Around) where
   unfolding Types
   comparing ls outs next ins h = (I32 ∷ ins, (ins, refl, refl), h)
 
+  ordering : (ls : List (Option ValType)) (outs : List ValType) (next : Code) (ins : List ValType) → T ls next outs (I32 ∷ ins) → T ls (plain (basic (num I32LeU)) next) outs (I32 ∷ I32 ∷ ins)
+  unfolding Types
+  ordering ls outs next ins h = (I32 ∷ ins, (ins, refl, refl), h)
+
   stopping : (ls : List (Option ValType)) (outs : List ValType) (next : Code) (ins : List ValType) → T ls next outs ins
       → T ls (plain (basic (num I32LtU)) (branch None (plain unreachable done) done next)) outs (I32 ∷ I32 ∷ ins)
   unfolding Types
@@ -96,18 +100,34 @@ module _ (c : Around) where
         getting ls outs f.index I32 (plain (basic (const (V.I32 k))) (plain (basic (num I32Eq)) next)) ins t.index
         (constant ls outs k (plain (basic (num I32Eq)) next) (I32 ∷ ins) (comparing ls outs next ins h))
 
-    or_typed : (ls : List (Option ValType)) (outs : List ValType) (ks : List ℕ) (test : Code → Code)
+    row_typed : (a b : Bool) (ls : List (Option ValType)) (outs : List ValType) (k n : ℕ) (next : Code) (ins : List ValType) → T ls next outs (I32 ∷ ins)
+        → T ls (row_test a b f.index k n next) outs ins
+    row_typed true b ls outs k n next ins h = comparing_call ls outs k next ins h
+    row_typed false true ls outs k n next ins h =
+        getting ls outs f.index I32 (at_most n next) ins t.index (constant ls outs n (plain (basic (num I32LeU)) next) (I32 ∷ ins) (ordering ls outs next ins h))
+    row_typed false false ls outs k n next ins h =
+        getting ls outs f.index I32 (plain (basic (const (V.I32 k))) (plain (basic (num I32Sub)) (at_most n next))) ins t.index
+        (constant ls outs k (plain (basic (num I32Sub)) (at_most n next)) (I32 ∷ ins)
+        (subtracting ls outs (at_most n next) ins (constant ls outs n (plain (basic (num I32LeU)) next) (I32 ∷ ins) (ordering ls outs next ins h))))
+
+    at_row_typed : (ls : List (Option ValType)) (outs : List ValType) (r : CallRow) (next : Code) (ins : List ValType) → T ls next outs (I32 ∷ ins) → T ls (at_row f.index r next) outs ins
+    at_row_typed ls outs r next ins h = row_typed (nat_eq r.more 0) (nat_eq r.first 0) ls outs r.first r.more next ins h
+
+    or_typed : (ls : List (Option ValType)) (outs : List ValType) (rs : List CallRow) (test : Code → Code)
         → ((next : Code) (ins : List ValType) → T ls next outs (I32 ∷ ins) → T ls (test next) outs ins)
-        → (next : Code) (ins : List ValType) → T ls next outs (I32 ∷ ins) → T ls (or_calls f.index test ks next) outs ins
+        → (next : Code) (ins : List ValType) → T ls next outs (I32 ∷ ins) → T ls (or_rows f.index test rs next) outs ins
     or_typed ls outs [] test h next ins n = h next ins n
-    or_typed ls outs (k ∷ ks) test h next ins n =
-        or_typed ls outs ks (at_either test (at_call f.index k))
-        (λ rest ins2 r. h (at_call f.index k (plain (basic (num I32Or)) rest)) ins2
-        (comparing_call ls outs k (plain (basic (num I32Or)) rest) (I32 ∷ ins2) (joining ls outs rest ins2 r))) next ins n
+    or_typed ls outs (r ∷ rs) test h next ins n =
+        or_typed ls outs rs (at_either test (at_row f.index r))
+        (λ rest ins2 q. h (at_row f.index r (plain (basic (num I32Or)) rest)) ins2
+        (at_row_typed ls outs r (plain (basic (num I32Or)) rest) (I32 ∷ ins2) (joining ls outs rest ins2 q))) next ins n
+
+    rows_typed : (ls : List (Option ValType)) (outs : List ValType) (rs : List CallRow) (next : Code) → T ls next outs (I32 ∷ []) → T ls (at_rows f.index rs next) outs []
+    rows_typed ls outs [] next n = constant ls outs 0 next [] n
+    rows_typed ls outs (r ∷ rs) next n = or_typed ls outs rs (at_row f.index r) (λ rest ins q. at_row_typed ls outs r rest ins q) next [] n
 
     test_typed : (ls : List (Option ValType)) (outs : List ValType) (ks : List ℕ) (next : Code) → T ls next outs (I32 ∷ []) → T ls (at_calls f.index ks next) outs []
-    test_typed ls outs [] next n = constant ls outs 0 next [] n
-    test_typed ls outs (k ∷ ks) next n = or_typed ls outs ks (at_call f.index k) (λ rest ins r. comparing_call ls outs k rest ins r) next [] n
+    test_typed ls outs ks next n = rows_typed ls outs (rows_of ks) next n
 
     -- ---- fields
 

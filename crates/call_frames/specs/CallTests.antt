@@ -1,6 +1,6 @@
 -- Tests of the call index, and code that tells the size of a call's frame by them.
-use Rattle.std.specs.Prelude.{◌≡◌, ◌≢◌, ℕ, ◌+◌, ◌<◌, List, [], ◌∷◌, length, None, Bool, ◌||◌, not, nat_eq, if◌then◌else◌, slice_set}
-use Rattle.wa_types.specs.declared.operators.NumOp.TheVariants.{I32Eq, I32Eqz, I32Or}
+use Rattle.std.specs.Prelude.{◌≡◌, ◌≢◌, ℕ, ◌+◌, ◌^◌, ◌≤◌, ◌<◌, List, [], ◌∷◌, length, None, Bool, true, false, ◌&&◌, ◌||◌, not, nat_eq, nat_le, if◌then◌else◌, slice_set}
+use Rattle.wa_types.specs.declared.operators.NumOp.TheVariants.{I32Eq, I32Eqz, I32LeU, I32Or, I32Sub}
 use Rattle.wa_types.specs.declared.values.Value.{Value}
 use Rattle.wa_types.specs.declared.values.Value.TheVariants as V
 use Rattle.wa_types.specs.Syntax.{const, num, basic, local_get, local_set, Code, done, plain, branch, Module}
@@ -13,6 +13,36 @@ use Rattle.call_frames.specs.ByCall.{TestTells}
 -- one call
 abbrev pub at_call : (index k : ℕ) → Code → Code
 at_call index k next = plain (local_get index) (plain (basic (const (V.I32 k))) (plain (basic (num I32Eq)) next))
+
+-- Calls in a row: the first, and how many come behind it.
+pub record CallRow : Type 0 where
+  pub first : ℕ
+  pub more : ℕ
+
+abbrev pub in_row : CallRow → ℕ → Bool
+in_row r k = nat_le r.first k && nat_le k (r.first + r.more)
+
+-- a number of at most n
+abbrev pub at_most : (n : ℕ) → Code → Code
+at_most n next = plain (basic (const (V.I32 n))) (plain (basic (num I32LeU)) next)
+
+-- one call is compared; of more, all numbers are taken from the first one on, unless that is 0
+abbrev pub row_test : (one from_0 : Bool) → (index first more : ℕ) → Code → Code
+row_test true z index k n next = at_call index k next
+row_test false true index k n next = plain (local_get index) (at_most n next)
+row_test false false index k n next = plain (local_get index) (plain (basic (const (V.I32 k))) (plain (basic (num I32Sub)) (at_most n next)))
+
+abbrev pub at_row : (index : ℕ) → CallRow → Code → Code
+at_row index r next = row_test (nat_eq r.more 0) (nat_eq r.first 0) index r.first r.more next
+
+abbrev pub row_test_size : (one from_0 : Bool) → ℕ
+row_test_size true z = 3
+row_test_size false true = 3
+row_test_size false false = 5
+
+-- how many instructions that has, which is what it costs
+abbrev pub row_size : CallRow → ℕ
+row_size r = row_test_size (nat_eq r.more 0) (nat_eq r.first 0)
 
 -- a call of either kind
 abbrev pub at_either : (test test2 : Code → Code) → Code → Code
@@ -52,6 +82,9 @@ classes_cost (c ∷ cs) = c.cost + 4 + classes_cost cs
 
 abbrev pub CallsTell : Type 0
 CallsTell = (count index k : ℕ) → TestTells count index (λ j. nat_eq j k) (at_call index k) 3
+
+abbrev pub RowsTell : Type 0
+RowsTell = (count index : ℕ) (r : CallRow) → count ≤ 2 ^ 32 → r.first + r.more < 2 ^ 32 → TestTells count index (in_row r) (at_row index r) (row_size r)
 
 abbrev pub EitherTells : Type 0
 EitherTells =

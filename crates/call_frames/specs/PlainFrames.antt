@@ -1,10 +1,10 @@
 -- Frames that differ by call, as plain data: fields in a row, and the numbers of the calls that keep them. The tests of the call index
 -- and the code that tells the size of the call's frame are made from these.
-use Rattle.std.specs.Prelude.{◌<◌, ◌^◌, ℕ, ◌+◌, ◌*◌, List, [], ◌∷◌, ◌++◌, length, None, Bool, false, ◌||◌, nat_eq, if◌then◌else◌}
+use Rattle.std.specs.Prelude.{◌<◌, ◌^◌, ℕ, suc, ◌+◌, List, [], ◌∷◌, ◌++◌, None, Bool, false, ◌||◌, nat_eq, if◌then◌else◌}
 use Rattle.wa_types.specs.declared.values.Value.TheVariants as V
 use Rattle.wa_types.specs.Syntax.{const, basic, local_set, Code, done, plain, branch}
 use Rattle.frame_laws.specs.Layout.{FrameField, fields_size, frame_size}
-use Rattle.call_frames.specs.CallTests.{at_call, at_either}
+use Rattle.call_frames.specs.CallTests.{CallRow, at_either, at_row, row_size}
 use Rattle.call_frames.specs.FrameParts.{FramePart, at_all, at_some, shared_size, CallFrames, layout_at, scratch_raised}
 
 -- Fields in a row that all calls keep, or that the calls with these numbers keep.
@@ -34,20 +34,40 @@ call_fields k (at_these js fs ∷ ps) = (if is_one_of js k then fs else []) ++ c
 
 -- ---- tests
 
--- a test, or one of these calls
-abbrev pub or_calls : (index : ℕ) → (test : Code → Code) → List ℕ → Code → Code
-or_calls index test [] next = test next
-or_calls index test (k ∷ ks) next = or_calls index (at_either test (at_call index k)) ks next
+-- a call in front of rows: it joins the first where that follows it
+abbrev pub onto_rows : ℕ → List CallRow → List CallRow
+onto_rows k [] = record { first = k; more = 0 } ∷ []
+onto_rows k (r ∷ rs) = if nat_eq r.first (suc k) then record { first = k; more = suc r.more } ∷ rs else record { first = k; more = 0 } ∷ r ∷ rs
 
--- one of these calls: the index compared with each, joined by `or`
+-- calls as rows
+abbrev pub rows_of : List ℕ → List CallRow
+rows_of [] = []
+rows_of (k ∷ ks) = onto_rows k (rows_of ks)
+
+-- a test, or one of these rows
+abbrev pub or_rows : (index : ℕ) → (test : Code → Code) → List CallRow → Code → Code
+or_rows index test [] next = test next
+or_rows index test (r ∷ rs) next = or_rows index (at_either test (at_row index r)) rs next
+
+abbrev pub at_rows : (index : ℕ) → List CallRow → Code → Code
+at_rows index [] next = plain (basic (const (V.I32 0))) next
+at_rows index (r ∷ rs) next = or_rows index (at_row index r) rs next
+
+-- one of these calls: row by row, joined by `or`
 abbrev pub at_calls : (index : ℕ) → List ℕ → Code → Code
-at_calls index [] next = plain (basic (const (V.I32 0))) next
-at_calls index (k ∷ ks) next = or_calls index (at_call index k) ks next
+at_calls index ks next = at_rows index (rows_of ks) next
 
 -- how many instructions that has, which is what it costs
+abbrev pub joined_size : List CallRow → ℕ
+joined_size [] = 0
+joined_size (r ∷ rs) = row_size r + 1 + joined_size rs
+
+abbrev pub rows_size : List CallRow → ℕ
+rows_size [] = 1
+rows_size (r ∷ rs) = row_size r + joined_size rs
+
 abbrev pub test_size : List ℕ → ℕ
-test_size [] = 1
-test_size (k ∷ ks) = 3 + 4 * length ks
+test_size ks = rows_size (rows_of ks)
 
 -- ---- frames
 

@@ -15,9 +15,19 @@ use Rattle.call_frames.specs.ByCall.{FramesTell}
 use Rattle.call_frames.specs.FrameParts.{fields_at, saving_by_call, save_bound_at, restoring_by_call, restore_bound_at, shared_size}
 use Rattle.call_frames.specs.PlainFrames.{SavedPart, at_every, at_these, SavedParts, call_fields, test_size, parts_of, frames_of, FramesSmall}
 
+abbrev pub NumbersSmall : List ℕ → Type 0
+NumbersSmall [] = Unit {0}
+NumbersSmall (k ∷ ks) = (k < 2 ^ 32) × NumbersSmall ks
+
+-- the numbers of calls are in range
+abbrev pub CallsSmall : List SavedPart → Type 0
+CallsSmall [] = Unit {0}
+CallsSmall (at_every fs ∷ ps) = CallsSmall ps
+CallsSmall (at_these ks fs ∷ ps) = NumbersSmall ks × CallsSmall ps
+
 -- The tests tell their calls, and the code of sizes the size of the call's frame.
 abbrev pub PlainFramesTell : Type 0
-PlainFramesTell = (f : SavedParts) → f.index ≢ f.scratch → FramesSmall f → FramesTell (frames_of f)
+PlainFramesTell = (f : SavedParts) → f.index ≢ f.scratch → f.count ≤ 2 ^ 32 → CallsSmall f.parts → FramesSmall f → FramesTell (frames_of f)
 
 abbrev pub PlainFieldsAt : Type 0
 PlainFieldsAt = (index k : ℕ) (ps : List SavedPart) → fields_at k (parts_of index ps) ≡ call_fields k ps
@@ -36,11 +46,21 @@ named_calls [] = 0
 named_calls (at_every fs ∷ ps) = named_calls ps
 named_calls (at_these ks fs ∷ ps) = length ks + named_calls ps
 
--- The bound at call k counts each name, and of the fields those that the call keeps.
+-- what the tests of parts cost at both ends, with what stands under each beside its fields
+abbrev pub tests_cost : List SavedPart → ℕ
+tests_cost [] = 0
+tests_cost (at_every fs ∷ ps) = tests_cost ps
+tests_cost (at_these ks fs ∷ ps) = 3 * test_size ks + 18 + tests_cost ps
+
+-- The bound at call k counts all tests, and of the fields those that the call keeps.
 abbrev pub PlainFramesCost : Type 0
 PlainFramesCost =
-    (f : SavedParts) (k : ℕ) → NameCalls f.parts
-    → save_bound_at (frames_of f) k + restore_bound_at (frames_of f) k ≤ 32 + 27 * named_calls f.parts + 6 * kept_count (call_fields k f.parts)
+    (f : SavedParts) (k : ℕ)
+    → save_bound_at (frames_of f) k + restore_bound_at (frames_of f) k ≤ 32 + tests_cost f.parts + 6 * kept_count (call_fields k f.parts)
+
+-- Tests cost at most 27 for each name.
+abbrev pub NamesCostLittle : Type 0
+NamesCostLittle = (ps : List SavedPart) → NameCalls ps → tests_cost ps ≤ 27 * named_calls ps
 
 -- ---- how large they are
 
@@ -92,10 +112,6 @@ abbrev pub FieldsSmall : List FrameField → Type 0
 FieldsSmall [] = Unit {0}
 FieldsSmall (kept x t ∷ fs) = (x < 2 ^ 32) × FieldsSmall fs
 FieldsSmall (gap t ∷ fs) = FieldsSmall fs
-
-abbrev pub NumbersSmall : List ℕ → Type 0
-NumbersSmall [] = Unit {0}
-NumbersSmall (k ∷ ks) = (k < 2 ^ 32) × NumbersSmall ks
 
 -- so are their numbers, and their sizes beside so many bytes that all calls keep
 abbrev pub PartsSmall : (shared : ℕ) → List SavedPart → Type 0

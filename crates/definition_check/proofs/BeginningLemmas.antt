@@ -10,7 +10,7 @@ use Rattle.wa_types.specs.Leb.{unsigned_at, signed_at}
 use Rattle.wa_types.specs.Begun.{Goal, Item, a_byte, an_unsigned, a_signed, a_name, a_constant_of, IsItem, IsPart, size, head, until, rest, entries, count, exact, number, name, value_type, block_type, mutable, import_kind, space, limits, signed, name_bytes, float_bytes, code, wants, next, settled, end_of, IsBefore, Inside, Steps, Leads, arrived, item, BegunFrom, ends, part, then, sections, start, Begun, IsWhole}
 use Rattle.wa_types.proofs.UnsignedReads.{again, takes}
 use Rattle.wa_types.proofs.SignedReads.{again as signed_again, takes as signed_takes}
-use Rattle.wa_types.proofs.Items.{item_some}
+use Rattle.file_laws.proofs.Items.{item_some}
 use Rattle.wa_types.proofs.TypingLemmas.{less_on}
 use Rattle.definition_check.specs.Beginnings.{Front, a_part, wrong, whole, of_number, of_bytes, of_byte, front_of, on_front, on_goals, is_before, is_inside, walks, is_none, part_left, owes_none, is_end, nothing_left, is_begun, is_whole, or_else, search, at_the_end, fault_place, FaultFound}
 use Rattle.definition_check.specs.Files.{File, AllFound}

@@ -10,6 +10,8 @@ use Rattle.wa_types.specs.Sizes.{WellFormed, StrictSizeRule}
 use Rattle.wa_types.specs.Syntax.{Module}
 use Rattle.wa_types.specs.Validity.{Valid}
 use Rattle.rewrite_form.specs.Layout.{kept, gap, field_width, fields_size, Layout}
+use Rattle.rewrite_form.specs.CodesHold.{AllSlim}
+use Rattle.rewrite_form.specs.SlimModule.{Pieces}
 use Rattle.rewrite_form.specs.Emitted.{is_kept, field_where, frame_layout, layout_codes, asyncified}
 use Rattle.rewrite_form.specs.Sizes.{FewWritten}
 use Rattle.rewrite_form.proofs.WrittenSizes.{layouts_hold, saved_count}
@@ -28,8 +30,9 @@ fields_few keep (p ∷ ps) = let ih = fields_few keep ps in let w = by (keep p.l
     by false I32 = omega arith
     by false I64 = omega arith
 
-module _ (m : Module) (s : Settings) (which : List Bool) (v : Valid m) (w : WellFormed m) (strict : StrictSizeRule m) (few : FewWritten m which) where
-  codes_fit : AllCodesFit m which (layout_codes m s which)
+module _ (m : Module) (s : Settings) (which : List Bool) (pieces : (index : ℕ) → Pieces) (v : Valid m) (slim : AllSlim m s which pieces) (w : WellFormed m) (strict : StrictSizeRule m)
+    (few : FewWritten m which) where
+  codes_fit : AllCodesFit m which (layout_codes m s which pieces)
   codes_fit x f is told =
       let l : Layout = frame_layout m s which x f in
       let a = fields_few (is_kept m s which x f) (Saved m save_all f 0) in
@@ -39,5 +42,5 @@ module _ (m : Module) (s : Settings) (which : List Bool) (v : Valid m) (w : Well
       let address : suc (global_space m) < 2 ^ 32 = omega (arith, globals_counted m, strict.globals) in
       (restore_fits l address frame, save_fits l address frame)
 
-  pub emitted_fits : WellFormed (asyncified m s which)
-  emitted_fits = By.emitted_fits m s which (layout_codes m s which) v w strict (layouts_hold m s which v) codes_fit few
+  pub emitted_fits : WellFormed (asyncified m s which pieces)
+  emitted_fits = By.emitted_fits m s which (layout_codes m s which pieces) v w strict (layouts_hold m s which pieces v slim) codes_fit few

@@ -34,6 +34,9 @@ use Rattle.rewrite_form.proofs.SizesBy.{code_weighs, written_depth}
 use Rattle.rewrite_form.proofs.WrittenBy.{written_length, written_typed}
 use Rattle.emitted_bytes.proofs.BasicCode.{BasicsFit, StmtsBasic, fits_basic, flat_fits, first_fits, units_fit, result_fits, front_fits}
 use Rattle.emitted_bytes.proofs.GrownFits.{grown_fits}
+use Rattle.emitted_bytes.proofs.SlimCode.{units_basic}
+use Rattle.rewrite_form.specs.SlimModule.{flat_terms}
+use Rattle.rewrite_form.proofs.UnitsAlike.{units_alike}
 use Rattle.emitted_bytes.proofs.Spaces.{funcs_counted, globals_counted}
 use Rattle.emitted_bytes.proofs.TypedCode.{AroundFew, typed_fits}
 
@@ -174,22 +177,26 @@ module _ (m : Module) (s : Settings) (which : List Bool) (codes : (index : ℕ) 
 
     numbers_small : numbers_in gf.body < 2 ^ 32
     numbers_small =
+        let z = (units_alike (flat_terms m (Numbered m s which f) x f) 0 (owed.slim.out ∷ []) owed.slim.out owed.slim.here []
+        (first_piece (Numbered m s which f) 0 (flattened m x f).body) gf.first (units (Numbered m s which f) 0 (flattened m x f).body) gf.body owed.slim.slim).numbers in
         let a = numbers_few (Numbered m s which f) 0 (flattened m x f).body in
         let b = flat_few (names m f) (around m f) ((around m f).result ∷ []) f.body [] in
-        omega (arith, a, b, sizes.total)
+        omega (arith, z, a, b, sizes.total)
 
     written_basic : BasicsFit g.body
     written_basic =
         let st = globals_small in
         let state : global_space m < 2 ^ 32 = omega (arith, st) in
-        let first = first_fits (Numbered m s which f) 0 (flattened m x f).body stmts in
-        let body = units_fit (Numbered m s which f) 0 (flattened m x f).body stmts in
-        let guarded = front_fits (indices_of (global_space m) gf) state 0 0 gf.first gf.body (omega (arith, numbers_small)) first body in
+        let both =
+        units_basic (flat_terms m (Numbered m s which f) x f) 0 (owed.slim.out ∷ []) owed.slim.out owed.slim.here []
+        (first_piece (Numbered m s which f) 0 (flattened m x f).body) gf.first (units (Numbered m s which f) 0 (flattened m x f).body) gf.body owed.slim.slim
+        (first_fits (Numbered m s which f) 0 (flattened m x f).body stmts) (units_fit (Numbered m s which f) 0 (flattened m x f).body stmts) in
+        let guarded = front_fits (indices_of (global_space m) gf) state 0 0 gf.first gf.body (omega (arith, numbers_small)) both.0 both.1 in
         (state, (basics.0, tt, (guarded, (state, (basics.1, tt, result_fits (flattened m x f).result)))))
 
     depth_small : 1 + depth_of g.body ≤ 2 ^ 32
     depth_small =
-        let a = written_depth m s which codes x f owed.restoring_quiet.depth owed.saving_quiet.depth in
+        let a = written_depth m s which codes x f owed.slim owed.restoring_quiet.depth owed.saving_quiet.depth in
         let b = depth_few (pruned f.body) in
         let c = code_weighs m (pruned f.body) in
         let d = weight_fits (2 ^ 31) (2 ^ 31) m f sizes in omega (arith, a, b, c, d)
@@ -215,7 +222,7 @@ module _ (m : Module) (s : Settings) (which : List Bool) (codes : (index : ℕ) 
       sort = omega (arith, sort_there m s which v i f e, strict.types);
       locals = All-append (λ (r : Run). r.count < 2 ^ 32) f.locals (map one_run (extra_types m f ++ three)) fits.locals (runs_fit (extra_types m f ++ three));
       body = typed_fits (around (emitted m s which codes) g) few_around ((around (emitted m s which codes) g).result ∷ []) g.body (listed (around (emitted m s which codes) g).result) []
-          (written_typed m s which codes x f v (sort_there m s which v i f e) (v.bodies i f e) owed.restoring_typed owed.saving_typed) written_basic depth_small;
+          (written_typed m s which codes x f v (sort_there m s which v i f e) (v.bodies i f e) owed.slim owed.restoring_typed owed.saving_typed) written_basic depth_small;
     }
 
   -- ---- all functions

@@ -13,7 +13,7 @@ use Rattle.wa_types.specs.Encoding.{Enc, sections, type_byte, vector, sized, sam
 use Rattle.wa_types.specs.Frames.{Pair, SlotPairs, ResultPairs, Count}
 use Rattle.wa_types.specs.Leb.{shortest}
 use Rattle.wa_types.specs.Modules.{defined_at, func_imports, locals_of}
-use Rattle.wa_types.specs.Pausing.{Settings, is_told}
+use Rattle.wa_types.specs.Pausing.{Numbered, Settings, is_told}
 use Rattle.wa_types.specs.Pruned.{pruned}
 use Rattle.wa_types.specs.Sizes.{label_count, FuncSizes, StrictSizeRule}
 use Rattle.wa_types.specs.Syntax.{Basic, nop, drop, select, const, num, global_get, global_set, load, store, memory_size, memory_grow, basic, local_get, local_set, local_tee, br, br_if, br_table, return, unreachable, call, call_indirect, Plain, Code, done, plain, nest, branch, Func, Module}
@@ -28,7 +28,8 @@ use Rattle.rewrite_form.specs.EmittedBy.{FrameCode, written_by, func_by, funcs_b
 use Rattle.rewrite_form.specs.Sizes.{FewWritten}
 use Rattle.rewrite_form.proofs.EmittedBy.{inner, told, not_told, same_sorts}
 use Rattle.rewrite_form.proofs.SizesBy.{written_size}
-use Rattle.rewrite_form.specs.CodesHold.{codes_size, three}
+use Rattle.rewrite_form.specs.SlimModule.{SlimPieces}
+use Rattle.rewrite_form.specs.CodesHold.{AllCodesSlim, codes_size, three}
 use Rattle.rewrite_form.proofs.EmittedBy.{defined_of}
 use Rattle.emitted_bytes.proofs.FitsBy.{one_of_all}
 use Rattle.emitted_bytes.proofs.GrownFits.{grown_locals}
@@ -146,8 +147,9 @@ module _ (m : Module) (s : Settings) (which : List Bool) (codes : (index : ℕ) 
   abbrev g : Func
   g = written_by m s which codes x f
 
-  pub written_entry : (more : ℕ) → codes_size (codes x f) ≤ 2 ^ 36 + more → length (entry (written_by m s which codes x f)) ≤ most + 25 * more
-  written_entry more codes_few =
+  pub written_entry : (more : ℕ) → SlimPieces m (Numbered m s which f) x f (codes x f).pieces → codes_size (codes x f) ≤ 2 ^ 36 + more
+      → length (entry (written_by m s which codes x f)) ≤ most + 25 * more
+  written_entry more sp codes_few =
       let runs = length-append f.locals (map one_run (extra_types m f ++ three)) in
       let ones = length-map (extra_types m f ++ three) one_run in
       let extra = extra_few m f low in
@@ -156,7 +158,7 @@ module _ (m : Module) (s : Settings) (which : List Bool) (codes : (index : ℕ) 
       bound (length (entry g)) (length (body_bytes g)) (length (flat_map run_bytes (merged g.locals))) (length (code_bytes g.body)) (instructions_and_labels g.body)
       (code_weight m (pruned f.body)) (length (locals_of m f)) (codes_size (codes x f)) more (length (merged g.locals)) (sized_length (body_bytes g))
       (omega (arith, length-append (vector run_bytes (merged g.locals)) (expression_bytes g.body), vector_length run_bytes (merged g.locals), length-append (code_bytes g.body) (0x0B ∷ [])))
-      (runs_length (merged g.locals)) (omega (arith, runs, ones, extra, own, count)) (code_length g.body) (written_size m s which codes x f) codes_few (weight_fits (2 ^ 31) (2 ^ 31) m f sizes)
+      (runs_length (merged g.locals)) (omega (arith, runs, ones, extra, own, count)) (code_length g.body) (written_size m s which codes x f sp) codes_few (weight_fits (2 ^ 31) (2 ^ 31) m f sizes)
 
   pub written_locals_few : local_count (written_by m s which codes x f).locals < 2 ^ 32
   written_locals_few =
@@ -195,7 +197,7 @@ module _ (m : Module) (s : Settings) (which : List Bool) (codes : (index : ℕ) 
   pub emitted_few : FewLocals (asyncified_by m s which codes)
   emitted_few = grown_locals (inner m s which codes) (all_few (func_imports m) m.funcs locals_few)
 
-  module _ (more : Func → ℕ) (short : AllCodesShort m which codes more) where
+  module _ (more : Func → ℕ) (slim : AllCodesSlim m s which codes) (short : AllCodesShort m which codes more) where
     entry_few : (i : ℕ) (f : Func) → slice_get m.funcs i ≡ Some f → length (entry (func_by m s which codes (func_imports m + i) f)) ≤ length (entry f) + most + 25 * more f
     entry_few i f e = by (is_told (slice_get which (func_imports m + i))) refl
       where
@@ -203,7 +205,9 @@ module _ (m : Module) (s : Settings) (which : List Bool) (codes : (index : ℕ) 
         by true b =
             let z = ap (λ (h : Func). length (entry h)) (told m s which codes (func_imports m + i) f b) in
             let sizes = one_of_all (FuncSizes (2 ^ 31) (2 ^ 31) m) m.funcs i f strict.each_func e in
-            let l = written_entry m s which codes (func_imports m + i) f sizes (few (func_imports m + i) f (defined_of m i f e) b) (more f) (short (func_imports m + i) f (defined_of m i f e) b) in
+            let at = defined_of m i f e in
+            let l = written_entry m s which codes (func_imports m + i) f sizes (few (func_imports m + i) f at b) (more f) (slim (func_imports m + i) f at b)
+            (short (func_imports m + i) f at b) in
             omega (arith, z, l)
         by false b = let z = ap (λ (h : Func). length (entry h)) (not_told m s which codes (func_imports m + i) f b) in omega (arith, z)
 

@@ -14,6 +14,7 @@ pub mod EmittedLength
 pub mod Grown
 pub mod GrownFits
 pub mod Lengths
+pub mod SlimCode
 pub mod Spaces
 pub mod TypedCode
 pub mod FitsBy

@@ -1,7 +1,12 @@
 pub use Rattle.rewrite_form.specs.CodesHold
 pub use Rattle.rewrite_form.specs.Emitted
 pub use Rattle.rewrite_form.specs.EmittedBy
+pub use Rattle.rewrite_form.specs.Laws
 pub use Rattle.rewrite_form.specs.Layout
+pub use Rattle.rewrite_form.specs.Pieces
 pub use Rattle.rewrite_form.specs.Rewritten
 pub use Rattle.rewrite_form.specs.Sizes
+pub use Rattle.rewrite_form.specs.Slim
+pub use Rattle.rewrite_form.specs.SlimModule
+pub use Rattle.rewrite_form.specs.SlimUnits
 pub mod Written

@@ -13,11 +13,10 @@ use Rattle.wa_types.specs.declared.values.ValType.TheVariants.{I32, I64}
 use Rattle.wa_model.specs.Flat.{FlatFunc}
 use Rattle.flat_laws.specs.FlatModule.{flat_func}
 use Rattle.flat_laws.specs.Flatten.{flattened, names, slots}
-use Rattle.slim_modules.specs.SlimModule.{AllSlimPieces, Pieces, module_terms, plain_pieces, slim_module}
+use Rattle.slim_modules.specs.SlimModule.{AllSlimPieces, Pieces, module_terms, slim_module}
 use Rattle.slim_modules.specs.Slim.{Terms}
 use Rattle.guard_sizes.specs.Layout.{FrameField, kept, gap, Layout, save_code, restore_code}
 use Rattle.guard_form.specs.Functions.{GuardedFunc, Role, as_is, with_guards, written_code}
-use Rattle.guard_form.specs.Pieces.{no_unit}
 use Rattle.slim_links.specs.Joined.{CallFrame, one_frame}
 
 -- How a function is written: its pieces between its units, the codes that restore and that save its frames, and the frame of the call at
@@ -138,12 +137,3 @@ module _ (m : Module) (s : Settings) (which : List Bool) (keep : (func local : �
 -- with these pieces
 abbrev pub kept_frames : (m : Module) (s : Settings) (which : List Bool) (pieces : (index : ℕ) → Pieces) (keep : (func local : ℕ) → Bool) → (index : ℕ) → Framing
 kept_frames m s which pieces keep x = one_framing (pieces x) (lay_at m s which keep x (defined_at m x))
-
--- ---- pieces as flattening gives them
-
-abbrev pub plain_where : Module → Settings → (which : List Bool) → (index : ℕ) → Option Func → Pieces
-plain_where m s which x None = record { first = done; units = no_unit }
-plain_where m s which x (Some f) = plain_pieces (Numbered m s which f) (flattened (Base m) x f)
-
-abbrev pub plain_at : Module → Settings → (which : List Bool) → (index : ℕ) → Pieces
-plain_at m s which x = plain_where m s which x (defined_at m x)

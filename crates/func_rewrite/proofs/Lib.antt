@@ -1,5 +1,4 @@
 pub use Rattle.flatten.proofs.ToldLemmas
-pub use Rattle.written_frames.proofs.Emitted
 pub use Rattle.written_frames.proofs.EmittedBy
 pub mod CallNumbers
 pub mod FrameChoice

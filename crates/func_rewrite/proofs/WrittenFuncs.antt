@@ -31,7 +31,8 @@ use Rattle.frame_laws.specs.Layout.{FrameField, fields_size, placed, spilled_by}
 use Rattle.guard_form.specs.Guarded.{function_body, guarded_code}
 use Rattle.guard_form.specs.Pieces.{call_total}
 use Rattle.written_frames.specs.Numbering.{callees, gets_number}
-use Rattle.written_frames.specs.Emitted.{holds_operand, is_kept, field_where, frame_layout, written_func}
+use Rattle.written_frames.specs.Emitted.{holds_operand, is_kept, field_where, frame_layout}
+use Rattle.func_rewrite.specs.Written.{plain_written}
 use Rattle.written_frames.specs.Frames.{numbered_places, AllFrames}
 use Rattle.written_frames.specs.Marking.{StacksFit}
 use Rattle.func_rewrite.specs.Frames.{IsFlattened, FramesUnder}
@@ -139,7 +140,7 @@ module _ (m : Module) (s : Settings) (which : List Bool) (f : Func) (v : Flatten
 
     pub body_same : (ids : RuntimeIds) (numbers : List ℕ) (chosen row : List Place) (kept : Place → Bool) (size rows : ℕ) → ids ≡ ids_behind m → numbers ≡ Numbered m s which f → row ≡ in_a_row 0 places → rows ≡ row_size places + 4 → size ≡ rows
         → ((p : Place) → kept p ≡ keep p.local) → chosen ≡ filter kept row
-        → whole ids.state (spill_indices (length v.func.locals.items) ids) (size - 4) chosen numbers flat ≡ (written_func m s which x f).body
+        → whole ids.state (spill_indices (length v.func.locals.items) ids) (size - 4) chosen numbers flat ≡ (plain_written m s which x f).body
     body_same ids ns chosen row kept size rows ei en er es ez same ec =
         let n : ℕ = length (flattened m x f).locals in
         let g : ℕ = global_space m in
@@ -158,7 +159,7 @@ module _ (m : Module) (s : Settings) (which : List Bool) (f : Func) (v : Flatten
 
   -- ---- the locals
 
-  pub runs_same : (own : ℕ) → own ≡ v.first_slot → f.locals ++ map one_run (drop own v.func.locals.items ++ I32 ∷ I32 ∷ I64 ∷ []) ≡ (written_func m s which x f).locals
+  pub runs_same : (own : ℕ) → own ≡ v.first_slot → f.locals ++ map one_run (drop own v.func.locals.items ++ I32 ∷ I32 ∷ I64 ∷ []) ≡ (plain_written m s which x f).locals
   runs_same own e =
       let rest : drop own v.func.locals.items ≡ extra_types m f =
       ap (λ n. drop n v.func.locals.items) (e ∙ h.first_slot) ∙ ap (drop (length (locals_of m f))) (same_locals ∙ append_assoc (locals_of m f) slots results) ∙ drop-append_seam (locals_of m f) (slots ++ results) in

@@ -5,3 +5,4 @@ pub use Rattle.written_frames.specs.Rewritten
 pub use Rattle.written_frames.specs.Sizes
 pub mod Frames
 pub mod Putting
+pub mod Written

@@ -5,7 +5,7 @@ ghost use Rattle.wa_types.specs.Validity.{Valid as IsValid};
 ghost use Rattle.wa_types.specs.View.{func_of, module_of};
 ghost use Rattle.call_graph.specs.Settings.{settings_of};
 ghost use Rattle.asyncify_runtime.specs.Ids.{ids_behind};
-ghost use Rattle.written_frames.specs.Emitted.{written_func};
+ghost use Rattle.func_rewrite.specs.Written.{plain_written};
 ghost use Rattle.func_rewrite.specs.Frames.{IsFlattened, FramesUnder};
 
 use crate::body::written_body;
@@ -41,7 +41,7 @@ pub fn write_func(
     requires listed { listed.now ≡ Listed (module_of «module».now) (settings_of settings.now) }
     requires ids { ids.now ≡ ids_behind (module_of «module».now) }
     requires flat { IsFlattened (module_of «module».now) (func_of source.now) flat.now }
-    ensures func { IfOk result (λ w. func_of w.func ≡ written_func (module_of «module».now) (settings_of settings.now) which.now flat.now.func.func (func_of source.now)) }
+    ensures func { IfOk result (λ w. func_of w.func ≡ plain_written (module_of «module».now) (settings_of settings.now) which.now flat.now.func.func (func_of source.now)) }
     ensures frames { IfOk result (λ w. FramesUnder save_all (module_of «module».now) (settings_of settings.now) which.now (func_of source.now) w.frames.items) }
 {
     let func = emit_func(alloc, module, settings, which, listed, source, flat, ids)?;
@@ -66,7 +66,7 @@ pub fn emit_func(
     requires listed { listed.now ≡ Listed (module_of _module.now) (settings_of settings.now) }
     requires ids { ids.now ≡ ids_behind (module_of _module.now) }
     requires flat { IsFlattened (module_of _module.now) (func_of source.now) flat.now }
-    ensures { IfOk result (λ f. func_of f ≡ written_func (module_of _module.now) (settings_of settings.now) which.now flat.now.func.func (func_of source.now)) }
+    ensures { IfOk result (λ f. func_of f ≡ plain_written (module_of _module.now) (settings_of settings.now) which.now flat.now.func.func (func_of source.now)) }
 {
     let own = flat.first_slot;
     let flat_func = &flat.func;

@@ -67,7 +67,8 @@ strict_is_wide m s = record {
 -- what is emitted is the module, rewritten
 pub emitted_is_rewritten : (m : Module) (r : Rewritten) → Valid m → StrictSizeRule m → IsAsyncified m all_listed r → Rewrites m all_listed (module_of r.«module»)
 emitted_is_rewritten m r v strict e =
-    subst (Rewrites m all_listed) (sym e.emitted) (asyncified_law m all_listed r.instrumented.items v (unreserved_is_free m e.free) strict (few_written m r.instrumented.items e.few) refl e.tells)
+    subst (Rewrites m all_listed) (sym e.emitted.is)
+    (asyncified_law m all_listed r.instrumented.items e.emitted.pieces v e.emitted.slim (unreserved_is_free m e.free) strict (few_written m r.instrumented.items e.few) refl e.tells)
 
 -- where no function has too many locals, none is the first that has
 none_first : (m : Module) (func count x : ℕ) (which : List Bool) (fs : List Func) → All (λ (f : Func). Count m f ≤ 50000) fs → FirstPasses m func count x which fs → ⊥

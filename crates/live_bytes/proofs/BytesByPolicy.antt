@@ -1,5 +1,5 @@
 -- What is written of what is emitted, policy by policy.
-use Rattle.std.proofs.Common.{◌≡◌, ℕ, zero, suc, ◌+◌, ◌*◌, ◌<◌, ◌≤◌, ◌^◌, List, [], ◌∷◌, length, Some, Bool, true, refl, sym, ap, subst, arith, length-append}
+use Rattle.std.proofs.Common.{◌≡◌, ℕ, zero, suc, ◌*◌, ◌<◌, ◌≤◌, ◌^◌, List, [], ◌∷◌, length, Some, Bool, true, refl, sym, ap, subst, arith, length-append}
 use Rattle.std.specs.Prelude.{slice_get}
 use Rattle.std.specs.List.{flat_map}
 use Rattle.wa_types.specs.Encoding.{Enc}
@@ -12,10 +12,10 @@ use Rattle.wa_types.specs.Reading.{SpellsModule}
 use Rattle.wa_types.specs.Sizes.{FuncSizes, StrictSizeRule}
 use Rattle.wa_types.specs.Syntax.{Func, Module}
 use Rattle.wa_types.specs.Validity.{Valid}
-use Rattle.wa_types.proofs.FileWriting.{written_spells}
+use Rattle.file_laws.proofs.FileWriting.{written_spells}
 use Rattle.wasm_encode.specs.Modules.{FewLocals}
 use Rattle.wasm_reader.specs.Answers.{IsAccepted}
-use Rattle.prepared_modules.specs.Emitted.{asyncified, written_func}
+use Rattle.prepared_modules.specs.Emitted.{asyncified}
 use Rattle.prepared_modules.proofs.EmittedBy.{defined_where}
 use Rattle.prepared_modules.proofs.EmittedFits.{emitted_fits}
 use Rattle.prepared_modules.proofs.EmittedLength as All
@@ -23,9 +23,8 @@ use Rattle.prepared_modules.proofs.FitsBy.{one_of_all}
 use Rattle.prepared_modules.proofs.LengthBy.{entry}
 use Rattle.prepared_modules.proofs.LengthBy as By
 use Rattle.prepared_modules.proofs.Prepared.{emitted_prepared}
-use Rattle.live_form.specs.EmittedAs.{EmittedUnder, IsLiveWritten, IsWrittenUnder, live_written}
-use Rattle.live_form.specs.LiveParts.{live_asyncified, live_codes}
-use Rattle.live_form.specs.PolicyLaws.{CanBeEmitted}
+use Rattle.live_form.specs.EmittedAs.{EmittedUnder, IsAllWritten, IsLiveWritten, IsWrittenUnder}
+use Rattle.live_form.specs.LiveParts.{live_codes}
 use Rattle.live_form.proofs.CallCounts.{told_calls}
 use Rattle.live_form.proofs.LiveHold.{live_few}
 use Rattle.live_form.proofs.PolicyCases.{live_rewriting}
@@ -49,19 +48,19 @@ module _ (m : Module) (s : Settings) (which : List Bool) (x : ℕ) (f g : Func) 
   entry_short : length (entry f) ≤ 2 ^ 36
   entry_short = let at = defined_where m x f is in omega (arith, one_short m.funcs at.0 f at.1, entries_short m, l)
 
-  all_short : g ≡ written_func m s which x f → IsShortEntry g
-  all_short e =
+  all_short : IsAllWritten m s which x f g → IsShortEntry g
+  all_short h =
       let at = defined_where m x f is in
-      let a = All.written_entry m s which v x at.0 f at.1 sizes few in
-      subst IsShortEntry (sym e) (record { locals = All.written_locals_few m s which v x at.0 f at.1 sizes few; bytes = omega (arith, a) })
+      let a = All.written_entry m s which v x at.0 f at.1 sizes few h.pieces h.slim in
+      subst IsShortEntry (sym h.is) (record { locals = All.written_locals_few m s which v x at.0 f at.1 sizes few h.pieces h.slim; bytes = omega (arith, a) })
 
   live_short : IsLiveWritten m s which x f g → IsShortEntry g
   live_short h =
       let n = numbers_take m s which f in
-      let k = live_few m s which v strict x f h.parts is (told_calls m s which tells x f is told) few h.live in
-      let a = By.written_entry m s which (live_codes (λ y. h.parts)) x f sizes few (1500000 * length (entry f)) (omega (arith, n, k)) in
+      let k = live_few m s which v strict x f h.pieces h.parts is (told_calls m s which tells x f is told) few h.slim h.live in
+      let a = By.written_entry m s which (live_codes (λ y. h.pieces) (λ y. h.parts)) x f sizes few (1500000 * length (entry f)) h.slim (omega (arith, n, k)) in
       subst IsShortEntry (sym h.is) (record {
-        locals = By.written_locals_few m s which (live_codes (λ y. h.parts)) x f sizes few;
+        locals = By.written_locals_few m s which (live_codes (λ y. h.pieces) (λ y. h.parts)) x f sizes few;
         bytes = let z = entry_short in omega (arith, a, z);
       })
 
@@ -78,15 +77,15 @@ pub few_as : EmittedAsHasFewLocals
 few_as m s which q c = by s.policy refl
   where
     by : (p : Policy) → s.policy ≡ p → EmittedUnder p m s which q → FewLocals q
-    by save_all e h = subst FewLocals (sym h) (All.emitted_few m s which c.valid c.sizes c.few)
-    by save_live e h = subst FewLocals (sym h.is) (few_law m s which h.parts (live_rewriting m s which h.parts c e h.live))
+    by save_all e h = subst FewLocals (sym h.is) (All.emitted_few m s which h.pieces c.valid h.slim c.sizes c.few)
+    by save_live e h = subst FewLocals (sym h.is) (few_law m s which h.pieces h.parts (live_rewriting m s which q c e h))
 
 pub short_as : EmittedAsIsShort
 short_as m s which q c w n l = by s.policy refl w
   where
     by : (p : Policy) → s.policy ≡ p → EmittedUnder p m s which q → length (Enc q) < 2 ^ 64
-    by save_all e h = subst (λ (p : Module). length (Enc p) < 2 ^ 64) (sym h) (All.emitted_short m s which c.valid c.sizes c.few n (omega (arith, l)))
-    by save_live e h = subst (λ (p : Module). length (Enc p) < 2 ^ 64) (sym h.is) (short_law m s which h.parts (live_rewriting m s which h.parts c e h.live) n l)
+    by save_all e h = subst (λ (p : Module). length (Enc p) < 2 ^ 64) (sym h.is) (All.emitted_short m s which h.pieces c.valid h.slim c.sizes c.few n (omega (arith, l)))
+    by save_live e h = subst (λ (p : Module). length (Enc p) < 2 ^ 64) (sym h.is) (short_law m s which h.pieces h.parts (live_rewriting m s which q c e h) n l)
 
 abbrev Spelled : Module → Type 0
 Spelled q = length (Enc q) ≤ 67108864 → SpellsModule (Enc q) (Norm q)
@@ -96,9 +95,10 @@ spelled_as m s which q c w wf = by s.policy refl w
   where
     by : (p : Policy) → s.policy ≡ p → EmittedUnder p m s which q → Spelled q
     by save_all e h =
-        subst Spelled (sym h)
-        (λ short. written_spells (asyncified m s which) (emitted_fits m s which c.valid wf c.sizes c.few) (All.emitted_few m s which c.valid c.sizes c.few) (omega (arith, short)))
-    by save_live e h = subst Spelled (sym h.is) (spelled_law m s which h.parts (live_rewriting m s which h.parts c e h.live) wf)
+        subst Spelled (sym h.is)
+        (λ short. written_spells (asyncified m s which h.pieces) (emitted_fits m s which h.pieces c.valid h.slim wf c.sizes c.few)
+        (All.emitted_few m s which h.pieces c.valid h.slim c.sizes c.few) (omega (arith, short)))
+    by save_live e h = subst Spelled (sym h.is) (spelled_law m s which h.pieces h.parts (live_rewriting m s which q c e h) wf)
 
 abbrev IsPreparedWhere : Module → Type 0
 IsPreparedWhere q = length (Enc q) ≤ 67108864 → SpellsModule (Enc q) (Norm q) → IsAccepted prepared_bounds (Enc q) (Norm q)
@@ -107,5 +107,5 @@ pub prepared_as : EmittedAsIsPrepared
 prepared_as m s which q bytes c w read = by s.policy refl w
   where
     by : (p : Policy) → s.policy ≡ p → EmittedUnder p m s which q → IsPreparedWhere q
-    by save_all e h = subst IsPreparedWhere (sym h) (emitted_prepared m s which bytes read c.valid c.few)
-    by save_live e h = subst IsPreparedWhere (sym h.is) (prepared_law m s which h.parts bytes (live_rewriting m s which h.parts c e h.live) read)
+    by save_all e h = subst IsPreparedWhere (sym h.is) (emitted_prepared m s which h.pieces bytes read c.valid h.slim c.few)
+    by save_live e h = subst IsPreparedWhere (sym h.is) (prepared_law m s which h.pieces h.parts bytes (live_rewriting m s which q c e h) read)

@@ -8,13 +8,14 @@ use Rattle.wa_types.specs.Leb.{shortest}
 use Rattle.wa_types.specs.Pausing.{Callee, Numbered, Settings, callee, callee_onto, calls_in, calls_of, has_number}
 use Rattle.wa_types.specs.Pruned.{is_last, pruned}
 use Rattle.wa_types.specs.Syntax.{basic, local_get, local_set, local_tee, br, br_if, br_table, return, unreachable, call, call_indirect, Plain, Code, done, plain, nest, branch, Func, Module}
-use Rattle.wa_types.proofs.FileWriting.{written_spells}
+use Rattle.file_laws.proofs.FileWriting.{written_spells}
 use Rattle.live_form.specs.PlainFrames.{SavedParts}
 use Rattle.live_form.proofs.EmittedSo.{numbered_few}
 use Rattle.prepared_modules.proofs.Grown.{enc_length}
 use Rattle.prepared_modules.proofs.Lengths.{entries_within}
 use Rattle.prepared_modules.proofs.LengthBy.{AllCodesShort, emitted_few, emitted_short, entry}
 use Rattle.prepared_modules.proofs.Prepared.{prepared_by}
+use Rattle.live_form.specs.SlimModule.{Pieces}
 use Rattle.live_form.specs.Laws.{LiveRewriting}
 use Rattle.live_form.specs.LiveParts.{live_asyncified, live_codes}
 use Rattle.live_form.proofs.LiveModules.{few_codes, hold, well_formed_law}
@@ -96,20 +97,21 @@ all_more (f ∷ fs) = omega (arith, sum_by-cons more f fs, all_more fs, length-a
 pub entries_short : (m : Module) → length (flat_map entry m.funcs) ≤ length (Enc m)
 entries_short m = omega (arith, enc_length m, entries_within 10 entry m.funcs)
 
-module _ (m : Module) (s : Settings) (which : List Bool) (parts : (index : ℕ) → SavedParts) (r : LiveRewriting m s which parts) where
-  codes_short : AllCodesShort m which (live_codes parts) more
-  codes_short x f is told = omega (arith, few_codes m s which parts r x f is told, numbers_take m s which f)
+module _ (m : Module) (s : Settings) (which : List Bool) (pieces : (index : ℕ) → Pieces) (parts : (index : ℕ) → SavedParts) (r : LiveRewriting m s which pieces parts) where
+  codes_short : AllCodesShort m which (live_codes pieces parts) more
+  codes_short x f is told = omega (arith, few_codes m s which pieces parts r x f is told, numbers_take m s which f)
 
 pub few_law : LiveHasFewLocals
-few_law m s which parts r = emitted_few m s which (live_codes parts) r.sizes r.few
+few_law m s which pieces parts r = emitted_few m s which (live_codes pieces parts) r.sizes r.few
 
 pub short_law : LiveIsShort
-short_law m s which parts r n l =
-    emitted_short m s which (live_codes parts) r.sizes r.few more (codes_short m s which parts r) n (omega (arith, l)) (omega (arith, all_more m.funcs, entries_short m, l))
+short_law m s which pieces parts r n l =
+    emitted_short m s which (live_codes pieces parts) r.sizes r.few more r.slim (codes_short m s which pieces parts r) n (omega (arith, l))
+    (omega (arith, all_more m.funcs, entries_short m, l))
 
 pub spelled_law : LiveIsSpelled
-spelled_law m s which parts r wf short =
-    written_spells (live_asyncified m s which parts) (well_formed_law m s which parts r wf) (few_law m s which parts r) (omega (arith, short))
+spelled_law m s which pieces parts r wf short =
+    written_spells (live_asyncified m s which pieces parts) (well_formed_law m s which pieces parts r wf) (few_law m s which pieces parts r) (omega (arith, short))
 
 pub prepared_law : LiveIsPrepared
-prepared_law m s which parts bytes r read short spelled = prepared_by m s which (live_codes parts) bytes read r.valid (hold m s which parts r) r.few short spelled
+prepared_law m s which pieces parts bytes r read short spelled = prepared_by m s which (live_codes pieces parts) bytes read r.valid (hold m s which pieces parts r) r.few short spelled

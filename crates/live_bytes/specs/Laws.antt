@@ -10,28 +10,32 @@ use Rattle.wa_types.specs.Syntax.{Module}
 use Rattle.wasm_encode.specs.Modules.{FewLocals}
 use Rattle.wasm_reader.specs.Answers.{IsAccepted}
 use Rattle.live_form.specs.PlainFrames.{SavedParts}
+use Rattle.live_form.specs.SlimModule.{Pieces}
 use Rattle.live_form.specs.Laws.{LiveRewriting}
 use Rattle.live_form.specs.LiveParts.{live_asyncified}
 
 -- The functions of the emitted module declare few locals,
 abbrev pub LiveHasFewLocals : Type 0
-LiveHasFewLocals = (m : Module) (s : Settings) (which : List Bool) (parts : (index : ℕ) → SavedParts) → LiveRewriting m s which parts → FewLocals (live_asyncified m s which parts)
+LiveHasFewLocals =
+    (m : Module) (s : Settings) (which : List Bool) (pieces : (index : ℕ) → Pieces) (parts : (index : ℕ) → SavedParts) → LiveRewriting m s which pieces parts
+    → FewLocals (live_asyncified m s which pieces parts)
 
 -- its bytes are fewer than 2 ^ 64 where those of the original are far fewer,
 abbrev pub LiveIsShort : Type 0
 LiveIsShort =
-    (m : Module) (s : Settings) (which : List Bool) (parts : (index : ℕ) → SavedParts) → LiveRewriting m s which parts → length m.funcs ≤ 100000 → length (Enc m) ≤ 2 ^ 36
-    → length (Enc (live_asyncified m s which parts)) < 2 ^ 64
+    (m : Module) (s : Settings) (which : List Bool) (pieces : (index : ℕ) → Pieces) (parts : (index : ℕ) → SavedParts) → LiveRewriting m s which pieces parts
+    → length m.funcs ≤ 100000 → length (Enc m) ≤ 2 ^ 36 → length (Enc (live_asyncified m s which pieces parts)) < 2 ^ 64
 
 -- and what is written of it, where that isn't long, spells its norm.
 abbrev pub LiveIsSpelled : Type 0
 LiveIsSpelled =
-    (m : Module) (s : Settings) (which : List Bool) (parts : (index : ℕ) → SavedParts) → LiveRewriting m s which parts → WellFormed m
-    → length (Enc (live_asyncified m s which parts)) ≤ 67108864 → SpellsModule (Enc (live_asyncified m s which parts)) (Norm (live_asyncified m s which parts))
+    (m : Module) (s : Settings) (which : List Bool) (pieces : (index : ℕ) → Pieces) (parts : (index : ℕ) → SavedParts) → LiveRewriting m s which pieces parts → WellFormed m
+    → length (Enc (live_asyncified m s which pieces parts)) ≤ 67108864 → SpellsModule (Enc (live_asyncified m s which pieces parts)) (Norm (live_asyncified m s which pieces parts))
 
 -- Of a source module it has no float, and passes no bound of a prepared module.
 abbrev pub LiveIsPrepared : Type 0
 LiveIsPrepared =
-    (m : Module) (s : Settings) (which : List Bool) (parts : (index : ℕ) → SavedParts) (bytes : List ℕ) → LiveRewriting m s which parts → IsAccepted source_bounds bytes m
-    → length (Enc (live_asyncified m s which parts)) ≤ 67108864 → SpellsModule (Enc (live_asyncified m s which parts)) (Norm (live_asyncified m s which parts))
-    → IsAccepted prepared_bounds (Enc (live_asyncified m s which parts)) (Norm (live_asyncified m s which parts))
+    (m : Module) (s : Settings) (which : List Bool) (pieces : (index : ℕ) → Pieces) (parts : (index : ℕ) → SavedParts) (bytes : List ℕ) → LiveRewriting m s which pieces parts
+    → IsAccepted source_bounds bytes m
+    → length (Enc (live_asyncified m s which pieces parts)) ≤ 67108864 → SpellsModule (Enc (live_asyncified m s which pieces parts)) (Norm (live_asyncified m s which pieces parts))
+    → IsAccepted prepared_bounds (Enc (live_asyncified m s which pieces parts)) (Norm (live_asyncified m s which pieces parts))

@@ -27,9 +27,10 @@ use Rattle.call_frames.specs.PlainFrames.{FramesSmall, SavedParts, call_fields, 
 use Rattle.call_frames.specs.PlainLaws.{PlainCodes, PlainSmall, PlainTyped}
 use Rattle.call_frames.proofs.PlainBounds.{cost_law, size_law}
 use Rattle.call_frames.proofs.PlainHeld.{depth_law, held_law}
-use Rattle.call_frames.proofs.PlainTold.{fields_law, tell_law}
+use Rattle.call_frames.proofs.PlainTold.{calls_small as named_small, fields_law, tell_law}
 use Rattle.call_frames.proofs.PlainTypes.{restore_law, save_law}
 use Rattle.live_guards.specs.LiveFrames as Live
+use Rattle.live_guards.specs.SlimModule.{Pieces, SlimPieces}
 use Rattle.rewrite_runs.specs.EmittedBy.{FrameCode}
 use Rattle.rewrite_runs.specs.CodesHold.{codes_size, CodeTyped, CodesHold, three}
 use Rattle.rewrite_runs.proofs.EmittedBy.{defined_where}
@@ -49,8 +50,8 @@ there_is [] k lt = absurd (omega (arith, lt))
 there_is (x ∷ xs) zero lt = (x, refl)
 there_is (x ∷ xs) (suc k) lt = there_is xs k (omega (arith, lt))
 
-module _ (m : Module) (s : Settings) (which : List Bool) (valid : Valid m) (sizes : StrictSizeRule m) (x : ℕ) (f : Func) (p : SavedParts)
-    (is : defined_at m x ≡ Some f) (some : 0 < length (Numbered m s which f)) (few : Count m f ≤ 50000) (owed : LiveParts m s which x f p) where
+module _ (m : Module) (s : Settings) (which : List Bool) (valid : Valid m) (sizes : StrictSizeRule m) (x : ℕ) (f : Func) (ps : Pieces) (p : SavedParts)
+    (is : defined_at m x ≡ Some f) (some : 0 < length (Numbered m s which f)) (few : Count m f ≤ 50000) (slim : SlimPieces m (Numbered m s which f) x f ps) (owed : LiveParts m s which x f p) where
   abbrev n : ℕ
   n = length (Numbered m s which f)
 
@@ -58,7 +59,7 @@ module _ (m : Module) (s : Settings) (which : List Bool) (valid : Valid m) (size
   w = code_weight m (pruned f.body)
 
   abbrev codes : FrameCode
-  codes = live_codes (λ y. p) x f
+  codes = live_codes (λ y. ps) (λ y. p) x f
 
   abbrev locals : List ValType
   locals = (flattened m x f).locals ++ three
@@ -181,6 +182,7 @@ module _ (m : Module) (s : Settings) (which : List Bool) (valid : Valid m) (size
 
   pub live_hold : s.policy ≡ save_live → CodesHold m s which x f codes
   live_hold policy = record {
+    slim = slim;
     restoring_typed = restoring_typed;
     saving_typed = saving_typed;
     restoring_quiet = record { calls = restoring_fits.calls; lists = restoring_fits.lists; depth = depth_law.restoring p plain_small };
@@ -201,20 +203,24 @@ module _ (m : Module) (s : Settings) (which : List Bool) (valid : Valid m) (size
 
   call_cost : (k place : ℕ) → slice_get (Numbered m s which f) k ≡ Some place → save_bound_at (frames_of p) k + restore_bound_at (frames_of p) k ≤ 64 * (Weight m f + 4)
   call_cost k place at =
-      let a = cost_law p k owed.named in
-      let b = owed.numbers in
+      let a = cost_law p k in
+      let b = owed.tests in
       let c = numbers_few m s which f in
+      let l = counted m x f in
       let d = ap kept_count (owed.fields k place at) in
       let e = all_kept (saved place) in
       let g = saved_few m f place in
       let where_ = defined_where m x f is in
       let h = slots_are_few m where_.0 f valid where_.1 in
       let i = counts_less (pruned f.body) in
-      let j = code_weighs m (pruned f.body) in omega (arith, a, b, c, d, e, g, h, i, j)
+      let j = code_weighs m (pruned f.body) in omega (arith, a, b, c, l, d, e, g, h, i, j)
 
   pub live_kept : PartsKeepLive m s which x f (frames_of p)
   live_kept = record {
-    tells = tell_law p apart frames_small;
+    tells =
+        let c = owed.count in
+        let n = calls_small in
+        tell_law p apart (omega (arith, c, n)) (named_small (shared_size (parts_of p.index p.parts)) p.parts plain_small.parts) frames_small;
     count = let c = owed.count in omega (arith, c);
     address = owed.address;
     index = owed.index;

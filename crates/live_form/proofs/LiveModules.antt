@@ -1,5 +1,5 @@
 -- The module that the policy `live` emits is its original, rewritten.
-use Rattle.std.proofs.Common.{◌∙◌, ◌≡◌, ◌≤◌, ℕ, ◌+◌, ◌*◌, List, [], length, Option, Some, None, Bool, true, sym, ap}
+use Rattle.std.proofs.Common.{◌≡◌, ◌≤◌, ℕ, ◌+◌, ◌*◌, List, [], length, Option, Some, None, Bool, true, sym, ap}
 use Rattle.std.specs.Prelude.{slice_get}
 use Rattle.wa_types.specs.Modules.{defined_at}
 use Rattle.wa_types.specs.Pausing.{Numbered, Settings, is_told}
@@ -11,12 +11,13 @@ use Rattle.live_guards.proofs.BlockingRuns.{well_formed_in}
 use Rattle.call_frames.specs.PlainFrames.{SavedParts, frames_of}
 use Rattle.live_guards.specs.Joined.{one_frame}
 use Rattle.live_guards.specs.SlimModule.{Pieces}
-use Rattle.live_guards.specs.Emitted.{Emitted, Framing, plain_at, plain_where}
+use Rattle.live_guards.specs.Emitted.{Emitted, Framing}
 use Rattle.rewrite_runs.specs.CodesHold.{AllCodesHold, AllCodesSmall, codes_size}
+use Rattle.rewrite_runs.specs.EmittedBy.{FrameCode}
 use Rattle.rewrite_runs.proofs.EmittedRewritten.{emitted_valid, rewritten_but_runs, runs_law}
 use Rattle.rewrite_runs.proofs.EmittedSizes.{emitted_sizes}
 use Rattle.rewrite_runs.proofs.FitsBy.{AllCodesFit, emitted_fits}
-use Rattle.rewrite_runs.proofs.EmittedSo.{HaveCodes, HavePlainPieces, emitted_so}
+use Rattle.rewrite_runs.proofs.EmittedSo.{HaveCodes, emitted_so}
 use Rattle.live_guards.specs.ByCallFraming.{framing_by_call}
 use Rattle.live_guards.specs.LiveFraming.{LiveFraming}
 use Rattle.live_guards.proofs.ByCallFramed.{by_call_framed}
@@ -26,19 +27,19 @@ use Rattle.live_form.specs.LiveParts.{live_asyncified, live_codes}
 use Rattle.live_form.proofs.CallCounts.{told_calls}
 use Rattle.live_form.proofs.LiveHold.{live_few, live_fits, live_hold, live_kept, live_small}
 
-module _ (m : Module) (s : Settings) (which : List Bool) (parts : (index : ℕ) → SavedParts) (r : LiveRewriting m s which parts) where
-  pub hold : AllCodesHold m s which (live_codes parts)
-  hold x f is told = live_hold m s which r.valid r.sizes x f (parts x) is (told_calls m s which r.tells x f is told) (r.few x f is told) (r.live x f is told) r.policy
+module _ (m : Module) (s : Settings) (which : List Bool) (pieces : (index : ℕ) → Pieces) (parts : (index : ℕ) → SavedParts) (r : LiveRewriting m s which pieces parts) where
+  pub hold : AllCodesHold m s which (live_codes pieces parts)
+  hold x f is told = live_hold m s which r.valid r.sizes x f (pieces x) (parts x) is (told_calls m s which r.tells x f is told) (r.few x f is told) (r.slim x f is told) (r.live x f is told) r.policy
 
-  small : AllCodesSmall m which (live_codes parts)
-  small x f is told = live_small m s which r.valid r.sizes x f (parts x) is (told_calls m s which r.tells x f is told) (r.few x f is told) (r.live x f is told)
+  small : AllCodesSmall m which (live_codes pieces parts)
+  small x f is told = live_small m s which r.valid r.sizes x f (pieces x) (parts x) is (told_calls m s which r.tells x f is told) (r.few x f is told) (r.slim x f is told) (r.live x f is told)
 
   -- the codes of a function are few by how many numbered calls it has
-  pub few_codes : (x : ℕ) (f : Func) → defined_at m x ≡ Some f → is_told (slice_get which x) ≡ true → codes_size (live_codes parts x f) ≤ 32 + 1500000 * length (Numbered m s which f)
-  few_codes x f is told = live_few m s which r.valid r.sizes x f (parts x) is (told_calls m s which r.tells x f is told) (r.few x f is told) (r.live x f is told)
+  pub few_codes : (x : ℕ) (f : Func) → defined_at m x ≡ Some f → is_told (slice_get which x) ≡ true → codes_size (live_codes pieces parts x f) ≤ 32 + 1500000 * length (Numbered m s which f)
+  few_codes x f is told = live_few m s which r.valid r.sizes x f (pieces x) (parts x) is (told_calls m s which r.tells x f is told) (r.few x f is told) (r.slim x f is told) (r.live x f is told)
 
-  fit : AllCodesFit m which (live_codes parts)
-  fit x f is told = live_fits m s which r.valid r.sizes x f (parts x) is (told_calls m s which r.tells x f is told) (r.few x f is told) (r.live x f is told)
+  fit : AllCodesFit m which (live_codes pieces parts)
+  fit x f is told = live_fits m s which r.valid r.sizes x f (pieces x) (parts x) is (told_calls m s which r.tells x f is told) (r.few x f is told) (r.slim x f is told) (r.live x f is told)
 
   -- ---- its frames
 
@@ -47,47 +48,47 @@ module _ (m : Module) (s : Settings) (which : List Bool) (parts : (index : ℕ) 
   framing_of pieces p (Some f) = framing_by_call m s which f pieces (frames_of p)
 
   abbrev frames : (index : ℕ) → Framing
-  frames x = framing_of (plain_at m s which x) (parts x) (defined_at m x)
+  frames x = framing_of (pieces x) (parts x) (defined_at m x)
 
-  frames_are : (x : ℕ) (f : Func) → defined_at m x ≡ Some f → frames x ≡ framing_by_call m s which f (plain_at m s which x) (frames_of (parts x))
-  frames_are x f is = ap (framing_of (plain_at m s which x) (parts x)) is
+  frames_are : (x : ℕ) (f : Func) → defined_at m x ≡ Some f → frames x ≡ framing_by_call m s which f (pieces x) (frames_of (parts x))
+  frames_are x f is = ap (framing_of (pieces x) (parts x)) is
 
-  plain : HavePlainPieces m s which frames
-  plain x f is = ap (λ (z : Framing). z.pieces) (frames_are x f is) ∙ ap (plain_where m s which x) is
+  abbrev code_of : Framing → FrameCode
+  code_of z = record { pieces = z.pieces; restoring = z.restoring; saving = z.saving }
 
-  have : HaveCodes m (live_codes parts) frames
-  have x f is = ap (λ (z : Framing). record { restoring = z.restoring; saving = z.saving }) (sym (frames_are x f is))
+  have : HaveCodes m (live_codes pieces parts) frames
+  have x f is = ap code_of (sym (frames_are x f is))
 
   framed : LiveFraming m s which frames
   framed x f is told k place at =
-      by_call_framed m s which frames x f (plain_at m s which x) (frames_of (parts x)) (frames_are x f is)
-      (live_kept m s which r.valid r.sizes x f (parts x) is (told_calls m s which r.tells x f is told) (r.few x f is told) (r.live x f is told)) k place at
+      by_call_framed m s which frames x f (pieces x) (frames_of (parts x)) (frames_are x f is)
+      (live_kept m s which r.valid r.sizes x f (pieces x) (parts x) is (told_calls m s which r.tells x f is told) (r.few x f is told) (r.slim x f is told) (r.live x f is told)) k place at
 
   -- ---- the module
 
-  live_valid : FreeOfNames m → Valid (live_asyncified m s which parts)
-  live_valid free = emitted_valid m s which (live_codes parts) r.valid hold free
+  live_valid : FreeOfNames m → Valid (live_asyncified m s which pieces parts)
+  live_valid free = emitted_valid m s which (live_codes pieces parts) r.valid hold free
 
-  live_emitted : FreeOfNames m → Emitted m s which frames (live_asyncified m s which parts)
-  live_emitted free = emitted_so m s which (live_codes parts) frames r.valid have plain hold free r.sizes r.few r.tells
+  live_emitted : FreeOfNames m → Emitted m s which frames (live_asyncified m s which pieces parts)
+  live_emitted free = emitted_so m s which (live_codes pieces parts) frames r.valid have hold free r.sizes r.few r.tells
 
-  live_behaves : FreeOfNames m → Behaves m s (live_asyncified m s which parts)
+  live_behaves : FreeOfNames m → Behaves m s (live_asyncified m s which pieces parts)
   live_behaves free wf told tells plan os n cmp pauses =
-      live_emitted_behave m s which frames (live_asyncified m s which parts) r.valid (live_valid free)
-      (well_formed_in (live_asyncified m s which parts) (emitted_fits m s which (live_codes parts) r.valid wf r.sizes hold fit r.few))
+      live_emitted_behave m s which frames (live_asyncified m s which pieces parts) r.valid (live_valid free)
+      (well_formed_in (live_asyncified m s which pieces parts) (emitted_fits m s which (live_codes pieces parts) r.valid wf r.sizes hold fit r.few))
       r.policy r.tells (live_emitted free) framed wf told tells plan os n cmp pauses
 
 pub valid_law : LiveIsValid
-valid_law m s which parts r free = live_valid m s which parts r free
+valid_law m s which pieces parts r free = live_valid m s which pieces parts r free
 
 pub rewritten_law : LiveIsRewritten
-rewritten_law m s which parts r free = rewritten_but_runs m s which (live_codes parts) r.valid (hold m s which parts r) r.tells free
+rewritten_law m s which pieces parts r free = rewritten_but_runs m s which (live_codes pieces parts) r.valid (hold m s which pieces parts r) r.tells free
 
 pub rewrites_law : LiveRewrites
-rewrites_law m s which parts r free = runs_law m s (live_asyncified m s which parts) (rewritten_law m s which parts r free) (live_behaves m s which parts r free)
+rewrites_law m s which pieces parts r free = runs_law m s (live_asyncified m s which pieces parts) (rewritten_law m s which pieces parts r free) (live_behaves m s which pieces parts r free)
 
 pub sizes_law : LiveKeepsSizes
-sizes_law m s which parts r = emitted_sizes m s which (live_codes parts) r.valid r.sizes (hold m s which parts r) (small m s which parts r) r.few
+sizes_law m s which pieces parts r = emitted_sizes m s which (live_codes pieces parts) r.valid r.sizes (hold m s which pieces parts r) (small m s which pieces parts r) r.few
 
 pub well_formed_law : LiveIsWellFormed
-well_formed_law m s which parts r wf = emitted_fits m s which (live_codes parts) r.valid wf r.sizes (hold m s which parts r) (fit m s which parts r) r.few
+well_formed_law m s which pieces parts r wf = emitted_fits m s which (live_codes pieces parts) r.valid wf r.sizes (hold m s which pieces parts r) (fit m s which pieces parts r) r.few

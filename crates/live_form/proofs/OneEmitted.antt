@@ -1,13 +1,15 @@
--- One module is emitted: what the calls of a function keep makes the parts of its frames.
+-- One module is emitted: its pieces are chosen, and what the calls of a function keep makes the parts of its frames.
 use Rattle.std.proofs.Common.{◌≡◌, ◌∙◌, ℕ, suc, ◌+◌, List, [], ◌∷◌, Some, Bool, true, false, refl, sym, ap, arith}
 use Rattle.std.specs.Prelude.{slice_get, if◌then◌else◌}
-use Rattle.wa_types.specs.Modules.{func_imports}
+use Rattle.wa_types.specs.Modules.{defined_at, func_imports}
 use Rattle.wa_types.specs.Pausing.{Policy, Settings, is_told, save_all, save_live}
 use Rattle.wa_types.specs.Runtime.{with_runtime}
 use Rattle.wa_types.specs.Syntax.{Func, Module}
 use Rattle.call_frames.specs.PlainFrames.{SavedPart, SavedParts}
-use Rattle.rewrite_runs.specs.EmittedBy.{FrameCode, func_by, funcs_by, written_by}
+use Rattle.rewrite_runs.specs.EmittedBy.{FrameCode, asyncified_by, func_by, funcs_by, written_by}
 use Rattle.rewrite_runs.proofs.EmittedBy.{defined_of}
+use Rattle.live_guards.specs.SlimModule.{Pieces}
+use Rattle.rewrite_runs.specs.Emitted.{ChosenPieces, layout_codes}
 use Rattle.live_form.specs.EmittedAs.{EmittedUnder}
 use Rattle.live_form.specs.LiveParts.{LiveParts, live_codes}
 use Rattle.live_form.specs.PolicyLaws.{OneIsEmitted}
@@ -23,42 +25,49 @@ one_parts m s which x f p q a b =
     ∙ ap (λ c. parts_of q.count q.address q.index c p.parts) (a.scratch ∙ sym b.scratch)
     ∙ ap (λ ps. parts_of q.count q.address q.index q.scratch ps) (a.made ∙ sym b.made)
 
-module _ (m : Module) (s : Settings) (which : List Bool) where
-  written_with : (x : ℕ) (f : Func) (ps qs : (index : ℕ) → SavedParts) → ps x ≡ qs x → written_by m s which (live_codes ps) x f ≡ written_by m s which (live_codes qs) x f
-  written_with x f ps qs e = ap (λ (p : SavedParts). written_by m s which (live_codes (λ y. p)) x f) e
+pub one_choice : (m : Module) (s : Settings) (which : List Bool) (x : ℕ) (f : Func) (p q : Pieces) → ChosenPieces m s which x f p → ChosenPieces m s which x f q → p ≡ q
+one_choice m s which x f p q a b = a ∙ sym b
 
-  one_func : (x : ℕ) (f : Func) (ps qs : (index : ℕ) → SavedParts) → (is_told (slice_get which x) ≡ true → ps x ≡ qs x) → func_by m s which (live_codes ps) x f ≡ func_by m s which (live_codes qs) x f
-  one_func x f ps qs = by (is_told (slice_get which x))
+module _ (m : Module) (s : Settings) (which : List Bool) (c d : (index : ℕ) → Func → FrameCode) where
+  one_func : (x : ℕ) (f : Func) → (is_told (slice_get which x) ≡ true → c x f ≡ d x f) → func_by m s which c x f ≡ func_by m s which d x f
+  one_func x f = by (is_told (slice_get which x))
     where
-      by : (b : Bool) → (b ≡ true → ps x ≡ qs x)
-          → (if b then written_by m s which (live_codes ps) x f else f) ≡ (if b then written_by m s which (live_codes qs) x f else f)
-      by true h = written_with x f ps qs (h refl)
+      by : (b : Bool) → (b ≡ true → c x f ≡ d x f) → (if b then written_by m s which c x f else f) ≡ (if b then written_by m s which d x f else f)
+      by true h = ap (λ (k : FrameCode). written_by m s which (λ y g. k) x f) (h refl)
       by false h = refl
 
-  one_funcs : (ps qs : (index : ℕ) → SavedParts) (x : ℕ) (fs : List Func)
-      → ((i : ℕ) (f : Func) → slice_get fs i ≡ Some f → func_by m s which (live_codes ps) (x + i) f ≡ func_by m s which (live_codes qs) (x + i) f)
-      → funcs_by m s which (live_codes ps) x fs ≡ funcs_by m s which (live_codes qs) x fs
-  one_funcs ps qs x [] h = refl
-  one_funcs ps qs x (f ∷ fs) h =
+  one_funcs : (x : ℕ) (fs : List Func) → ((i : ℕ) (f : Func) → slice_get fs i ≡ Some f → func_by m s which c (x + i) f ≡ func_by m s which d (x + i) f)
+      → funcs_by m s which c x fs ≡ funcs_by m s which d x fs
+  one_funcs x [] h = refl
+  one_funcs x (f ∷ fs) h =
       let z : x + 0 ≡ x = omega arith in
-      let first : func_by m s which (live_codes ps) x f ≡ func_by m s which (live_codes qs) x f =
-      ap (λ y. func_by m s which (live_codes ps) y f) (sym z) ∙ h 0 f refl ∙ ap (λ y. func_by m s which (live_codes qs) y f) z in
-      ap (λ k. k ∷ funcs_by m s which (live_codes ps) (suc x) fs) first
-      ∙ ap (λ ks. func_by m s which (live_codes qs) x f ∷ ks)
-      (one_funcs ps qs (suc x) fs
-      (λ i g e. let n : suc x + i ≡ x + suc i = omega arith in
-      ap (λ y. func_by m s which (live_codes ps) y g) n ∙ h (suc i) g e ∙ ap (λ y. func_by m s which (live_codes qs) y g) (sym n)))
+      let first : func_by m s which c x f ≡ func_by m s which d x f =
+      ap (λ y. func_by m s which c y f) (sym z) ∙ h 0 f refl ∙ ap (λ y. func_by m s which d y f) z in
+      ap (λ k. k ∷ funcs_by m s which c (suc x) fs) first
+      ∙ ap (λ ks. func_by m s which d x f ∷ ks)
+      (one_funcs (suc x) fs
+      (λ i g e. let n : suc x + i ≡ x + suc i = omega arith in ap (λ y. func_by m s which c y g) n ∙ h (suc i) g e ∙ ap (λ y. func_by m s which d y g) (sym n)))
+
+  -- Codes that agree where functions are told make one module.
+  one_module : ((x : ℕ) (f : Func) → defined_at m x ≡ Some f → is_told (slice_get which x) ≡ true → c x f ≡ d x f) → asyncified_by m s which c ≡ asyncified_by m s which d
+  one_module same =
+      ap (λ fs. with_runtime (record m { funcs = fs }))
+      (one_funcs (func_imports m) m.funcs (λ i f e. one_func (func_imports m + i) f (λ told. same (func_imports m + i) f (defined_of m i f e) told)))
 
 pub one_emitted : OneIsEmitted
 one_emitted m s which p q = by s.policy
   where
     by : (y : Policy) → EmittedUnder y m s which p → EmittedUnder y m s which q → p ≡ q
-    by save_all a b = a ∙ sym b
+    by save_all a b =
+        a.is
+        ∙ one_module m s which (layout_codes m s which a.pieces) (layout_codes m s which b.pieces)
+        (λ x f is told. ap (λ (ps : Pieces). layout_codes m s which (λ y. ps) x f)
+        (one_choice m s which x f (a.pieces x) (b.pieces x) (a.chosen x f is told) (b.chosen x f is told)))
+        ∙ sym b.is
     by save_live a b =
         a.is
-        ∙ ap (λ fs. with_runtime (record m { funcs = fs }))
-        (one_funcs m s which a.parts b.parts (func_imports m) m.funcs
-        (λ i f e. one_func m s which (func_imports m + i) f a.parts b.parts
-        (λ told. one_parts m s which (func_imports m + i) f (a.parts (func_imports m + i)) (b.parts (func_imports m + i))
-        (a.live (func_imports m + i) f (defined_of m i f e) told) (b.live (func_imports m + i) f (defined_of m i f e) told))))
+        ∙ one_module m s which (live_codes a.pieces a.parts) (live_codes b.pieces b.parts)
+        (λ x f is told. ap (λ (ps : Pieces). live_codes (λ y. ps) a.parts x f)
+        (one_choice m s which x f (a.pieces x) (b.pieces x) (a.chosen x f is told) (b.chosen x f is told))
+        ∙ ap (λ (ps : SavedParts). live_codes b.pieces (λ y. ps) x f) (one_parts m s which x f (a.parts x) (b.parts x) (a.live x f is told) (b.live x f is told)))
         ∙ sym b.is

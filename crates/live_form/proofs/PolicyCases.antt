@@ -2,149 +2,197 @@
 use Rattle.std.proofs.Common.{◌≡◌, ◌∙◌, ℕ, zero, suc, ◌+◌, ◌-◌, List, [], ◌∷◌, Some, None, Bool, true, false, refl, sym, ap, subst, arith}
 use Rattle.std.specs.Prelude.{slice_get, nat_lt, if◌then◌else◌}
 use Rattle.std.proofs.lemmas.Bool.{ltb-false}
-use Rattle.wa_types.specs.Modules.{func_imports}
-use Rattle.wa_types.specs.Pausing.{Policy, Settings, is_told, save_all, save_live}
+use Rattle.wa_types.specs.Modules.{defined_at, func_imports}
+use Rattle.wa_types.specs.Pausing.{Numbered, Policy, Settings, is_told, save_all, save_live}
 use Rattle.wa_types.specs.Runtime.{with_runtime}
 use Rattle.wa_types.specs.Sizes.{SizeRule}
-use Rattle.wa_types.specs.Syntax.{Func, Module}
+use Rattle.wa_types.specs.Syntax.{done, Func, Module}
 use Rattle.wa_types.specs.Validity.{Valid}
 use Rattle.wa_model.specs.Rewrites.{Rewrites}
+use Rattle.rewrite_runs.specs.Pieces.{no_unit}
 use Rattle.call_frames.specs.PlainFrames.{SavedParts}
-use Rattle.rewrite_runs.specs.Emitted.{emitted_funcs, written_func}
-use Rattle.rewrite_runs.specs.EmittedBy.{funcs_by}
+use Rattle.live_guards.specs.SlimModule.{Pieces, SlimPieces}
+use Rattle.rewrite_runs.specs.Emitted.{ChosenPieces, layout_codes}
+use Rattle.rewrite_runs.specs.EmittedBy.{FrameCode, funcs_by, written_by}
 use Rattle.rewrite_runs.specs.Rewritten.{RewritesButRuns}
 use Rattle.rewrite_runs.proofs.EmittedRewritten as Rewritten
 use Rattle.rewrite_runs.proofs.EmittedSizes as Sized
 use Rattle.rewrite_runs.proofs.Asyncified.{asyncified_law}
-use Rattle.live_form.specs.EmittedAs.{AreEmitted, EmittedUnder, FunctionsAreEmitted, IsEmittedWhere, IsLiveWritten, IsWrittenUnder, live_written}
+use Rattle.live_form.specs.EmittedAs.{AreEmitted, EmittedUnder, FunctionsAreEmitted, IsAllAsyncified, IsAllWritten, IsEmittedWhere, IsLiveAsyncified, IsLiveWritten, IsWritten, IsWrittenUnder}
 use Rattle.live_form.specs.Laws.{LiveRewriting}
-use Rattle.live_form.specs.LiveParts.{AllLiveParts, LiveParts, live_codes}
+use Rattle.live_form.specs.LiveParts.{LiveParts, live_codes}
 use Rattle.live_form.specs.PolicyLaws.{CanBeEmitted, EmittedAsIsRewritten, EmittedAsIsValid, EmittedAsKeepsSizes, EmittedAsRewrites}
 use Rattle.live_form.proofs.LiveModules as Live
 
 -- ---- laws
 
-pub live_rewriting : (m : Module) (s : Settings) (which : List Bool) (parts : (index : ℕ) → SavedParts) → CanBeEmitted m s which → s.policy ≡ save_live → AllLiveParts m s which parts
-    → LiveRewriting m s which parts
-live_rewriting m s which parts c policy live = record { valid = c.valid; sizes = c.sizes; few = c.few; policy = policy; tells = c.tells; live = live }
+pub live_rewriting : (m : Module) (s : Settings) (which : List Bool) (q : Module) → CanBeEmitted m s which → s.policy ≡ save_live → (h : IsLiveAsyncified m s which q)
+    → LiveRewriting m s which h.pieces h.parts
+live_rewriting m s which q c policy h = record { valid = c.valid; sizes = c.sizes; few = c.few; policy = policy; tells = c.tells; slim = h.slim; live = h.live }
 
 pub valid_as : EmittedAsIsValid
 valid_as m s which q c free = by s.policy refl
   where
     by : (p : Policy) → s.policy ≡ p → EmittedUnder p m s which q → Valid q
-    by save_all e h = subst Valid (sym h) (Rewritten.valid_law m s which c.valid free)
-    by save_live e h = subst Valid (sym h.is) (Live.valid_law m s which h.parts (live_rewriting m s which h.parts c e h.live) free)
+    by save_all e h = subst Valid (sym h.is) (Rewritten.valid_law m s which h.pieces c.valid h.slim free)
+    by save_live e h = subst Valid (sym h.is) (Live.valid_law m s which h.pieces h.parts (live_rewriting m s which q c e h) free)
 
 pub rewritten_as : EmittedAsIsRewritten
 rewritten_as m s which q c free = by s.policy refl
   where
     by : (p : Policy) → s.policy ≡ p → EmittedUnder p m s which q → RewritesButRuns m s q
-    by save_all e h = subst (RewritesButRuns m s) (sym h) (Rewritten.rewritten_law m s which c.valid free c.tells)
-    by save_live e h = subst (RewritesButRuns m s) (sym h.is) (Live.rewritten_law m s which h.parts (live_rewriting m s which h.parts c e h.live) free)
+    by save_all e h = subst (RewritesButRuns m s) (sym h.is) (Rewritten.rewritten_law m s which h.pieces c.valid h.slim free c.tells)
+    by save_live e h = subst (RewritesButRuns m s) (sym h.is) (Live.rewritten_law m s which h.pieces h.parts (live_rewriting m s which q c e h) free)
 
 pub rewrites_as : EmittedAsRewrites
 rewrites_as m s which q c free = by s.policy refl
   where
     by : (p : Policy) → s.policy ≡ p → EmittedUnder p m s which q → Rewrites m s q
-    by save_all e h = subst (Rewrites m s) (sym h) (asyncified_law m s which c.valid free c.sizes c.few e c.tells)
-    by save_live e h = subst (Rewrites m s) (sym h.is) (Live.rewrites_law m s which h.parts (live_rewriting m s which h.parts c e h.live) free)
+    by save_all e h = subst (Rewrites m s) (sym h.is) (asyncified_law m s which h.pieces c.valid h.slim free c.sizes c.few e c.tells)
+    by save_live e h = subst (Rewrites m s) (sym h.is) (Live.rewrites_law m s which h.pieces h.parts (live_rewriting m s which q c e h) free)
 
 pub sizes_as : EmittedAsKeepsSizes
 sizes_as m s which q c = by s.policy refl
   where
     by : (p : Policy) → s.policy ≡ p → EmittedUnder p m s which q → SizeRule q
-    by save_all e h = subst SizeRule (sym h) (Sized.sizes_law m s which c.valid c.sizes c.few)
-    by save_live e h = subst SizeRule (sym h.is) (Live.sizes_law m s which h.parts (live_rewriting m s which h.parts c e h.live))
+    by save_all e h = subst SizeRule (sym h.is) (Sized.sizes_law m s which h.pieces c.valid h.slim c.sizes c.few)
+    by save_live e h = subst SizeRule (sym h.is) (Live.sizes_law m s which h.pieces h.parts (live_rewriting m s which q c e h))
 
 -- ---- functions one by one
 
-module _ (m : Module) (s : Settings) (which : List Bool) where
-  -- under `all` they are determined
-  one_all : (policy : s.policy ≡ save_all) (x : ℕ) (f g : Func) (told : Bool) → IsEmittedWhere told m s which x f g → (if told then written_func m s which x f else f) ≡ g
-  one_all policy x f g true h = sym (subst (λ (p : Policy). IsWrittenUnder p m s which x f g) policy h)
-  one_all policy x f g false h = sym h
+-- Functions by what each is written from, and what that owes.
+module _ (m : Module) (s : Settings) (which : List Bool) (W : Type 0) (none : W) (codes : W → (index : ℕ) → Func → FrameCode) (Owed : ℕ → Func → W → Type 0)
+    (from : (x : ℕ) (f g : Func) → IsWritten m s which x f g → (w : W) × Owed x f w × (g ≡ written_by m s which (codes w) x f)) where
+  abbrev one_of : (x : ℕ) (f g : Func) (told : Bool) → IsEmittedWhere told m s which x f g → W
+  one_of x f g true h = (from x f g h).0
+  one_of x f g false h = none
 
-  pub funcs_all : (policy : s.policy ≡ save_all) (x : ℕ) (fs gs : List Func) → AreEmitted m s which x fs gs → emitted_funcs m s which x fs ≡ gs
-  funcs_all policy x [] [] h = refl
-  funcs_all policy x [] (g ∷ gs) h = absurd h
-  funcs_all policy x (f ∷ fs) [] h = absurd h
-  funcs_all policy x (f ∷ fs) (g ∷ gs) h =
-      ap (λ k. k ∷ emitted_funcs m s which (suc x) fs) (one_all policy x f g (is_told (slice_get which x)) h.0) ∙ ap (λ ks. g ∷ ks) (funcs_all policy (suc x) fs gs h.1)
+  -- that of the function at a place
+  abbrev found : (x : ℕ) (fs gs : List Func) → AreEmitted m s which x fs gs → ℕ → W
+  found x [] gs h i = none
+  found x (f ∷ fs) [] h i = none
+  found x (f ∷ fs) (g ∷ gs) h zero = one_of x f g (is_told (slice_get which x)) h.0
+  found x (f ∷ fs) (g ∷ gs) h (suc i) = found (suc x) fs gs h.1 i
 
-  -- under `live` by their parts
+  one_is : (x : ℕ) (f g : Func) (w : W) (told : Bool) → (h : IsEmittedWhere told m s which x f g) → w ≡ one_of x f g told h → (if told then written_by m s which (codes w) x f else f) ≡ g
+  one_is x f g w true h e = ap (λ (v : W). written_by m s which (codes v) x f) e ∙ sym (from x f g h).2
+  one_is x f g w false h e = sym h
+
+  one_owed : (x : ℕ) (f g : Func) (told : Bool) → (h : IsEmittedWhere told m s which x f g) → told ≡ true → Owed x f (one_of x f g told h)
+  one_owed x f g true h e = (from x f g h).1
+  one_owed x f g false h e = cc
+
+  abbrev codes_at : ((index : ℕ) → W) → (index : ℕ) → Func → FrameCode
+  codes_at told x f = codes (told x) x f
+
+  funcs_are : (told : (index : ℕ) → W) (x : ℕ) (fs gs : List Func) → (h : AreEmitted m s which x fs gs) → ((i : ℕ) → told (x + i) ≡ found x fs gs h i)
+      → funcs_by m s which (codes_at told) x fs ≡ gs
+  funcs_are told x [] [] h same = refl
+  funcs_are told x [] (g ∷ gs) h same = absurd h
+  funcs_are told x (f ∷ fs) [] h same = absurd h
+  funcs_are told x (f ∷ fs) (g ∷ gs) h same =
+      let z : x ≡ x + 0 = omega arith in
+      let here : told x ≡ one_of x f g (is_told (slice_get which x)) h.0 = ap told z ∙ same 0 in
+      ap (λ k. k ∷ funcs_by m s which (codes_at told) (suc x) fs) (one_is x f g (told x) (is_told (slice_get which x)) h.0 here)
+      ∙ ap (λ ks. g ∷ ks) (funcs_are told (suc x) fs gs h.1 (λ i. let n : suc x + i ≡ x + suc i = omega arith in ap told n ∙ same (suc i)))
+
+  owed_at : (x : ℕ) (fs gs : List Func) → (h : AreEmitted m s which x fs gs) → (i y : ℕ) (f : Func) → y ≡ x + i → slice_get fs i ≡ Some f → is_told (slice_get which y) ≡ true
+      → Owed y f (found x fs gs h i)
+  owed_at x [] gs h i y f ey e told = cc
+  owed_at x (k ∷ fs) [] h i y f ey e told = absurd h
+  owed_at x (k ∷ fs) (g ∷ gs) h zero y f ey e told =
+      let z : x ≡ y = omega (arith, ey) in
+      let q : k ≡ f = cc in
+      subst (λ (f : Func). Owed y f (one_of x k g (is_told (slice_get which x)) h.0)) q
+      (subst (λ y. Owed y k (one_of x k g (is_told (slice_get which x)) h.0)) z
+      (one_owed x k g (is_told (slice_get which x)) h.0 (ap (λ n. is_told (slice_get which n)) z ∙ told)))
+  owed_at x (k ∷ fs) (g ∷ gs) h (suc i) y f ey e told = owed_at (suc x) fs gs h.1 i y f (omega (arith, ey)) e told
+
+  module _ (gs : List Func) (h : AreEmitted m s which (func_imports m) m.funcs gs) where
+    abbrev pub told_at : (index : ℕ) → W
+    told_at x = found (func_imports m) m.funcs gs h (x - func_imports m)
+
+    pub all_owed : (x : ℕ) (f : Func) → defined_at m x ≡ Some f → is_told (slice_get which x) ≡ true → Owed x f (told_at x)
+    all_owed x f = by (nat_lt x (func_imports m)) refl
+      where
+        by : (b : Bool) → nat_lt x (func_imports m) ≡ b → (if b then None else slice_get m.funcs (x - func_imports m)) ≡ Some f → is_told (slice_get which x) ≡ true
+            → Owed x f (told_at x)
+        by true e is told = cc
+        by false e is told =
+            let le = ltb-false x (func_imports m) e in
+            owed_at (func_imports m) m.funcs gs h (x - func_imports m) x f (omega (arith, le)) is told
+
+    pub all_funcs : funcs_by m s which (codes_at told_at) (func_imports m) m.funcs ≡ gs
+    all_funcs = funcs_are told_at (func_imports m) m.funcs gs h (λ i. let z : (func_imports m + i) - func_imports m ≡ i = omega arith in ap (found (func_imports m) m.funcs gs h) z)
+
+-- ---- policy by policy
+
+abbrev no_pieces : Pieces
+no_pieces = record { first = done; units = no_unit }
+
+module _ (m : Module) (s : Settings) (which : List Bool) (gs : List Func) (h : AreEmitted m s which (func_imports m) m.funcs gs) where
+  -- under `all` by their pieces
+  module _ (policy : s.policy ≡ save_all) where
+    abbrev AllOwed : ℕ → Func → Pieces → Type 0
+    AllOwed x f p = SlimPieces m (Numbered m s which f) x f p × ChosenPieces m s which x f p
+
+    abbrev all_codes : Pieces → (index : ℕ) → Func → FrameCode
+    all_codes p = layout_codes m s which (λ y. p)
+
+    abbrev from_all : (x : ℕ) (f g : Func) → IsWritten m s which x f g → (p : Pieces) × AllOwed x f p × (g ≡ written_by m s which (all_codes p) x f)
+    from_all x f g h = let w : IsAllWritten m s which x f g = subst (λ (p : Policy). IsWrittenUnder p m s which x f g) policy h in (w.pieces, (w.slim, w.chosen), w.is)
+
+    abbrev all_pieces : (index : ℕ) → Pieces
+    all_pieces = told_at m s which Pieces no_pieces all_codes AllOwed from_all gs h
+
+    pub all_emitted : IsAllAsyncified m s which (with_runtime (record m { funcs = gs }))
+    all_emitted =
+        let owed = all_owed m s which Pieces no_pieces all_codes AllOwed from_all gs h in
+        let funcs = all_funcs m s which Pieces no_pieces all_codes AllOwed from_all gs h in
+        record {
+          pieces = all_pieces;
+          slim = λ x f is told. (owed x f is told).0;
+          chosen = λ x f is told. (owed x f is told).1;
+          is = ap (λ fs. with_runtime (record m { funcs = fs })) (sym funcs);
+        }
+
+  -- under `live` by their pieces and parts
   module _ (policy : s.policy ≡ save_live) where
-    abbrev none : SavedParts
-    none = record { count = 0; address = 0; index = 0; scratch = 0; parts = [] }
+    abbrev Told : Type 0
+    Told = Pieces × SavedParts
 
-    abbrev live_one : (x : ℕ) (f g : Func) → IsWrittenUnder s.policy m s which x f g → IsLiveWritten m s which x f g
-    live_one x f g h = subst (λ (p : Policy). IsWrittenUnder p m s which x f g) policy h
+    abbrev none : Told
+    none = (no_pieces, record { count = 0; address = 0; index = 0; scratch = 0; parts = [] })
 
-    abbrev part_one : (x : ℕ) (f g : Func) (told : Bool) → IsEmittedWhere told m s which x f g → SavedParts
-    part_one x f g true h = (live_one x f g h).parts
-    part_one x f g false h = none
+    abbrev LiveOwed : ℕ → Func → Told → Type 0
+    LiveOwed x f p = SlimPieces m (Numbered m s which f) x f p.0 × ChosenPieces m s which x f p.0 × LiveParts m s which x f p.1
 
-    -- the parts of the function at a place
-    abbrev part_at : (x : ℕ) (fs gs : List Func) → AreEmitted m s which x fs gs → ℕ → SavedParts
-    part_at x [] gs h i = none
-    part_at x (f ∷ fs) [] h i = none
-    part_at x (f ∷ fs) (g ∷ gs) h zero = part_one x f g (is_told (slice_get which x)) h.0
-    part_at x (f ∷ fs) (g ∷ gs) h (suc i) = part_at (suc x) fs gs h.1 i
+    abbrev codes_of : Told → (index : ℕ) → Func → FrameCode
+    codes_of p = live_codes (λ y. p.0) (λ y. p.1)
 
-    one_live : (x : ℕ) (f g : Func) (p : SavedParts) (told : Bool) → (h : IsEmittedWhere told m s which x f g) → p ≡ part_one x f g told h → (if told then live_written m s which x f p else f) ≡ g
-    one_live x f g p true h e = ap (live_written m s which x f) e ∙ sym (live_one x f g h).is
-    one_live x f g p false h e = sym h
+    abbrev from_live : (x : ℕ) (f g : Func) → IsWritten m s which x f g → (p : Told) × LiveOwed x f p × (g ≡ written_by m s which (codes_of p) x f)
+    from_live x f g h =
+        let w : IsLiveWritten m s which x f g = subst (λ (p : Policy). IsWrittenUnder p m s which x f g) policy h in ((w.pieces, w.parts), (w.slim, w.chosen, w.live), w.is)
 
-    one_owed : (x : ℕ) (f g : Func) (told : Bool) → (h : IsEmittedWhere told m s which x f g) → told ≡ true → LiveParts m s which x f (part_one x f g told h)
-    one_owed x f g true h e = (live_one x f g h).live
-    one_owed x f g false h e = cc
+    abbrev told : (index : ℕ) → Told
+    told = told_at m s which Told none codes_of LiveOwed from_live gs h
 
-    funcs_live : (parts : (index : ℕ) → SavedParts) (x : ℕ) (fs gs : List Func) → (h : AreEmitted m s which x fs gs) → ((i : ℕ) → parts (x + i) ≡ part_at x fs gs h i)
-        → funcs_by m s which (live_codes parts) x fs ≡ gs
-    funcs_live parts x [] [] h same = refl
-    funcs_live parts x [] (g ∷ gs) h same = absurd h
-    funcs_live parts x (f ∷ fs) [] h same = absurd h
-    funcs_live parts x (f ∷ fs) (g ∷ gs) h same =
-        let z : x ≡ x + 0 = omega arith in
-        let here : parts x ≡ part_one x f g (is_told (slice_get which x)) h.0 = ap parts z ∙ same 0 in
-        ap (λ k. k ∷ funcs_by m s which (live_codes parts) (suc x) fs) (one_live x f g (parts x) (is_told (slice_get which x)) h.0 here)
-        ∙ ap (λ ks. g ∷ ks) (funcs_live parts (suc x) fs gs h.1 (λ i. let n : suc x + i ≡ x + suc i = omega arith in ap parts n ∙ same (suc i)))
-
-    owed_at : (x : ℕ) (fs gs : List Func) → (h : AreEmitted m s which x fs gs) → (i y : ℕ) (f : Func) → y ≡ x + i → slice_get fs i ≡ Some f → is_told (slice_get which y) ≡ true
-        → LiveParts m s which y f (part_at x fs gs h i)
-    owed_at x [] gs h i y f ey e told = cc
-    owed_at x (k ∷ fs) [] h i y f ey e told = absurd h
-    owed_at x (k ∷ fs) (g ∷ gs) h zero y f ey e told =
-        let z : x ≡ y = omega (arith, ey) in
-        let q : k ≡ f = cc in
-        subst (λ (f : Func). LiveParts m s which y f (part_one x k g (is_told (slice_get which x)) h.0)) q
-        (subst (λ y. LiveParts m s which y k (part_one x k g (is_told (slice_get which x)) h.0)) z
-        (one_owed x k g (is_told (slice_get which x)) h.0 (ap (λ n. is_told (slice_get which n)) z ∙ told)))
-    owed_at x (k ∷ fs) (g ∷ gs) h (suc i) y f ey e told = owed_at (suc x) fs gs h.1 i y f (omega (arith, ey)) e told
-
-    module _ (gs : List Func) (h : AreEmitted m s which (func_imports m) m.funcs gs) where
-      abbrev pub parts : (index : ℕ) → SavedParts
-      parts x = part_at (func_imports m) m.funcs gs h (x - func_imports m)
-
-      pub all_owed : AllLiveParts m s which parts
-      all_owed x f = by (nat_lt x (func_imports m)) refl
-        where
-          by : (b : Bool) → nat_lt x (func_imports m) ≡ b → (if b then None else slice_get m.funcs (x - func_imports m)) ≡ Some f → is_told (slice_get which x) ≡ true
-              → LiveParts m s which x f (parts x)
-          by true e is told = cc
-          by false e is told =
-              let le = ltb-false x (func_imports m) e in
-              owed_at (func_imports m) m.funcs gs h (x - func_imports m) x f (omega (arith, le)) is told
-
-      pub all_funcs : funcs_by m s which (live_codes parts) (func_imports m) m.funcs ≡ gs
-      all_funcs = funcs_live parts (func_imports m) m.funcs gs h (λ i. let z : (func_imports m + i) - func_imports m ≡ i = omega arith in ap (part_at (func_imports m) m.funcs gs h) z)
+    pub live_emitted : IsLiveAsyncified m s which (with_runtime (record m { funcs = gs }))
+    live_emitted =
+        let owed = all_owed m s which Told none codes_of LiveOwed from_live gs h in
+        let funcs = all_funcs m s which Told none codes_of LiveOwed from_live gs h in
+        record {
+          pieces = λ x. (told x).0;
+          slim = λ x f is told. (owed x f is told).0;
+          chosen = λ x f is told. (owed x f is told).1;
+          parts = λ x. (told x).1;
+          live = λ x f is told. (owed x f is told).2;
+          is = ap (λ fs. with_runtime (record m { funcs = fs })) (sym funcs);
+        }
 
 pub functions_law : FunctionsAreEmitted
 functions_law m s which gs h = by s.policy refl
   where
     by : (p : Policy) → s.policy ≡ p → EmittedUnder p m s which (with_runtime (record m { funcs = gs }))
-    by save_all e = ap (λ fs. with_runtime (record m { funcs = fs })) (sym (funcs_all m s which e (func_imports m) m.funcs gs h))
-    by save_live e = record {
-      parts = parts m s which e gs h;
-      live = all_owed m s which e gs h;
-      is = ap (λ fs. with_runtime (record m { funcs = fs })) (sym (all_funcs m s which e gs h));
-    }
+    by save_all e = all_emitted m s which gs h e
+    by save_live e = live_emitted m s which gs h e

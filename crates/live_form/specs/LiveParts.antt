@@ -1,4 +1,4 @@
--- The module that the policy `live` emits: its frames are told by numbers of calls, and keep at each call what the policy saves there.
+-- The module that the policy `live` emits: its pieces are slim, its frames are told by numbers of calls, and keep at each call what the policy saves there.
 use Rattle.std.specs.Prelude.{◌≡◌, ◌≤◌, ◌<◌, ℕ, suc, ◌+◌, ◌*◌, List, [], ◌∷◌, length, map, Some, Bool, true, slice_get}
 use Rattle.std.specs.List.{sum_by}
 use Rattle.wa_types.specs.Frames.{Saved}
@@ -8,22 +8,23 @@ use Rattle.wa_types.specs.Runtime.{global_space}
 use Rattle.wa_types.specs.Syntax.{done, Func, Module}
 use Rattle.flat_laws.specs.Flatten.{flattened}
 use Rattle.call_frames.specs.Layout.{FrameField}
-use Rattle.call_classes.specs.CallParts.{call_parts}
+use Rattle.call_classes.specs.CallParts.{call_parts, tests_most}
 use Rattle.call_frames.specs.FrameParts.{restoring_by_call, saving_by_call}
 use Rattle.call_frames.specs.PlainFrames.{SavedPart, at_every, at_these, SavedParts, call_fields, frames_of}
-use Rattle.call_frames.specs.PlainLaws.{NameCalls, named_calls, parts_size, sizes_size}
+use Rattle.call_frames.specs.PlainLaws.{NameCalls, parts_size, sizes_size, tests_cost}
 use Rattle.live_guards.specs.LiveFrames.{fields_at}
+use Rattle.live_guards.specs.SlimModule.{Pieces}
 use Rattle.rewrite_runs.specs.EmittedBy.{FrameCode, asyncified_by}
 
 -- ---- the module
 
--- the codes of the frames of each function
-abbrev pub live_codes : (parts : (index : ℕ) → SavedParts) → (index : ℕ) → Func → FrameCode
-live_codes parts x f = record { restoring = restoring_by_call (frames_of (parts x)) done; saving = saving_by_call (frames_of (parts x)) done }
+-- the pieces of each function, and the codes of its frames
+abbrev pub live_codes : (pieces : (index : ℕ) → Pieces) → (parts : (index : ℕ) → SavedParts) → (index : ℕ) → Func → FrameCode
+live_codes pieces parts x f = record { pieces = pieces x; restoring = restoring_by_call (frames_of (parts x)) done; saving = saving_by_call (frames_of (parts x)) done }
 
--- The module in which each function that may pause is written with such frames, `which` telling them.
-abbrev pub live_asyncified : Module → Settings → (which : List Bool) → (parts : (index : ℕ) → SavedParts) → Module
-live_asyncified m s which parts = asyncified_by m s which (live_codes parts)
+-- The module in which each function that may pause is written with these pieces and such frames, `which` telling them.
+abbrev pub live_asyncified : Module → Settings → (which : List Bool) → (pieces : (index : ℕ) → Pieces) → (parts : (index : ℕ) → SavedParts) → Module
+live_asyncified m s which pieces parts = asyncified_by m s which (live_codes pieces parts)
 
 -- ---- what parts owe
 
@@ -47,9 +48,9 @@ abbrev pub kept_by_calls : Module → Settings → (which : List Bool) → Func 
 kept_by_calls m s which f = map (fields_at m f) (Numbered m s which f)
 
 -- The parts of a function's frames, which are made of what its calls keep: those of each numbered call are in a row what the policy saves
--- there, each names a numbered call and in all no more than there are; and what the codes take by what the calls save.
+-- there, each names a numbered call; what their tests cost is bounded by the locals and the calls, and the codes by what the calls save.
 pub record LiveParts (m : Module) (s : Settings) (which : List Bool) (x : ℕ) (f : Func) (p : SavedParts) : Type 0 where
-  pub made : p.parts ≡ call_parts (kept_by_calls m s which f)
+  pub made : p.parts ≡ call_parts (flattened m x f).locals (kept_by_calls m s which f)
   pub count : p.count ≡ length (Numbered m s which f)
   pub address : p.address ≡ suc (global_space m)
   pub index : p.index ≡ length (flattened m x f).locals
@@ -57,7 +58,7 @@ pub record LiveParts (m : Module) (s : Settings) (which : List Bool) (x : ℕ) (
   pub fields : (k place : ℕ) → slice_get (Numbered m s which f) k ≡ Some place → call_fields k p.parts ≡ fields_at m f place
   pub below : NumbersBelow (length (Numbered m s which f)) p.parts
   pub named : NameCalls p.parts
-  pub numbers : named_calls p.parts ≤ length (Numbered m s which f)
+  pub tests : tests_cost p.parts ≤ tests_most (length (flattened m x f).locals) (length (Numbered m s which f))
   pub size : sizes_size p.parts + 2 * parts_size p.parts ≤ 30 * saved_total m f (Numbered m s which f)
 
 -- so do those of each told function

@@ -1,21 +1,23 @@
 -- Rows of fields and rows of classes, one more behind or in front.
-use Rattle.std.proofs.Common.{◌≡◌, ℕ, ◌+◌, ◌*◌, ◌<◌, ◌≤◌, List, [], ◌∷◌, ◌++◌, length, take, drop, get_or, None, refl, sym, ap, ◌∙◌, arith, length-take}
-use Rattle.std.proofs.lemmas.List.{map_more, take_more, drop_more}
-use Rattle.wa_types.specs.declared.operators.NumOp.TheVariants.{I32Or}
+use Rattle.std.proofs.Common.{◌≡◌, ℕ, zero, suc, All, ◌+◌, ◌*◌, ◌<◌, ◌≤◌, List, [], ◌∷◌, ◌++◌, length, take, drop, get_or, None, refl, sym, ap, ◌∙◌, arith, length-take}
+use Rattle.std.proofs.lemmas.List.{map_more, drop_more, length-map}
+use Rattle.std.proofs.lemmas.List.Elements.{All-head, All-tail}
 use Rattle.wa_types.specs.declared.values.ValType.{ValType}
 use Rattle.wa_types.specs.declared.values.ValType.TheVariants.{I32, I64}
 use Rattle.wa_types.specs.Frames.{width}
-use Rattle.wa_types.specs.Syntax.{num, basic, local_get, local_set, Code, done, plain, branch}
+use Rattle.wa_types.specs.Syntax.{local_get, local_set, Code, done, plain, branch}
 use Rattle.local_spill.specs.Spilling.{stored_value, loaded_value}
 use Rattle.frame_laws.specs.Layout.{FrameField, kept, gap, fields_size, stores, loads}
-use Rattle.call_frames.specs.CallTests.{at_call, at_either}
-use Rattle.call_frames.specs.FrameParts.{parts_stored, parts_loaded, scratch_raised, scratch_lowered}
-use Rattle.call_frames.specs.PlainFrames.{or_calls, at_calls, parts_of, sizes_added}
+use Rattle.call_frames.specs.CallTests.{CallRow, at_either, at_row}
+use Rattle.call_frames.specs.FrameParts.{parts_stored, parts_loaded, scratch_raised, scratch_lowered, shared_size}
+use Rattle.call_frames.specs.PlainFrames.{SavedPart, at_every, at_these, or_rows, at_calls, parts_of, sizes_added}
 use Rattle.call_frames.proofs.FieldRows.{join_size}
 use Rattle.call_classes.specs.declared.frames.CallClass.{CallClass}
 use Rattle.call_classes.specs.declared.frames.KeptLocal.{KeptLocal}
-use Rattle.live_frames.specs.Putting.{calls_joined}
-use Rattle.call_classes.specs.Views.{kept_field, fields_of, class_part, class_parts}
+use Rattle.call_classes.specs.declared.frames.KeptPart.{KeptPart}
+use Rattle.call_classes.specs.Classes.{FewParts, part_fields, shared_fields}
+use Rattle.live_frames.specs.Putting.{rows_joined}
+use Rattle.call_classes.specs.Views.{kept_field, fields_of, part_view, part_views}
 
 -- ---- sizes
 
@@ -80,22 +82,14 @@ loaded_more sp off o xs i d c lt e =
 
 -- ---- tests
 
-joined_behind : (index : ℕ) (ks : List ℕ) (k : ℕ) (c : Code) → calls_joined index (ks ++ k ∷ []) c ≡ calls_joined index ks (at_call index k (plain (basic (num I32Or)) c))
-joined_behind index [] k c = refl
-joined_behind index (j ∷ ks) k c = ap (λ z. at_call index j (plain (basic (num I32Or)) z)) (joined_behind index ks k c)
-
-pub joined_more : (index : ℕ) (ks : List ℕ) (i d : ℕ) (c : Code) → i < length ks
-    → calls_joined index (take i ks) (at_call index (get_or ks i d) (plain (basic (num I32Or)) c)) ≡ calls_joined index (take (i + 1) ks) c
-joined_more index ks i d c lt = sym (joined_behind index (take i ks) (get_or ks i d) c) ∙ ap (λ js. calls_joined index js c) (sym (take_more ks i d lt))
-
--- a test joined with more calls
-pub joined_is : (index : ℕ) (ks : List ℕ) (test : Code → Code) (c : Code) → or_calls index test ks c ≡ test (calls_joined index ks c)
+-- a test joined with those of more rows
+pub joined_is : (index : ℕ) (rs : List CallRow) (test : Code → Code) (c : Code) → or_rows index test rs c ≡ test (rows_joined index rs c)
 joined_is index [] test c = refl
-joined_is index (k ∷ ks) test c = joined_is index ks (at_either test (at_call index k)) c
+joined_is index (r ∷ rs) test c = joined_is index rs (at_either test (at_row index r)) c
 
--- ---- classes
+-- ---- parts
 
--- code under the test of a class
+-- code under the test of these calls
 abbrev pub class_code : (index : ℕ) → CallClass → (arm rest : Code) → Code
 class_code index x arm rest = at_calls index x.calls.items (branch None arm done rest)
 
@@ -108,25 +102,93 @@ stored_arm sp off x = stores sp off (fields_of x.fields.items) (scratch_raised s
 abbrev pub loaded_arm : (sp off : ℕ) → CallClass → Code
 loaded_arm sp off x = scratch_lowered sp (fields_size (fields_of x.fields.items)) (loads sp off (fields_of x.fields.items) done)
 
-added_behind : (index sp : ℕ) (xs : List CallClass) (x : CallClass) (c : Code)
-    → sizes_added index sp (class_parts xs ++ class_part x ∷ []) c ≡ sizes_added index sp (class_parts xs) (class_code index x (raised_arm sp x) c)
-added_behind index sp [] x c = refl
-added_behind index sp (y ∷ xs) x c = ap (λ z. class_code index y (raised_arm sp y) z) (added_behind index sp xs x c)
+-- the bytes of parts that all calls keep
+abbrev pub shared_bytes : (index : ℕ) → List SavedPart → ℕ
+shared_bytes index ps = shared_size (parts_of index ps)
 
-stored_behind : (index sp off : ℕ) (xs : List CallClass) (x : CallClass) (c : Code)
-    → parts_stored sp off (parts_of index (class_parts xs ++ class_part x ∷ [])) c ≡ parts_stored sp off (parts_of index (class_parts xs)) (class_code index x (stored_arm sp off x) c)
-stored_behind index sp off [] x c = refl
-stored_behind index sp off (y ∷ xs) x c = ap (λ z. class_code index y (stored_arm sp off y) z) (stored_behind index sp off xs x c)
+shared_behind : (index : ℕ) (ps : List SavedPart) (p : SavedPart) → shared_bytes index (ps ++ p ∷ []) ≡ shared_bytes index ps + shared_bytes index (p ∷ [])
+shared_behind index [] p = omega arith
+shared_behind index (at_every fs ∷ ps) p = let ih = shared_behind index ps p in omega (arith, ih)
+shared_behind index (at_these ks fs ∷ ps) p = shared_behind index ps p
 
-module _ (index sp : ℕ) (xs : List CallClass) (i : ℕ) (d : CallClass) (lt : i < length xs) where
-  pub class_added : (c : Code) → sizes_added index sp (class_parts (take i xs)) (class_code index (get_or xs i d) (raised_arm sp (get_or xs i d)) c) ≡ sizes_added index sp (class_parts (take (i + 1) xs)) c
-  class_added c = sym (added_behind index sp (take i xs) (get_or xs i d) c) ∙ ap (λ ps. sizes_added index sp ps c) (sym (map_more class_part xs i d lt))
+bytes_most : (fs : List FrameField) → fields_size fs ≤ 8 * length fs
+bytes_most [] = omega arith
+bytes_most (kept x t ∷ fs) = let ih = bytes_most fs in let w = width_most t in omega (arith, ih, w)
+bytes_most (gap t ∷ fs) = let ih = bytes_most fs in let w = width_most t in omega (arith, ih, w)
 
-  pub class_stored : (off : ℕ) (c : Code)
-      → parts_stored sp off (parts_of index (class_parts (take i xs))) (class_code index (get_or xs i d) (stored_arm sp off (get_or xs i d)) c) ≡ parts_stored sp off (parts_of index (class_parts (take (i + 1) xs))) c
-  class_stored off c = sym (stored_behind index sp off (take i xs) (get_or xs i d) c) ∙ ap (λ ps. parts_stored sp off (parts_of index ps) c) (sym (map_more class_part xs i d lt))
+shared_few : (index : ℕ) (ps : List SavedPart) → shared_bytes index ps ≤ 8 * shared_fields ps
+shared_few index [] = omega arith
+shared_few index (at_every fs ∷ ps) = let ih = shared_few index ps in let b = bytes_most fs in omega (arith, ih, b)
+shared_few index (at_these ks fs ∷ ps) = shared_few index ps
+
+shared_take : (index : ℕ) (ps : List KeptPart) (i : ℕ) → shared_bytes index (part_views (take i ps)) ≤ shared_bytes index (part_views ps)
+shared_take index [] zero = omega arith
+shared_take index [] (suc i) = omega arith
+shared_take index (p ∷ ps) zero = omega arith
+shared_take index (p ∷ ps) (suc i) = by (part_view p) (shared_take index ps i)
+  where
+    by : (q : SavedPart) → shared_bytes index (part_views (take i ps)) ≤ shared_bytes index (part_views ps) → shared_bytes index (q ∷ part_views (take i ps)) ≤ shared_bytes index (q ∷ part_views ps)
+    by (at_every fs) ih = omega (arith, ih)
+    by (at_these ks fs) ih = ih
+
+-- of the first parts, and of the next one
+module _ (index : ℕ) (ps : List KeptPart) (i : ℕ) (d : KeptPart) (lt : i < length ps) where
+  pub shared_next : shared_bytes index (part_views (take (i + 1) ps)) ≡ shared_bytes index (part_views (take i ps)) + shared_bytes index (part_view (get_or ps i d) ∷ [])
+  shared_next = ap (shared_bytes index) (map_more part_view ps i d lt) ∙ shared_behind index (part_views (take i ps)) (part_view (get_or ps i d))
+
+pub shared_small : (index : ℕ) (ps : List KeptPart) (i : ℕ) → FewParts (part_views ps) → shared_bytes index (part_views (take i ps)) ≤ 400000
+shared_small index ps i few = let a = shared_take index ps i in let b = shared_few index (part_views ps) in let c = few.shared in omega (arith, a, b, c)
+
+pub few_at : (ps : List KeptPart) (i : ℕ) (d : KeptPart) → All (λ (p : SavedPart). part_fields p ≤ 50000) (part_views ps) → i < length ps → part_fields (part_view (get_or ps i d)) ≤ 50000
+few_at [] i d h lt = absurd (omega (arith, lt))
+few_at (p ∷ ps) zero d h lt = All-head (λ (q : SavedPart). part_fields q ≤ 50000) (part_view p) (part_views ps) h
+few_at (p ∷ ps) (suc i) d h lt = few_at ps i d (All-tail (λ (q : SavedPart). part_fields q ≤ 50000) (part_view p) (part_views ps) h) (omega (arith, lt))
+
+-- the fields of a part of the program are few
+pub every_few : (fields : List KeptLocal) → part_fields (at_every (fields_of fields)) ≤ 50000 → length fields ≤ 50000
+every_few fields le = let l = length-map fields kept_field in omega (arith, l, le)
+
+-- ---- one more part
+
+added_behind : (index sp : ℕ) (ps : List SavedPart) (p : SavedPart) (c : Code) → sizes_added index sp (ps ++ p ∷ []) c ≡ sizes_added index sp ps (sizes_added index sp (p ∷ []) c)
+added_behind index sp [] p c = refl
+added_behind index sp (at_every fs ∷ ps) p c = added_behind index sp ps p c
+added_behind index sp (at_these ks fs ∷ ps) p c = ap (λ z. at_calls index ks (branch None (scratch_raised sp (fields_size fs) done) done z)) (added_behind index sp ps p c)
+
+stored_behind : (index sp off : ℕ) (ps : List SavedPart) (p : SavedPart) (c : Code)
+    → parts_stored sp off (parts_of index (ps ++ p ∷ [])) c ≡ parts_stored sp off (parts_of index ps) (parts_stored sp (off + shared_bytes index ps) (parts_of index (p ∷ [])) c)
+stored_behind index sp off [] p c = let z : off ≡ off + 0 = omega arith in ap (λ n. parts_stored sp n (parts_of index (p ∷ [])) c) z
+stored_behind index sp off (at_every fs ∷ ps) p c =
+    let z : off + fields_size fs + shared_bytes index ps ≡ off + (fields_size fs + shared_bytes index ps) = omega arith in
+    ap (stores sp off fs) (stored_behind index sp (off + fields_size fs) ps p c
+    ∙ ap (λ n. parts_stored sp (off + fields_size fs) (parts_of index ps) (parts_stored sp n (parts_of index (p ∷ [])) c)) z)
+stored_behind index sp off (at_these ks fs ∷ ps) p c =
+    ap (λ z. at_calls index ks (branch None (stores sp off fs (scratch_raised sp (fields_size fs) done)) done z)) (stored_behind index sp off ps p c)
+
+loaded_front : (index sp off : ℕ) (p : SavedPart) (ps : List SavedPart) (c : Code)
+    → parts_loaded sp (off + shared_bytes index (p ∷ [])) (parts_of index ps) (parts_loaded sp off (parts_of index (p ∷ [])) c) ≡ parts_loaded sp off (parts_of index (p ∷ ps)) c
+loaded_front index sp off (at_every fs) ps c =
+    let z : off + (fields_size fs + 0) ≡ off + fields_size fs = omega arith in ap (λ n. parts_loaded sp n (parts_of index ps) (loads sp off fs c)) z
+loaded_front index sp off (at_these ks fs) ps c =
+    let z : off + 0 ≡ off = omega arith in
+    ap (λ n. parts_loaded sp n (parts_of index ps) (at_calls index ks (branch None (scratch_lowered sp (fields_size fs) (loads sp off fs done)) done c))) z
+
+module _ (index sp : ℕ) (xs : List KeptPart) (i : ℕ) (d : KeptPart) (lt : i < length xs) where
+  pub part_added : (c : Code) → sizes_added index sp (part_views (take i xs)) (sizes_added index sp (part_view (get_or xs i d) ∷ []) c) ≡ sizes_added index sp (part_views (take (i + 1) xs)) c
+  part_added c = sym (added_behind index sp (part_views (take i xs)) (part_view (get_or xs i d)) c) ∙ ap (λ ps. sizes_added index sp ps c) (sym (map_more part_view xs i d lt))
+
+  pub part_stored : (o : ℕ) (c : Code) → o ≡ shared_bytes index (part_views (take i xs))
+      → parts_stored sp 0 (parts_of index (part_views (take i xs))) (parts_stored sp o (parts_of index (part_view (get_or xs i d) ∷ [])) c)
+      ≡ parts_stored sp 0 (parts_of index (part_views (take (i + 1) xs))) c
+  part_stored o c e =
+      let z : o ≡ 0 + shared_bytes index (part_views (take i xs)) = omega (arith, e) in
+      ap (λ n. parts_stored sp 0 (parts_of index (part_views (take i xs))) (parts_stored sp n (parts_of index (part_view (get_or xs i d) ∷ [])) c)) z
+      ∙ sym (stored_behind index sp 0 (part_views (take i xs)) (part_view (get_or xs i d)) c) ∙ ap (λ ps. parts_stored sp 0 (parts_of index ps) c) (sym (map_more part_view xs i d lt))
 
   -- one more in front
-  pub class_loaded : (off : ℕ) (c : Code)
-      → parts_loaded sp off (parts_of index (class_parts (drop (i + 1) xs))) (class_code index (get_or xs i d) (loaded_arm sp off (get_or xs i d)) c) ≡ parts_loaded sp off (parts_of index (class_parts (drop i xs))) c
-  class_loaded off c = ap (λ ys. parts_loaded sp off (parts_of index (class_parts ys)) c) (sym (drop_more xs i d lt))
+  pub part_loaded : (off o : ℕ) (c : Code) → o ≡ off + shared_bytes index (part_view (get_or xs i d) ∷ [])
+      → parts_loaded sp o (parts_of index (part_views (drop (i + 1) xs))) (parts_loaded sp off (parts_of index (part_view (get_or xs i d) ∷ [])) c)
+      ≡ parts_loaded sp off (parts_of index (part_views (drop i xs))) c
+  part_loaded off o c e =
+      ap (λ n. parts_loaded sp n (parts_of index (part_views (drop (i + 1) xs))) (parts_loaded sp off (parts_of index (part_view (get_or xs i d) ∷ [])) c)) e
+      ∙ loaded_front index sp off (part_view (get_or xs i d)) (part_views (drop (i + 1) xs)) c ∙ ap (λ ys. parts_loaded sp off (parts_of index (part_views ys)) c) (sym (drop_more xs i d lt))

@@ -1,21 +1,23 @@
 -- What is put behind a list of instructions, loop by loop.
-use Rattle.std.proofs.Common.{◌≡◌, ℕ, ◌+◌, ◌-◌, ◌<◌, ◌≤◌, List, [], ◌∷◌, length, take, drop, get_or, None, refl, sym, ap, ◌∙◌, arith}
+use Rattle.std.proofs.Common.{◌≡◌, ℕ, Bool, nat_eq, ◌+◌, ◌-◌, ◌<◌, ◌≤◌, List, [], ◌∷◌, length, take, drop, get_or, None, refl, sym, ap, ◌∙◌, arith}
 use Rattle.std.proofs.lemmas.List.{take_all, drop_all}
 use Rattle.wa_types.specs.declared.instrs.Instr.{Instr}
 use Rattle.wa_types.specs.declared.operators.NumOp.TheVariants.{I32Or}
-use Rattle.wa_types.specs.Syntax.{num, basic, local_get, local_set, Code, done, plain, branch}
+use Rattle.wa_types.specs.declared.values.Value.TheVariants as V
+use Rattle.wa_types.specs.Syntax.{const, num, basic, local_get, local_set, Code, done, plain, branch}
 use Rattle.wa_types.specs.View.{onto}
 use Rattle.local_spill.specs.Putting.{Puts}
 use Rattle.local_spill.specs.Spilling.{stored_value, loaded_value}
 use Rattle.frame_laws.specs.Layout.{fields_size, stores, loads}
-use Rattle.call_frames.specs.CallTests.{at_call}
+use Rattle.call_frames.specs.CallTests.{CallRow, at_row, row_test}
 use Rattle.call_frames.specs.FrameParts.{parts_stored, parts_loaded}
-use Rattle.call_frames.specs.PlainFrames.{at_calls, parts_of, sizes_added}
+use Rattle.call_frames.specs.PlainFrames.{SavedPart, rows_of, at_rows, at_calls, parts_of, sizes_added}
 use Rattle.call_classes.specs.declared.frames.CallClass.{CallClass}
 use Rattle.call_classes.specs.declared.frames.KeptLocal.{KeptLocal}
-use Rattle.live_frames.specs.Putting.{calls_joined}
-use Rattle.call_classes.specs.Views.{fields_of, class_parts}
-use Rattle.live_frames.proofs.PieceLemmas.{stored_more, loaded_more, joined_more, joined_is, class_code, raised_arm, stored_arm, loaded_arm, class_added, class_stored, class_loaded}
+use Rattle.call_classes.specs.declared.frames.KeptPart.{KeptPart}
+use Rattle.live_frames.specs.Putting.{rows_joined}
+use Rattle.call_classes.specs.Views.{fields_of, part_view, part_views}
+use Rattle.live_frames.proofs.PieceLemmas.{stored_more, loaded_more, joined_is, class_code, shared_bytes, part_added, part_stored, part_loaded}
 
 -- what is put, told otherwise
 pub put_same : {X : Type 0} (old new : List Instr) (f : X → Code → Code) (x y : X) → x ≡ y → Puts old new (f x) → Puts old new (f y)
@@ -51,51 +53,74 @@ loaded_end old new sp off xs i le h rest = h rest ∙ ap (λ ys. onto old (loads
 
 -- ---- tests
 
-pub joined_step : (old mid mid2 new : List Instr) (index : ℕ) (ks : List ℕ) (i d : ℕ) → i < length ks → Puts old mid (calls_joined index (take i ks))
-    → Puts mid mid2 (at_call index (get_or ks i d)) → Puts mid2 new (λ c. plain (basic (num I32Or)) c) → Puts old new (calls_joined index (take (i + 1) ks))
-joined_step old mid mid2 new index ks i d lt h k o rest =
-    let joined : Code = plain (basic (num I32Or)) rest in
-    o rest ∙ k joined ∙ h (at_call index (get_or ks i d) joined) ∙ ap (onto old) (joined_more index ks i d rest lt)
+-- the test of a row, its case told
+pub row_put : (old new : List Instr) (index : ℕ) (r : CallRow) (one from_0 : Bool) → nat_eq r.more 0 ≡ one → nat_eq r.first 0 ≡ from_0 → Puts old new (row_test one from_0 index r.first r.more)
+    → Puts old new (at_row index r)
+row_put old new index r one from_0 e f h rest =
+    h rest ∙ ap (λ b. onto old (row_test b from_0 index r.first r.more rest)) (sym e) ∙ ap (λ b. onto old (row_test (nat_eq r.more 0) b index r.first r.more rest)) (sym f)
 
-pub joined_end : (old new : List Instr) (index : ℕ) (ks : List ℕ) (i : ℕ) → length ks ≤ i → Puts old new (calls_joined index (take i ks)) → Puts old new (calls_joined index ks)
-joined_end old new index ks i le h rest = h rest ∙ ap (λ js. onto old (calls_joined index js rest)) (take_all i ks le)
+-- What is put, with the tests of the rows from a place on, is the test of all calls.
+abbrev pub Owes : (old new : List Instr) → (index : ℕ) → (calls : List ℕ) → (at : ℕ) → Type 0
+Owes old new index calls at = (rest : Code) → onto new (rows_joined index (rows_of (drop at calls)) rest) ≡ onto old (at_calls index calls rest)
 
-pub test_put : (old mid new : List Instr) (index first : ℕ) (ks calls : List ℕ) → calls ≡ first ∷ ks → Puts old mid (at_call index first) → Puts mid new (calls_joined index ks)
-    → Puts old new (at_calls index calls)
-test_put old mid new index first ks calls e h k rest =
-    k rest ∙ h (calls_joined index ks rest) ∙ ap (onto old) (sym (joined_is index ks (at_call index first) rest)) ∙ ap (λ js. onto old (at_calls index js rest)) (sym e)
+pub row_first : (old new : List Instr) (index : ℕ) (calls : List ℕ) (r : CallRow) (end : ℕ) → rows_of (drop 0 calls) ≡ r ∷ rows_of (drop end calls) → Puts old new (at_row index r)
+    → Owes old new index calls end
+row_first old new index calls r end is h rest =
+    h (rows_joined index (rows_of (drop end calls)) rest)
+    ∙ ap (onto old) (sym (joined_is index (rows_of (drop end calls)) (at_row index r) rest))
+    ∙ ap (λ rs. onto old (at_rows index rs rest)) (sym is)
 
--- ---- classes
+pub row_next : (old mid mid2 new : List Instr) (index : ℕ) (calls : List ℕ) (at : ℕ) (r : CallRow) (end : ℕ) → rows_of (drop at calls) ≡ r ∷ rows_of (drop end calls)
+    → Puts mid mid2 (at_row index r) → Puts mid2 new (λ c. plain (basic (num I32Or)) c) → Owes old mid index calls at → Owes old new index calls end
+row_next old mid mid2 new index calls at r end is h o before rest =
+    let others : Code = rows_joined index (rows_of (drop end calls)) rest in
+    o others ∙ h (plain (basic (num I32Or)) others) ∙ ap (λ rs. onto mid (rows_joined index rs rest)) (sym is) ∙ before rest
 
--- under the test of a class, told otherwise
+pub rows_end : (old new : List Instr) (index : ℕ) (calls : List ℕ) (at : ℕ) → length calls ≤ at → Owes old new index calls at → Puts old new (at_calls index calls)
+rows_end old new index calls at le h rest = ap (λ js. onto new (rows_joined index (rows_of js) rest)) (sym (drop_all at calls le)) ∙ h rest
+
+pub none_put : (old new : List Instr) (index : ℕ) (calls : List ℕ) → length calls ≡ 0 → Puts old new (λ c. plain (basic (const (V.I32 0))) c) → Puts old new (at_calls index calls)
+none_put old new index [] e h rest = h rest
+none_put old new index (k ∷ ks) e h rest = absurd (omega (arith, e))
+
+-- ---- parts
+
+-- under the test of these calls, told otherwise
 pub under_class : (old new : List Instr) (index : ℕ) (x : CallClass) (calls : List ℕ) (arm code : Code) → calls ≡ x.calls.items → arm ≡ code
     → Puts old new (λ c. at_calls index calls (branch None arm done c)) → Puts old new (λ c. class_code index x code c)
-under_class old new index x calls arm code e a h rest =
-    h rest ∙ ap (λ ks. onto old (at_calls index ks (branch None arm done rest))) e ∙ ap (λ z. onto old (at_calls index x.calls.items (branch None z done rest))) a
+under_class old new index x calls arm code ec ea h rest =
+    h rest ∙ ap (λ js. onto old (at_calls index js (branch None arm done rest))) ec ∙ ap (λ a. onto old (at_calls index x.calls.items (branch None a done rest))) ea
 
-module _ (old mid new : List Instr) (index sp : ℕ) (xs : List CallClass) (i : ℕ) (d : CallClass) (lt : i < length xs) where
-  pub added_step : Puts old mid (sizes_added index sp (class_parts (take i xs))) → Puts mid new (λ c. class_code index (get_or xs i d) (raised_arm sp (get_or xs i d)) c)
-      → Puts old new (sizes_added index sp (class_parts (take (i + 1) xs)))
-  added_step h k rest = k rest ∙ h (class_code index (get_or xs i d) (raised_arm sp (get_or xs i d)) rest) ∙ ap (onto old) (class_added index sp xs i d lt rest)
+module _ (old mid new : List Instr) (index sp : ℕ) (xs : List KeptPart) (i : ℕ) (d : KeptPart) (lt : i < length xs) where
+  pub added_step : Puts old mid (sizes_added index sp (part_views (take i xs))) → Puts mid new (sizes_added index sp (part_view (get_or xs i d) ∷ []))
+      → Puts old new (sizes_added index sp (part_views (take (i + 1) xs)))
+  added_step h k rest = k rest ∙ h (sizes_added index sp (part_view (get_or xs i d) ∷ []) rest) ∙ ap (onto old) (part_added index sp xs i d lt rest)
 
-  pub class_stored_step : (off : ℕ) → Puts old mid (parts_stored sp off (parts_of index (class_parts (take i xs))))
-      → Puts mid new (λ c. class_code index (get_or xs i d) (stored_arm sp off (get_or xs i d)) c) → Puts old new (parts_stored sp off (parts_of index (class_parts (take (i + 1) xs))))
-  class_stored_step off h k rest = k rest ∙ h (class_code index (get_or xs i d) (stored_arm sp off (get_or xs i d)) rest) ∙ ap (onto old) (class_stored index sp xs i d lt off rest)
+  pub part_stored_step : (o : ℕ) → o ≡ shared_bytes index (part_views (take i xs)) → Puts old mid (parts_stored sp 0 (parts_of index (part_views (take i xs))))
+      → Puts mid new (parts_stored sp o (parts_of index (part_view (get_or xs i d) ∷ []))) → Puts old new (parts_stored sp 0 (parts_of index (part_views (take (i + 1) xs))))
+  part_stored_step o e h k rest = k rest ∙ h (parts_stored sp o (parts_of index (part_view (get_or xs i d) ∷ [])) rest) ∙ ap (onto old) (part_stored index sp xs i d lt o rest e)
 
-  pub class_loaded_step : (off : ℕ) → Puts old mid (parts_loaded sp off (parts_of index (class_parts (drop (i + 1) xs))))
-      → Puts mid new (λ c. class_code index (get_or xs i d) (loaded_arm sp off (get_or xs i d)) c) → Puts old new (parts_loaded sp off (parts_of index (class_parts (drop i xs))))
-  class_loaded_step off h k rest = k rest ∙ h (class_code index (get_or xs i d) (loaded_arm sp off (get_or xs i d)) rest) ∙ ap (onto old) (class_loaded index sp xs i d lt off rest)
+  pub part_loaded_step : (off o : ℕ) → o ≡ off + shared_bytes index (part_view (get_or xs i d) ∷ []) → Puts old mid (parts_loaded sp o (parts_of index (part_views (drop (i + 1) xs))))
+      → Puts mid new (parts_loaded sp off (parts_of index (part_view (get_or xs i d) ∷ []))) → Puts old new (parts_loaded sp off (parts_of index (part_views (drop i xs))))
+  part_loaded_step off o e h k rest = k rest ∙ h (parts_loaded sp off (parts_of index (part_view (get_or xs i d) ∷ [])) rest) ∙ ap (onto old) (part_loaded index sp xs i d lt off o rest e)
 
-pub added_end : (old new : List Instr) (index sp : ℕ) (xs : List CallClass) (i : ℕ) → length xs ≤ i → Puts old new (sizes_added index sp (class_parts (take i xs))) → Puts old new (sizes_added index sp (class_parts xs))
-added_end old new index sp xs i le h rest = h rest ∙ ap (λ ys. onto old (sizes_added index sp (class_parts ys) rest)) (take_all i xs le)
+-- all parts
+module _ (old new : List Instr) (index sp : ℕ) (xs : List KeptPart) (i : ℕ) (le : length xs ≤ i) where
+  pub added_end : Puts old new (sizes_added index sp (part_views (take i xs))) → Puts old new (sizes_added index sp (part_views xs))
+  added_end h rest = h rest ∙ ap (λ ys. onto old (sizes_added index sp (part_views ys) rest)) (take_all i xs le)
 
-pub class_stored_end : (old new : List Instr) (index sp off : ℕ) (xs : List CallClass) (i : ℕ) → length xs ≤ i → Puts old new (parts_stored sp off (parts_of index (class_parts (take i xs))))
-    → Puts old new (parts_stored sp off (parts_of index (class_parts xs)))
-class_stored_end old new index sp off xs i le h rest = h rest ∙ ap (λ ys. onto old (parts_stored sp off (parts_of index (class_parts ys)) rest)) (take_all i xs le)
+  pub part_stored_end : Puts old new (parts_stored sp 0 (parts_of index (part_views (take i xs)))) → Puts old new (parts_stored sp 0 (parts_of index (part_views xs)))
+  part_stored_end h rest = h rest ∙ ap (λ ys. onto old (parts_stored sp 0 (parts_of index (part_views ys)) rest)) (take_all i xs le)
 
-pub class_loaded_first : (old : List Instr) (index sp off : ℕ) (xs : List CallClass) (n : ℕ) → n ≡ length xs → Puts old old (parts_loaded sp off (parts_of index (class_parts (drop n xs))))
-class_loaded_first old index sp off xs n e rest = ap (λ ys. onto old (parts_loaded sp off (parts_of index (class_parts ys)) rest)) (sym (drop_all n xs (omega (arith, e))))
+pub part_loaded_first : (old : List Instr) (index sp o : ℕ) (xs : List KeptPart) (n : ℕ) → n ≡ length xs → Puts old old (parts_loaded sp o (parts_of index (part_views (drop n xs))))
+part_loaded_first old index sp o xs n e rest = ap (λ ys. onto old (parts_loaded sp o (parts_of index (part_views ys)) rest)) (sym (drop_all n xs (omega (arith, e))))
 
-pub class_loaded_end : (old new : List Instr) (index sp off : ℕ) (xs : List CallClass) (n : ℕ) → n ≡ 0 → Puts old new (parts_loaded sp off (parts_of index (class_parts (drop n xs))))
-    → Puts old new (parts_loaded sp off (parts_of index (class_parts xs)))
-class_loaded_end old new index sp off xs n e h rest = h rest ∙ ap (λ k. onto old (parts_loaded sp off (parts_of index (class_parts (drop k xs))) rest)) e
+pub part_loaded_end : (old new : List Instr) (index sp o : ℕ) (xs : List KeptPart) (n : ℕ) → n ≡ 0 → o ≡ shared_bytes index (part_views (take n xs))
+    → Puts old new (parts_loaded sp o (parts_of index (part_views (drop n xs)))) → Puts old new (parts_loaded sp 0 (parts_of index (part_views xs)))
+part_loaded_end old new index sp o xs n e eo h rest =
+    let z : o ≡ 0 = eo ∙ ap (λ k. shared_bytes index (part_views (take k xs))) e in
+    h rest ∙ ap (λ k. onto old (parts_loaded sp o (parts_of index (part_views (drop k xs))) rest)) e ∙ ap (λ k. onto old (parts_loaded sp k (parts_of index (part_views xs)) rest)) z
+
+-- one part, told otherwise
+pub part_same : (old new : List Instr) (f : SavedPart → Code → Code) (p q : KeptPart) → p ≡ q → Puts old new (f (part_view q)) → Puts old new (f (part_view p))
+part_same old new f p q e h rest = h rest ∙ ap (λ z. onto old (f (part_view z) rest)) (sym e)

@@ -1,19 +1,19 @@
 //! Code that loads what frames keep.
 
-ghost use Rattle.std.specs.Prelude.{◌≡◌, ◌≤◌, length, OnOk, IfOk};
+ghost use Rattle.std.specs.Prelude.{◌≡◌, ◌≤◌, ◌∷◌, [], length, OnOk, IfOk};
 ghost use Rattle.wa_types.specs.Syntax.{local_get, local_set, plain, done};
 ghost use Rattle.wa_types.specs.View.{code};
 ghost use Rattle.frame_laws.specs.Layout.{fields_size, loads};
-ghost use Rattle.call_frames.specs.FrameParts.{parts_loaded, scratch_lowered};
+ghost use Rattle.call_frames.specs.FrameParts.{parts_loaded, scratch_lowered, shared_size};
 ghost use Rattle.call_frames.specs.PlainFrames.{parts_of};
 ghost use Rattle.local_spill.specs.Putting.{Puts};
 ghost use Rattle.local_spill.specs.Spilling.{loaded_value};
-ghost use Rattle.call_classes.specs.Classes.{FewFields};
-ghost use Rattle.call_classes.specs.Views.{class_parts, fields_of};
+ghost use Rattle.call_classes.specs.Classes.{FewParts, part_fields};
+ghost use Rattle.call_classes.specs.Views.{fields_of, part_view, part_views};
 
-use crate::putting::{load_of, put_scratch_moved, size_of, width};
+use crate::putting::{load_of, put_scratch_moved, shared_in, size_of, width};
 use crate::testing::put_under_test;
-use call_classes::{CallClass, KeptLocal};
+use call_classes::{KeptLocal, KeptPart};
 use std::alloc::{AllocError, Global};
 use wa_types::{Instr, NumOp};
 
@@ -68,25 +68,48 @@ fn class_loaded(
     Ok(out)
 }
 
-/// Puts what loads the fields of the call's class. The last class comes first.
-pub(crate) fn put_classes_loaded(
+/// Puts what loads a part, from an offset on.
+fn put_part_loaded(
     alloc: Global,
     out: &mut Vec<Instr>,
     index: u32,
     scratch: u32,
     offset: u32,
-    classes: &[CallClass],
+    part: &KeptPart,
 ) -> Result<(), AllocError>
-    requires few { FewFields classes.now }
+    requires few { part_fields (part_view part.now) ≤ 50000 }
     requires offset { offset ≤ 400000 }
-    ensures { OnOk result (Puts out.old.items out.new.items (parts_loaded scratch offset (parts_of index (class_parts classes.now)))) }
+    ensures { OnOk result (Puts out.old.items out.new.items (parts_loaded scratch offset (parts_of index (part_view part.now ∷ [])))) }
 {
-    let mut left = classes.len();
+    match part {
+        KeptPart::Every(fields) => put_fields_loaded(out, scratch, offset, fields),
+        KeptPart::These(class) => {
+            let arm = class_loaded(alloc, scratch, offset, &class.fields)?;
+            put_under_test(alloc, out, index, &class.calls, arm)
+        }
+    }
+}
+
+/// Puts what loads the parts that the call keeps, of which so many bytes are all calls'. The last part comes first.
+pub(crate) fn put_parts_loaded(
+    alloc: Global,
+    out: &mut Vec<Instr>,
+    index: u32,
+    scratch: u32,
+    shared: u32,
+    parts: &[KeptPart],
+) -> Result<(), AllocError>
+    requires few { FewParts (part_views parts.now) }
+    requires shared { shared ≡ shared_size (parts_of index (part_views parts.now)) }
+    ensures { OnOk result (Puts out.old.items out.new.items (parts_loaded scratch 0 (parts_of index (part_views parts.now)))) }
+{
+    let mut offset = shared;
+    let mut left = parts.len();
     while left > 0 {
         left -= 1;
-        let class = &classes[left];
-        let arm = class_loaded(alloc, scratch, offset, &class.fields)?;
-        put_under_test(alloc, out, index, &class.calls, arm)?;
+        let part = &parts[left];
+        offset -= shared_in(part);
+        put_part_loaded(alloc, out, index, scratch, offset, part)?;
     }
     Ok(())
 }

@@ -1,23 +1,23 @@
 //! The codes that save and that restore the frames of a function.
 
-ghost use Rattle.std.specs.Prelude.{◌≡◌, ◌≤◌, ◌+◌, ℕ, length, IfOk, OnOk};
+ghost use Rattle.std.specs.Prelude.{◌≡◌, ◌≤◌, ◌+◌, ℕ, IfOk, OnOk};
 ghost use Rattle.wa_types.specs.Syntax.{Code, basic, const, local_set, plain};
 ghost use Rattle.wa_types.specs.View.{onto};
 ghost use Rattle.wa_types.specs.declared.values.Value.TheVariants.{I32 as value_32};
 ghost use Rattle.call_frames.specs.FrameParts.{restoring_by_call, saving_by_call};
 ghost use Rattle.call_frames.specs.PlainFrames.{frames_of};
 ghost use Rattle.local_spill.specs.Putting.{Puts};
-ghost use Rattle.call_classes.specs.Classes.{FewFields};
-ghost use Rattle.call_classes.specs.Views.{told_frames};
+ghost use Rattle.call_classes.specs.Classes.{FewParts};
+ghost use Rattle.call_classes.specs.Views.{parts_view, told_frames};
 
-use crate::loading::{put_classes_loaded, put_fields_loaded};
+use crate::loading::put_parts_loaded;
 use crate::locating::{
     put_index_loaded, put_index_saved, put_location_lowered, put_location_noted,
     put_location_raised, put_room_test,
 };
-use crate::putting::size_of;
+use crate::putting::shared_of;
 use crate::sizing::put_sizes_added;
-use crate::storing::{put_classes_stored, put_fields_stored};
+use crate::storing::put_parts_stored;
 use call_classes::FrameParts;
 use std::alloc::{AllocError, Global};
 use wa_types::{Instr, Value};
@@ -39,19 +39,17 @@ pub fn saving(
     base: u32,
     address: u32,
 ) -> Result<Vec<Instr>, AllocError>
-    requires shared { length parts.now.shared.items ≤ 50000 }
-    requires classes { FewFields parts.now.classes.items }
+    requires few { FewParts (parts_view parts.now) }
     requires base { base ≤ 50000 }
     ensures { IfOk result (λ v. (count : ℕ) (rest : Code) → onto v.items rest ≡ saving_by_call (frames_of (told_frames count base address parts.now)) rest) }
 {
     let mut out = Vec::new(alloc);
     let scratch = base + 1;
-    let shared = size_of(&parts.shared);
+    let shared = shared_of(&parts.parts);
     put_number_set(&mut out, scratch, shared + 4)?;
-    put_sizes_added(alloc, &mut out, base, scratch, &parts.classes)?;
+    put_sizes_added(alloc, &mut out, base, scratch, &parts.parts)?;
     put_room_test(alloc, &mut out, address, scratch)?;
-    put_fields_stored(&mut out, scratch, 0, &parts.shared)?;
-    put_classes_stored(alloc, &mut out, base, scratch, shared, &parts.classes)?;
+    put_parts_stored(alloc, &mut out, base, scratch, &parts.parts)?;
     put_index_saved(&mut out, base, scratch, shared)?;
     put_location_raised(&mut out, address, scratch, shared + 4)?;
     Ok(out)
@@ -65,18 +63,16 @@ pub fn restoring(
     base: u32,
     address: u32,
 ) -> Result<Vec<Instr>, AllocError>
-    requires shared { length parts.now.shared.items ≤ 50000 }
-    requires classes { FewFields parts.now.classes.items }
+    requires few { FewParts (parts_view parts.now) }
     requires base { base ≤ 50000 }
     ensures { IfOk result (λ v. (count : ℕ) (rest : Code) → onto v.items rest ≡ restoring_by_call (frames_of (told_frames count base address parts.now)) rest) }
 {
     let mut out = Vec::new(alloc);
     let scratch = base + 1;
-    let shared = size_of(&parts.shared);
+    let shared = shared_of(&parts.parts);
     put_location_noted(&mut out, address, scratch, shared + 4)?;
     put_index_loaded(&mut out, base, shared)?;
-    put_classes_loaded(alloc, &mut out, base, scratch, shared, &parts.classes)?;
-    put_fields_loaded(&mut out, scratch, 0, &parts.shared)?;
+    put_parts_loaded(alloc, &mut out, base, scratch, shared, &parts.parts)?;
     put_location_lowered(&mut out, address, scratch)?;
     Ok(out)
 }

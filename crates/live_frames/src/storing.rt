@@ -1,6 +1,6 @@
 //! Code that stores what frames keep.
 
-ghost use Rattle.std.specs.Prelude.{◌≡◌, ◌≤◌, length, OnOk, IfOk};
+ghost use Rattle.std.specs.Prelude.{◌≡◌, ◌≤◌, ◌∷◌, [], length, OnOk, IfOk};
 ghost use Rattle.wa_types.specs.Syntax.{local_get, plain, done};
 ghost use Rattle.wa_types.specs.View.{code};
 ghost use Rattle.frame_laws.specs.Layout.{fields_size, stores};
@@ -8,12 +8,12 @@ ghost use Rattle.call_frames.specs.FrameParts.{parts_stored, scratch_raised};
 ghost use Rattle.call_frames.specs.PlainFrames.{parts_of};
 ghost use Rattle.local_spill.specs.Putting.{Puts};
 ghost use Rattle.local_spill.specs.Spilling.{stored_value};
-ghost use Rattle.call_classes.specs.Classes.{FewFields};
-ghost use Rattle.call_classes.specs.Views.{class_parts, fields_of};
+ghost use Rattle.call_classes.specs.Classes.{FewParts, part_fields};
+ghost use Rattle.call_classes.specs.Views.{fields_of, part_view, part_views};
 
-use crate::putting::{put_scratch_moved, size_of, store_of, width};
+use crate::putting::{put_scratch_moved, shared_in, size_of, store_of, width};
 use crate::testing::put_under_test;
-use call_classes::{CallClass, KeptLocal};
+use call_classes::{KeptLocal, KeptPart};
 use std::alloc::{AllocError, Global};
 use wa_types::{Instr, NumOp};
 
@@ -68,22 +68,43 @@ fn class_stored(
     Ok(out)
 }
 
-/// Puts what stores the fields of the call's class.
-pub(crate) fn put_classes_stored(
+/// Puts what stores a part, from an offset on.
+fn put_part_stored(
     alloc: Global,
     out: &mut Vec<Instr>,
     index: u32,
     scratch: u32,
     offset: u32,
-    classes: &[CallClass],
+    part: &KeptPart,
 ) -> Result<(), AllocError>
-    requires few { FewFields classes.now }
+    requires few { part_fields (part_view part.now) ≤ 50000 }
     requires offset { offset ≤ 400000 }
-    ensures { OnOk result (Puts out.old.items out.new.items (parts_stored scratch offset (parts_of index (class_parts classes.now)))) }
+    ensures { OnOk result (Puts out.old.items out.new.items (parts_stored scratch offset (parts_of index (part_view part.now ∷ [])))) }
 {
-    for class in classes {
-        let arm = class_stored(alloc, scratch, offset, &class.fields)?;
-        put_under_test(alloc, out, index, &class.calls, arm)?;
+    match part {
+        KeptPart::Every(fields) => put_fields_stored(out, scratch, offset, fields),
+        KeptPart::These(class) => {
+            let arm = class_stored(alloc, scratch, offset, &class.fields)?;
+            put_under_test(alloc, out, index, &class.calls, arm)
+        }
+    }
+}
+
+/// Puts what stores the parts that the call keeps, in order.
+pub(crate) fn put_parts_stored(
+    alloc: Global,
+    out: &mut Vec<Instr>,
+    index: u32,
+    scratch: u32,
+    parts: &[KeptPart],
+) -> Result<(), AllocError>
+    requires { FewParts (part_views parts.now) }
+    ensures { OnOk result (Puts out.old.items out.new.items (parts_stored scratch 0 (parts_of index (part_views parts.now)))) }
+{
+    let mut offset = 0;
+    for part in parts {
+        put_part_stored(alloc, out, index, scratch, offset, part)?;
+        offset += shared_in(part);
     }
     Ok(())
 }

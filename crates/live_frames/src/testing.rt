@@ -1,13 +1,16 @@
 //! Tests of the call index, and code under them.
 
 ghost use Rattle.std.specs.Prelude.{None, OnOk};
-ghost use Rattle.wa_types.specs.Syntax.{branch, done};
+ghost use Rattle.wa_types.specs.Syntax.{basic, branch, const, done, local_get, num, plain};
+ghost use Rattle.wa_types.specs.declared.operators.NumOp.TheVariants.{I32Sub};
+ghost use Rattle.wa_types.specs.declared.values.Value.TheVariants.{I32 as value_32};
 ghost use Rattle.wa_types.specs.View.{code};
-ghost use Rattle.call_frames.specs.CallTests.{at_call};
+ghost use Rattle.call_frames.specs.CallTests.{at_call, at_most, at_row};
 ghost use Rattle.call_frames.specs.PlainFrames.{at_calls};
 ghost use Rattle.local_spill.specs.Putting.{Puts};
-ghost use Rattle.live_frames.specs.Putting.{calls_joined};
+ghost use Rattle.call_classes.specs.CallRows.{row_view};
 
+use call_classes::{RowAt, row_at};
 use std::alloc::{AllocError, Global};
 use wa_types::{Instr, NumOp, Value};
 
@@ -21,31 +24,58 @@ fn put_call_test(out: &mut Vec<Instr>, index: u32, call: u32) -> Result<(), Allo
     Ok(())
 }
 
-/// Puts the comparisons with more calls, each joined with what stands.
-fn put_more_calls(out: &mut Vec<Instr>, index: u32, calls: &[u32]) -> Result<(), AllocError>
-    ensures { OnOk result (Puts out.old.items out.new.items (calls_joined index calls.now)) }
+/// Puts the test that a number is at most this one.
+fn put_at_most(out: &mut Vec<Instr>, number: u32) -> Result<(), AllocError>
+    ensures { OnOk result (Puts out.old.items out.new.items (at_most number)) }
 {
-    for call in calls {
-        put_call_test(out, index, *call)?;
-        out.push(Instr::Num(NumOp::I32Or))?;
-    }
+    out.push(Instr::Const(Value::I32(number)))?;
+    out.push(Instr::Num(NumOp::I32LeU))?;
     Ok(())
+}
+
+/// Puts what takes a number from the index.
+fn put_difference(out: &mut Vec<Instr>, index: u32, number: u32) -> Result<(), AllocError>
+    ensures { OnOk result (Puts out.old.items out.new.items (λ c. plain (local_get index) (plain (basic (const (value_32 number))) (plain (basic (num I32Sub)) c)))) }
+{
+    out.push(Instr::LocalGet(index))?;
+    out.push(Instr::Const(Value::I32(number)))?;
+    out.push(Instr::Num(NumOp::I32Sub))?;
+    Ok(())
+}
+
+/// Puts the test of a row.
+fn put_row(out: &mut Vec<Instr>, index: u32, row: RowAt) -> Result<(), AllocError>
+    ensures { OnOk result (Puts out.old.items out.new.items (at_row index (row_view row))) }
+{
+    if row.more == 0 {
+        return put_call_test(out, index, row.first);
+    }
+    if row.first == 0 {
+        out.push(Instr::LocalGet(index))?;
+        return put_at_most(out, row.more);
+    }
+    put_difference(out, index, row.first)?;
+    put_at_most(out, row.more)
 }
 
 /// Puts the test of the index that is 1 at these calls and 0 at all others.
 fn put_test(out: &mut Vec<Instr>, index: u32, calls: &[u32]) -> Result<(), AllocError>
     ensures { OnOk result (Puts out.old.items out.new.items (at_calls index calls.now)) }
 {
-    match calls {
-        [] => {
-            out.push(Instr::Const(Value::I32(0)))?;
-            Ok(())
-        }
-        [first, others @ ..] => {
-            put_call_test(out, index, *first)?;
-            put_more_calls(out, index, others)
-        }
+    if calls.is_empty() {
+        out.push(Instr::Const(Value::I32(0)))?;
+        return Ok(());
     }
+    let first = row_at(calls, 0);
+    put_row(out, index, first)?;
+    let mut at = first.end;
+    while at < calls.len() {
+        let row = row_at(calls, at);
+        put_row(out, index, row)?;
+        out.push(Instr::Num(NumOp::I32Or))?;
+        at = row.end;
+    }
+    Ok(())
 }
 
 /// Puts code that runs at these calls alone.

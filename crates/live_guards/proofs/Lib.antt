@@ -1,3 +1,4 @@
+pub use Rattle.flat_guards.proofs.SlimModules
 pub use Rattle.live_stacks.proofs.Whole
 pub use Rattle.range_laws.proofs.BlockingRuns
 pub mod ByCallFramed

@@ -1,9 +1,9 @@
-pub use Rattle.func_rewrite.proofs.Emitted
 pub use Rattle.func_rewrite.proofs.EmittedBy
 pub use Rattle.func_rewrite.proofs.ToldLemmas
 pub use Rattle.live_form.proofs.Asyncified
 pub use Rattle.live_form.proofs.FitsBy
 pub use Rattle.live_form.proofs.PolicyCases
+pub mod AllWritten
 pub mod CallFacts
 pub mod LayoutSteps
 pub mod PartsOwed

@@ -19,10 +19,12 @@ use Rattle.local_spill.specs.declared.RuntimeIds.{RuntimeIds}
 use Rattle.guard_form.specs.Guarded.{function_body, guarded_code}
 use Rattle.call_frames.specs.FrameParts.{restoring_by_call, saving_by_call}
 use Rattle.call_frames.specs.PlainFrames.{SavedParts, frames_of}
+use Rattle.live_form.specs.SlimModule.{Pieces, plain_pieces}
+use Rattle.live_form.proofs.SlimModules.{plain_slim}
 use Rattle.save_laws.specs.LiveAt.{LiveAtCalls}
 use Rattle.call_classes.specs.declared.frames.FrameParts.{FrameParts}
 use Rattle.call_classes.specs.CallParts.{call_parts, kept_by_sets}
-use Rattle.call_classes.specs.Classes.{KeepSets}
+use Rattle.call_classes.specs.Classes.{KeepCheaply}
 use Rattle.call_classes.specs.Views.{parts_view, told_frames}
 use Rattle.live_form.specs.EmittedAs.{IsLiveWritten, live_written}
 use Rattle.live_form.specs.LiveParts.{LiveParts}
@@ -32,8 +34,8 @@ use Rattle.live_rewrite.proofs.SetFields.{fields_saved, numbers_below, rows_save
 
 module _ (m : Module) (s : Settings) (which : List Bool) (f : Func) (v : Flattened) (valid : Valid m) (sizes : StrictSizeRule m) (h : IsFlattened m f v)
     (ns : List ℕ) (sets : List (List Bool)) (en : ns ≡ Numbered m s which f) (live : LiveAtCalls (flat_func_of v.func) ns sets)
-    (ids : RuntimeIds) (ei : ids ≡ ids_behind m) (parts : FrameParts) (keep : KeepSets v.func.locals.items sets (parts_view parts))
-    (made : parts_view parts ≡ call_parts (kept_by_sets v.func.locals.items sets)) where
+    (ids : RuntimeIds) (ei : ids ≡ ids_behind m) (parts : FrameParts) (cheap : KeepCheaply v.func.locals.items sets (parts_view parts))
+    (made : parts_view parts ≡ call_parts v.func.locals.items (kept_by_sets v.func.locals.items sets)) where
   abbrev x : ℕ
   x = v.func.func
 
@@ -46,12 +48,16 @@ module _ (m : Module) (s : Settings) (which : List Bool) (f : Func) (v : Flatten
   many : length sets ≡ length (Numbered m s which f)
   many = live.calls ∙ ap length en
 
+  types_are : v.func.locals.items ≡ (flattened m x f).locals
+  types_are = ap (λ (g : FlatFunc). g.locals) h.flat
+
   base_is : base ≡ length (flattened m x f).locals
   base_is = ap (λ (g : FlatFunc). length g.locals) h.flat
 
   pub owed : LiveParts m s which x f told
   owed = record {
-    made = made ∙ ap call_parts (rows_saved m s which f v valid h ns sets en live);
+    made = made ∙ ap (λ ts. call_parts ts (kept_by_sets v.func.locals.items sets)) types_are
+        ∙ ap (call_parts (flattened m x f).locals) (rows_saved m s which f v valid h ns sets en live);
     count = ap length en;
     address = ap (λ (i : RuntimeIds). i.address) ei ∙ (let z : global_space m + 1 ≡ suc (global_space m) = omega arith in z);
     index = base_is;
@@ -60,17 +66,21 @@ module _ (m : Module) (s : Settings) (which : List Bool) (f : Func) (v : Flatten
         let here = ap (λ ps. slice_get ps k) en ∙ at in
         let lt = slice_get_within ns k place here in
         let few : k < length sets = (let c = live.calls in omega (arith, lt, c)) in
-        keep.fields k few ∙ fields_saved m s which f v valid h ns sets en live k place here;
-    below = numbers_below (length sets) (length (Numbered m s which f)) (parts_view parts) many keep.below;
-    named = keep.named;
-    numbers = (let a = keep.numbers in let e = many in omega (arith, a, e));
-    size = (let a = keep.size in let e = total_saved m s which f v valid h ns sets en live in omega (arith, a, e));
+        cheap.keep.fields k few ∙ fields_saved m s which f v valid h ns sets en live k place here;
+    below = numbers_below (length sets) (length (Numbered m s which f)) (parts_view parts) many cheap.keep.below;
+    named = cheap.keep.named;
+    tests = (let a = cheap.tests in let e = many in let l = base_is in omega (arith, a, e, l));
+    size = (let a = cheap.size in let e = total_saved m s which f v valid h ns sets en live in omega (arith, a, e));
   }
 
   abbrev whole : ℕ → SavedParts → List ℕ → FlatFunc → Code
   whole g p ks fl = function_body g (restoring_by_call (frames_of p) done) (saving_by_call (frames_of p) done) (result_got fl.result) (guarded_code g ks fl)
 
-  body_same : whole ids.state told ns (flat_func_of v.func) ≡ (live_written m s which x f told).body
+  -- pieces as flattening gives them
+  abbrev plain : Pieces
+  plain = plain_pieces (Numbered m s which f) (flattened m x f)
+
+  body_same : whole ids.state told ns (flat_func_of v.func) ≡ (live_written m s which x f plain told).body
   body_same =
       ap (λ (i : RuntimeIds). whole i.state told ns (flat_func_of v.func)) ei
       ∙ ap (λ ks. whole (global_space m) told ks (flat_func_of v.func)) en
@@ -79,7 +89,10 @@ module _ (m : Module) (s : Settings) (which : List Bool) (f : Func) (v : Flatten
   pub live_is : (locals : List Run) (body : Code) → locals ≡ f.locals ++ map one_run (drop v.first_slot v.func.locals.items ++ I32 ∷ I32 ∷ I64 ∷ [])
       → body ≡ whole ids.state told ns (flat_func_of v.func) → IsLiveWritten m s which x f (mk_func f.sort locals body)
   live_is locals body el eb = record {
+    pieces = plain;
+    slim = plain_slim m (Numbered m s which f) x f;
+    chosen = refl;
     parts = told;
     live = owed;
-    is = func_is (live_written m s which x f told) f.sort locals body refl (el ∙ runs_same m s which f v valid sizes h v.first_slot refl) (eb ∙ body_same);
+    is = func_is (live_written m s which x f plain told) f.sort locals body refl (el ∙ runs_same m s which f v valid sizes h v.first_slot refl) (eb ∙ body_same);
   }

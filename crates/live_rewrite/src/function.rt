@@ -18,8 +18,8 @@ ghost use Rattle.func_rewrite.specs.Frames.{FramesUnder, IsFlattened};
 ghost use Rattle.guard_form.specs.Guarded.{function_body, guarded_code};
 ghost use Rattle.guard_form.specs.Pieces.{call_total};
 ghost use Rattle.live_form.specs.EmittedAs.{IsLiveWritten};
-ghost use Rattle.call_classes.specs.Classes.{FewFields};
-ghost use Rattle.call_classes.specs.Views.{told_frames};
+ghost use Rattle.call_classes.specs.Classes.{FewParts};
+ghost use Rattle.call_classes.specs.Views.{parts_view, told_frames};
 ghost use Rattle.live_rewrite.specs.Calls.{AreLiveCalls};
 
 use crate::calls::{LiveCalls, live_calls};
@@ -44,8 +44,7 @@ fn live_body(
     requires fits { FlatFits (flat_func_of flat.now) }
     requires rises { Rises numbers.now }
     requires few { call_total (flat_func_of flat.now).body < 2 ^ 32 }
-    requires shared { length parts.now.shared.items ≤ 50000 }
-    requires classes { FewFields parts.now.classes.items }
+    requires parts { FewParts (parts_view parts.now) }
     ensures { IfOk result (λ v. (count : ℕ) → code v.items ≡ function_body ids.now.state (restoring_by_call (frames_of (told_frames count (length flat.now.locals.items) ids.now.address parts.now)) done) (saving_by_call (frames_of (told_frames count (length flat.now.locals.items) ids.now.address parts.now)) done) (result_got flat.now.result) (guarded_code ids.now.state numbers.now (flat_func_of flat.now))) }
 {
     let base = flat.locals.len() as u32;

@@ -48,7 +48,7 @@ sort_of f = f.sort
 
 module _ (m : Module) (s : Settings) (which : List Bool) where
   sort_written : (p : Policy) (x : ℕ) (f g : Func) → IsWrittenUnder p m s which x f g → g.sort ≡ f.sort
-  sort_written save_all x f g h = ap sort_of h
+  sort_written save_all x f g h = ap sort_of h.is
   sort_written save_live x f g h = ap sort_of h.is
 
   sort_emitted : (told : Bool) (x : ℕ) (f g : Func) → IsEmittedWhere told m s which x f g → g.sort ≡ f.sort

@@ -12,7 +12,7 @@ use Rattle.wa_types.specs.Syntax.{Func, Module}
 use Rattle.flat_laws.proofs.FlatModules.{dropped_at}
 use Rattle.live_rewrite.specs.Whole.{NonePasses}
 use Rattle.live_rewrite.specs.Sizes.{FewWritten}
-use Rattle.live_rewrite.proofs.Emitted.{sort_of}
+use Rattle.live_rewrite.proofs.EmittedBy.{sort_of}
 use Rattle.live_rewrite.specs.EmittedAs.{AreEmitted}
 use Rattle.asyncify_runtime.specs.Reserved.{reserved_at}
 use Rattle.module_rewrite.specs.Emitting.{Emits}

@@ -25,7 +25,7 @@ use Rattle.wasm_reader.specs.Locals.{counts_of, func_locals}
 use Rattle.wasm_reader.proofs.SpelledSizes.{none_above, spelled_locals}
 use Rattle.norm_laws.proofs.Locals.{merged_keeps}
 use Rattle.emitted_bytes.specs.CodesHold.{AllCodesHold}
-use Rattle.emitted_bytes.specs.Emitted.{asyncified, layout_codes}
+use Rattle.emitted_bytes.specs.Emitted.{layout_codes}
 use Rattle.emitted_bytes.specs.EmittedBy.{FrameCode, written_by, func_by, funcs_by, asyncified_by}
 use Rattle.emitted_bytes.specs.Sizes.{FewWritten}
 use Rattle.emitted_bytes.proofs.EmittedBy.{inner, told, not_told, same_length, same_around}
@@ -36,6 +36,7 @@ use Rattle.emitted_bytes.proofs.WrittenSizes.{layouts_hold}
 use Rattle.emitted_bytes.proofs.WiderTypes.{same_locals}
 use Rattle.emitted_bytes.proofs.EmittedBy.{defined_of}
 use Rattle.emitted_bytes.proofs.FitsBy.{one_of_all}
+use Rattle.prepared_modules.specs.Prepared.{EmittedIsPrepared}
 use Rattle.prepared_modules.proofs.Floats.{no_floats}
 use Rattle.prepared_modules.proofs.Levels.{Levels, levels_of, opens_of}
 use Rattle.prepared_modules.proofs.Numbers.{below_bound, functions_of, functions_counted, few_params_of, few_params, short_bodies}
@@ -178,7 +179,7 @@ module _ (m : Module) (s : Settings) (which : List Bool) (codes : (index : ℕ) 
           let y : ℕ = func_imports m + i in
           let g : Func = written_by m s which codes y f in
           let owed = hold y f (defined_of m i f e) b in
-          let a = written_depth m s which codes y f owed.restoring_quiet.depth owed.saving_quiet.depth in
+          let a = written_depth m s which codes y f owed.slim owed.restoring_quiet.depth owed.saving_quiet.depth in
           let c = pruned_flatter f.body in
           let n = written_length m s which codes y f v (sort_there m s which v i f e) (v.bodies i f e) in
           let k = locals_counted p g in
@@ -235,7 +236,6 @@ prepared_by m s which codes bytes a v hold few short spelled =
     (All-append FewParams m.types runtime_types params three_types)
     (norm_levels m s which codes v hold few levels locals) (norm_locals m s which codes v hold few levels locals)
 
-pub emitted_prepared : (m : Module) (s : Settings) (which : List Bool) (bytes : List ℕ) → IsAccepted source_bounds bytes m → Valid m → FewWritten m which
-    → length (Enc (asyncified m s which)) ≤ 67108864 → SpellsModule (Enc (asyncified m s which)) (Norm (asyncified m s which))
-    → IsAccepted prepared_bounds (Enc (asyncified m s which)) (Norm (asyncified m s which))
-emitted_prepared m s which bytes a v few short spelled = prepared_by m s which (layout_codes m s which) bytes a v (layouts_hold m s which v) few short spelled
+pub emitted_prepared : EmittedIsPrepared
+emitted_prepared m s which pieces bytes a v slim few short spelled =
+    prepared_by m s which (layout_codes m s which pieces) bytes a v (layouts_hold m s which pieces v slim) few short spelled

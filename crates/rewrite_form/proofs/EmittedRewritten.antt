@@ -54,7 +54,8 @@ module _ (m : Module) (s : Settings) (which : List Bool) (codes : (index : ℕ) 
     unfolding with_runtime
     own_body true i f g b e is =
         subst (λ (h : Func). Typed (around (emitted m s which codes) h) h.body) (sym (told m s which codes (func_imports m + i) f b) ∙ is)
-        (let h = hold (func_imports m + i) f (defined_of m i f e) b in written_typed m s which codes (func_imports m + i) f v (sort_there m s which v i f e) (v.bodies i f e) h.restoring_typed h.saving_typed)
+        (let h = hold (func_imports m + i) f (defined_of m i f e) b in
+        written_typed m s which codes (func_imports m + i) f v (sort_there m s which v i f e) (v.bodies i f e) h.slim h.restoring_typed h.saving_typed)
     own_body false i f g b e is =
         subst (λ (h : Func). Typed (around (emitted m s which codes) h) h.body) (sym (not_told m s which codes (func_imports m + i) f b) ∙ is)
         (subst (λ c. Typed c f.body) (sym (same_around m s which codes f)) (w.bodies i f (front m.funcs (runtime m s which codes) i (slice_get_within m.funcs i f e) ∙ e)))
@@ -136,8 +137,8 @@ module _ (m : Module) (s : Settings) (which : List Bool) (codes : (index : ℕ) 
         (subst (RewrittenFunc m s (emitted m s which codes) which f) (sym (told m s which codes x f b) ∙ found i f g e h) (record {
           sort = refl;
           locals = written_length m s which codes x f v (sort_there m s which v i f e) (v.bodies i f e);
-          nesting = let d = written_depth m s which codes x f owed.restoring_quiet.depth owed.saving_quiet.depth in omega arith;
-          size = let z = written_size m s which codes x f in omega arith;
+          nesting = let d = written_depth m s which codes x f owed.slim owed.restoring_quiet.depth owed.saving_quiet.depth in omega arith;
+          size = let z = written_size m s which codes x f owed.slim in omega arith;
         }))
 
     pub rewritten_but_runs : FreeOfNames m → RewritesButRuns m s (emitted m s which codes)
@@ -161,10 +162,10 @@ module _ (m : Module) (s : Settings) (which : List Bool) (codes : (index : ℕ) 
     }
 
 pub valid_law : EmittedIsValid
-valid_law m s which v free = emitted_valid m s which (layout_codes m s which) v (layouts_hold m s which v) free
+valid_law m s which pieces v slim free = emitted_valid m s which (layout_codes m s which pieces) v (layouts_hold m s which pieces v slim) free
 
 pub rewritten_law : EmittedIsRewritten
-rewritten_law m s which v free tells = rewritten_but_runs m s which (layout_codes m s which) v (layouts_hold m s which v) tells free
+rewritten_law m s which pieces v slim free tells = rewritten_but_runs m s which (layout_codes m s which pieces) v (layouts_hold m s which pieces v slim) tells free
 
 pub runs_law : RewritesByRuns
 runs_law m s p r runs = record {

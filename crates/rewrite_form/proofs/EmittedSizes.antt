@@ -19,16 +19,19 @@ use Rattle.wa_types.specs.Sizes.{params_of_type, kind_sorts, all_sorts, params_a
 use Rattle.wa_types.specs.Syntax.{basic, local_get, local_set, local_tee, br, br_if, br_table, return, unreachable, call, call_indirect, Plain, Code, done, plain, nest, branch, Func, Module}
 use Rattle.wa_types.specs.Validity.{Valid}
 use Rattle.wa_types.proofs.SizeBounds.{weight_fits}
-use Rattle.wa_model.specs.Flat.{code_of, body_of}
+use Rattle.wa_model.specs.Flat.{code_of, body_of, followed_by}
+use Rattle.slim_modules.specs.Pieces.{first_piece, flat_units, units}
+use Rattle.slim_modules.specs.SlimModule.{Pieces, flat_terms}
+use Rattle.slim_modules.proofs.UnitsSlim.{units_law}
 use Rattle.wa_model.specs.FlatFits.{one_run}
 use Rattle.wa_model.specs.Growth.{Each}
 use Rattle.wa_model.specs.Rewrites.{instructions_and_labels}
-use Rattle.flat_fits.proofs.Calls.{calls_stay}
-use Rattle.flat_fits.proofs.Whole.{meets}
-use Rattle.flat_laws.specs.Flatten.{flattened}
-use Rattle.flat_laws.specs.FlatModule.{extra_types}
-use Rattle.guard_form.specs.Functions.{indices_of}
-use Rattle.guard_form.proofs.Grouped.{joins_law}
+use Rattle.slim_modules.proofs.Calls.{calls_stay}
+use Rattle.slim_modules.proofs.Whole.{meets}
+use Rattle.slim_modules.specs.Flatten.{flattened}
+use Rattle.slim_modules.specs.FlatModule.{extra_types}
+use Rattle.slim_modules.specs.Functions.{indices_of}
+use Rattle.slim_modules.proofs.Grouped.{joins_law}
 use Rattle.wa_model.proofs.GrownSteps.{front}
 use Rattle.wa_model.proofs.RuntimeValid.{behind}
 use Rattle.run_laws.proofs.Sizes.{one_more, params_more, runtime_keeps_sizes}
@@ -38,7 +41,7 @@ use Rattle.rewrite_form.specs.EmittedBy.{FrameCode, guarded_by, written_by, func
 use Rattle.rewrite_form.specs.Sizes.{FewWritten, EmittedKeepsSizes}
 use Rattle.rewrite_form.proofs.EmittedBy.{defined_of, defined_where, sort_of, inner, emitted, runtime, told, not_told, same_sorts, same_length, funcs_are}
 use Rattle.rewrite_form.proofs.EmittedRewritten.{same_exports}
-use Rattle.rewrite_form.proofs.Marks.{Marking, marks_of, marks_written, call_marking, calls_are, table_marking, tables_few, lists_few}
+use Rattle.rewrite_form.proofs.Marks.{Marking, marks_of, marks_slim, marks_written, call_marking, calls_are, table_marking, tables_few, lists_few}
 use Rattle.rewrite_form.proofs.SizesBy.{written_size}
 use Rattle.rewrite_form.proofs.WrittenSizes.{layout_size, layouts_hold}
 
@@ -192,6 +195,11 @@ module _ (m : Module) (s : Settings) (which : List Bool) (codes : (index : ℕ) 
     no_marks k er es =
         let gf = guarded_by m s which codes x f in
         marks_written k (indices_of (global_space m) gf) gf.restoring gf.saving gf.result gf.first gf.body er es
+        ∙ marks_slim k (flat_terms m (Numbered m s which f) x f) 0 (owed.slim.out ∷ []) owed.slim.out owed.slim.here []
+        (followed_by (first_piece (Numbered m s which f) 0 (flattened m x f).body) (flat_units (units (Numbered m s which f) 0 (flattened m x f).body)))
+        (followed_by gf.first (flat_units gf.body))
+        (units_law (flat_terms m (Numbered m s which f) x f) 0 (owed.slim.out ∷ []) owed.slim.out owed.slim.here []
+        (first_piece (Numbered m s which f) 0 (flattened m x f).body) gf.first (units (Numbered m s which f) 0 (flattened m x f).body) gf.body owed.slim.slim)
         ∙ ap (marks_of k) (joins_law (Numbered m s which f) 0 (flattened m x f).body)
 
     calls_same : calls_of g.body ≡ calls_in f
@@ -246,7 +254,8 @@ module _ (m : Module) (s : Settings) (which : List Bool) (codes : (index : ℕ) 
           labels = lists;
           total = bound (code_items g.body) (code_params p g.body) (params_of_type p.types f.sort) (sum_by (λ (r : Run). r.count) g.locals) (instructions_and_labels g.body)
               (code_weight m (pruned f.body)) (length (locals_of m f)) (codes_size (codes x f)) (length extra) (code_items f.body) (code_params m f.body) (params_of_type m.types f.sort)
-              (sum_by (λ (r : Run). r.count) f.locals) (items_few g.body) (written_size m s which codes x f) (small x f is is_written) (weight_fits (2 ^ 31) (2 ^ 31) m f h) calls own sum added total;
+              (sum_by (λ (r : Run). r.count) f.locals) (items_few g.body) (written_size m s which codes x f owed.slim)
+              (small x f is is_written) (weight_fits (2 ^ 31) (2 ^ 31) m f h) calls own sum added total;
         }
 
   -- ---- all functions
@@ -320,11 +329,11 @@ module _ (m : Module) (s : Settings) (which : List Bool) (codes : (index : ℕ) 
         each_segment = r.each_segment;
       }
 
-layouts_small : (m : Module) (s : Settings) (which : List Bool) → Valid m → StrictSizeRule m → AllCodesSmall m which (layout_codes m s which)
-layouts_small m s which v strict x f is told =
+layouts_small : (m : Module) (s : Settings) (which : List Bool) (pieces : (index : ℕ) → Pieces) → Valid m → StrictSizeRule m → AllCodesSmall m which (layout_codes m s which pieces)
+layouts_small m s which pieces v strict x f is told =
     let at = defined_where m x f is in
-    let z = layout_size m s which x f v at.0 at.1 in
+    let z = layout_size m s which pieces x f v at.0 at.1 in
     let w = weight_fits (2 ^ 31) (2 ^ 31) m f (one_of_all (FuncSizes (2 ^ 31) (2 ^ 31) m) m.funcs at.0 f strict.each_func at.1) in omega (arith, z, w)
 
 pub sizes_law : EmittedKeepsSizes
-sizes_law m s which v strict few = emitted_sizes m s which (layout_codes m s which) v strict (layouts_hold m s which v) (layouts_small m s which v strict) few
+sizes_law m s which pieces v slim strict few = emitted_sizes m s which (layout_codes m s which pieces) v strict (layouts_hold m s which pieces v slim) (layouts_small m s which pieces v strict) few

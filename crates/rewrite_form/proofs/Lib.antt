@@ -1,6 +1,7 @@
-pub use Rattle.flat_fits.proofs.Calls
-pub use Rattle.flat_fits.proofs.Whole
-pub mod Emitted
+pub use Rattle.slim_modules.proofs.Calls
+pub use Rattle.slim_modules.proofs.SlimModules
+pub use Rattle.slim_modules.proofs.UnitsAlike
+pub use Rattle.slim_modules.proofs.Whole
 pub mod EmittedBy
 pub mod EmittedRewritten
 pub mod EmittedSizes

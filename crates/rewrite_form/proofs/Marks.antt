@@ -14,8 +14,11 @@ use Rattle.wa_model.specs.Flat.{followed_by, got, set_to, slots_got, result_got}
 use Rattle.wa_model.specs.Growth.{Each}
 use Rattle.local_spill.specs.declared.frames.Place.{Place}
 use Rattle.local_spill.specs.Spilling.{SpillIndices, location_of, room_tested, stored_value, loaded_value, locals_stored, locals_loaded, saving, restoring}
-use Rattle.guard_form.specs.Pieces.{Units, no_unit, call_unit, nest_unit, if_unit, numbers_in, call_to, flat_units}
-use Rattle.guard_form.specs.Guarded.{raise, raised_plain, raised, GuardIndices, by_state, index_with, guarded, sought, noted, choice, arm, front, written_body}
+use Rattle.wa_model.specs.Store.{gives}
+use Rattle.slim_modules.specs.Slim as S
+use Rattle.slim_modules.specs.Slim.{Free, Slims, Terms}
+use Rattle.slim_modules.specs.Pieces.{Units, no_unit, call_unit, nest_unit, if_unit, numbers_in, call_to, flat_units}
+use Rattle.slim_modules.specs.Guarded.{raise, raised_plain, raised, GuardIndices, by_state, index_with, guarded, sought, noted, choice, arm, front, written_body}
 
 -- ---- marks
 
@@ -68,6 +71,34 @@ module _ {X : Type 0} (k : Marking X) where
   marks_got : (o : Operand) (c : Code) → marks_of (got o c) ≡ marks_of c
   marks_got (Local x) c = unmarked (local_get x) c (k.on_get x)
   marks_got (Const v) c = unmarked (basic (const v)) c (k.on_basic (const v))
+
+  -- slim code has the marks of the code beside it
+  pub marks_slim : (t : Terms) (n : ℕ) (ts : List Free) (out f : Free) (sh : S.Shape) (code code' : Code) → Slims t n ts out f sh code code' → marks_of code' ≡ marks_of code
+  marks_slim t n ts out f sh _ _ (S.ends co pl) = refl
+  marks_slim t n ts out f sh _ _ (S.does {sh2 = sh2} {rest = rest} {rest' = rest'} b ta sl) = ap (λ z. k.marks (basic b) ++ z) (marks_slim t n ts out f (S.more (gives b) sh2) rest rest' sl)
+  marks_slim t n ts out f sh _ _ (S.gets {rest = rest} {rest' = rest'} x fr sl) = ap (λ z. k.marks (local_get x) ++ z) (marks_slim t n ts out f (None ∷ sh) rest rest' sl)
+  marks_slim t n ts out f sh _ _ (S.sets {sh2 = sh2} {rest = rest} {rest' = rest'} x g co ta la sl) = ap (λ z. k.marks (local_set x) ++ z) (marks_slim t n ts out g sh2 rest rest' sl)
+  marks_slim t n ts out f sh _ _ (S.tees {sh2 = sh2} {rest = rest} {rest' = rest'} x g co ta la sl) = ap (λ z. k.marks (local_tee x) ++ z) (marks_slim t n ts out g (None ∷ sh2) rest rest' sl)
+  marks_slim t n ts out f sh _ code' (S.keeps {sh2 = sh2} {rest = rest} x g is lt co gx ta la sl) =
+      marks_slim t n ts out g (Some x ∷ sh2) rest code' sl ∙ sym (unmarked (local_set x) rest (k.on_set x))
+  marks_slim t n ts out f sh _ code' (S.uses {sh2 = sh2} {rest = rest} x is ri sl) = marks_slim t n ts out f sh2 rest code' sl ∙ sym (unmarked (local_get x) rest (k.on_get x))
+  marks_slim t n ts out f _ code _ (S.saves {sh = sh} {code' = code'} x g lt co sl) = unmarked (local_set x) code' (k.on_set x) ∙ marks_slim t n ts out g sh code code' sl
+  marks_slim t n ts out f sh code code' (S.narrows g co sl) = marks_slim t n ts out g sh code code' sl
+  marks_slim t n ts out f sh code code' (S.forgets pl sl) = marks_slim t n ts out f [] code code' sl
+  marks_slim t n ts out f sh _ _ (S.leaps l pl re) = refl
+  marks_slim t n ts out f sh _ _ (S.leaps_if {rest = rest} {rest' = rest'} l pl re sl) = ap (λ z. k.marks (br_if l) ++ z) (marks_slim t n ts out f [] rest rest' sl)
+  marks_slim t n ts out f sh _ _ (S.leaps_by es l pl re) = refl
+  marks_slim t n ts out f sh _ _ (S.returns_here pl) = refl
+  marks_slim t n ts out f sh _ _ S.halts = refl
+  marks_slim t n ts out f sh _ _ (S.calls {rest = rest} {rest' = rest'} x pl ac sl) = ap (λ z. k.marks (call x) ++ z) (marks_slim t n ts out f [] rest rest' sl)
+  marks_slim t n ts out f sh _ _ (S.calls_by {rest = rest} {rest' = rest'} x pl ac sl) = ap (λ z. k.marks (call_indirect x) ++ z) (marks_slim t n ts out f [] rest rest' sl)
+  marks_slim t n ts out f sh _ _ (S.blocks {body = body} {body' = body'} {rest = rest} {rest' = rest'} r g pl sb sl) =
+      ap (λ z. z ++ marks_of rest') (marks_slim t _ (g ∷ ts) g f [] body body' sb) ∙ ap (λ z. marks_of body ++ z) (marks_slim t n ts out g [] rest rest' sl)
+  marks_slim t n ts out f sh _ _ (S.loops {body = body} {body' = body'} {rest = rest} {rest' = rest'} r head g pl co sb sl) =
+      ap (λ z. z ++ marks_of rest') (marks_slim t _ (head ∷ ts) g head [] body body' sb) ∙ ap (λ z. marks_of body ++ z) (marks_slim t n ts out g [] rest rest' sl)
+  marks_slim t n ts out f sh _ _ (S.decides {a = a} {a' = a'} {b = b} {b' = b'} {rest = rest} {rest' = rest'} r g pl sa sb sl) =
+      ap (λ z. z ++ marks_of b' ++ marks_of rest') (marks_slim t _ (g ∷ ts) g f [] a a' sa) ∙ ap (λ z. marks_of a ++ z ++ marks_of rest') (marks_slim t _ (g ∷ ts) g f [] b b' sb)
+      ∙ ap (λ z. marks_of a ++ marks_of b ++ z) (marks_slim t n ts out g [] rest rest' sl)
 
   -- ---- guards
 

@@ -15,17 +15,21 @@ use Rattle.wa_types.specs.Points.{after}
 use Rattle.wa_model.specs.Rewrites.{instructions_and_labels}
 use Rattle.wa_model.specs.declared.flat.Operand.TheVariants.{Local}
 use Rattle.wa_model.specs.Flat.{Stmts, no_more, leaps, leaps_if, leaps_by, followed_by, code_of, body_of, result_got}
-use Rattle.flat_laws.specs.Flatten.{Names, names, top, carry_to, carry, carry_all, arrive, flat_plain, flat, flattened}
-use Rattle.flat_laws.proofs.Depths.{flat_is_flat}
-use Rattle.flat_laws.proofs.Sizes.{flat_is_small}
-use Rattle.flat_laws.proofs.ValidModules.{flat_pruned}
+use Rattle.slim_modules.specs.Flatten.{Names, names, top, carry_to, carry, carry_all, arrive, flat_plain, flat, flattened}
+use Rattle.slim_modules.proofs.Depths.{flat_is_flat}
+use Rattle.slim_modules.proofs.Sizes.{flat_is_small}
+use Rattle.slim_modules.proofs.ValidModules.{flat_pruned}
 use Rattle.frame_laws.specs.Sizes.{result_size}
-use Rattle.guard_form.specs.Bounds.{unit_count}
-use Rattle.guard_form.specs.Functions.{GuardedFunc, indices_of}
-use Rattle.guard_form.specs.Guarded.{front, function_body}
-use Rattle.guard_form.specs.Pieces.{flat_units}
-use Rattle.guard_form.proofs.Grouped.{joins_law}
-use Rattle.guard_form.proofs.Sizes.{depth_law, size_law}
+use Rattle.slim_modules.specs.Bounds.{unit_count}
+use Rattle.slim_modules.specs.Functions.{GuardedFunc, indices_of}
+use Rattle.slim_modules.specs.Guarded.{front, function_body}
+use Rattle.slim_modules.specs.Pieces.{Units, first_piece, flat_units, units}
+use Rattle.slim_modules.specs.SlimModule.{SlimPieces, flat_terms}
+use Rattle.slim_modules.specs.SlimLaws.{SlimmerUnits}
+use Rattle.slim_modules.proofs.UnitSizes.{slimmer_law}
+use Rattle.slim_modules.proofs.UnitsAlike.{units_alike}
+use Rattle.slim_modules.proofs.Grouped.{joins_law}
+use Rattle.slim_modules.proofs.GuardSizes.{depth_law, size_law}
 use Rattle.rewrite_form.proofs.UnitsFew.{calls_and_constructs, units_are_few}
 use Rattle.rewrite_form.specs.CodesHold.{codes_size}
 use Rattle.rewrite_form.specs.EmittedBy.{FrameCode, guarded_by, written_by}
@@ -143,7 +147,7 @@ module _ (st : ℕ) (restoring saving body : Code) (o : Option ℕ) where
 
 -- ---- a written function
 
-module _ (m : Module) (s : Settings) (which : List Bool) (codes : (index : ℕ) → Func → FrameCode) (x : ℕ) (f : Func) where
+module _ (m : Module) (s : Settings) (which : List Bool) (codes : (index : ℕ) → Func → FrameCode) (x : ℕ) (f : Func) (sp : SlimPieces m (Numbered m s which f) x f (codes x f).pieces) where
   abbrev gf : GuardedFunc
   gf = guarded_by m s which codes x f
 
@@ -156,8 +160,18 @@ module _ (m : Module) (s : Settings) (which : List Bool) (codes : (index : ℕ) 
   abbrev w : ℕ
   w = code_weight m (pruned f.body)
 
-  joined : followed_by gf.first (flat_units gf.body) ≡ flat_code
+  abbrev first0 : Code
+  first0 = first_piece (Numbered m s which f) 0 (flattened m x f).body
+
+  abbrev units0 : Units
+  units0 = units (Numbered m s which f) 0 (flattened m x f).body
+
+  joined : followed_by first0 (flat_units units0) ≡ flat_code
   joined = joins_law (Numbered m s which f) 0 (flattened m x f).body
+
+  -- slim pieces are no larger
+  slimmer : SlimmerUnits (global_space m) [] first0 gf.first units0 gf.body
+  slimmer = slimmer_law (flat_terms m (Numbered m s which f) x f) 0 (sp.out ∷ []) sp.out sp.here [] first0 gf.first units0 gf.body (global_space m) sp.slim
 
   few_units : unit_count gf.body ≤ w
   few_units =
@@ -166,7 +180,8 @@ module _ (m : Module) (s : Settings) (which : List Bool) (codes : (index : ℕ) 
       let e : calls_and_constructs (flattened m x f).body ≡ calls_and_constructs (flat (names m f) (around m f) ((around m f).result ∷ []) (pruned f.body) []) =
       ap calls_and_constructs (sym (flat_pruned (names m f) (around m f) ((around m f).result ∷ []) f.body [])) in
       let c = counts_less (pruned f.body) in
-      let d = code_weighs m (pruned f.body) in omega arith
+      let d = code_weighs m (pruned f.body) in
+      let same = (units_alike (flat_terms m (Numbered m s which f) x f) 0 (sp.out ∷ []) sp.out sp.here [] first0 gf.first units0 gf.body sp.slim).count in omega arith
 
   -- the result and the guarded body together
   flat_size : instructions_and_labels flat_code + result_size gf.result ≤ 8 * w + 4
@@ -184,6 +199,8 @@ module _ (m : Module) (s : Settings) (which : List Bool) (codes : (index : ℕ) 
   guarded_size =
       let a = size_law (indices_of (global_space m) gf) 0 0 gf.first gf.body in
       let e = ap instructions_and_labels joined in
+      let z = slimmer in
+      let less = z.size in
       let b = few_units in omega arith
 
   pub written_size : instructions_and_labels (written_by m s which codes x f).body ≤ 19 * w + codes_size (codes x f) + 11
@@ -197,4 +214,6 @@ module _ (m : Module) (s : Settings) (which : List Bool) (codes : (index : ℕ) 
       let a = body_depth (global_space m) (codes x f).restoring (codes x f).saving guarded gf.result r s in
       let b = depth_law (indices_of (global_space m) gf) 0 0 gf.first gf.body in
       let e = ap depth_of joined in
+      let z = slimmer in
+      let less = z.depth in
       let c = flat_is_flat m x f in omega arith

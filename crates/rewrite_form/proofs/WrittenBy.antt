@@ -20,13 +20,17 @@ use Rattle.wa_model.specs.FlatTyped.{StmtsTyped}
 use Rattle.wa_model.proofs.BaseValid.{base_has_memory}
 use Rattle.wa_model.proofs.FittingNames.{type_small, func_type_small}
 use Rattle.wa_model.proofs.RuntimeValid.{behind}
-use Rattle.flat_laws.specs.Flatten.{flattened}
-use Rattle.flat_laws.specs.FlatModule.{extra_types}
-use Rattle.flat_laws.proofs.Typing.{wide, body_types, body_stmts}
-use Rattle.flat_laws.proofs.ValidModules.{good_body, own_result}
-use Rattle.guard_form.specs.Functions.{GuardedFunc, indices_of}
-use Rattle.guard_form.proofs.FrontTypes.{body_law}
-use Rattle.guard_form.proofs.PieceTypes.{pieces_law}
+use Rattle.slim_modules.specs.Flatten.{flattened}
+use Rattle.slim_modules.specs.FlatModule.{extra_types}
+use Rattle.slim_modules.proofs.Typing.{wide, body_types, body_stmts}
+use Rattle.slim_modules.proofs.ValidModules.{good_body, own_result}
+use Rattle.slim_modules.specs.Functions.{GuardedFunc, indices_of}
+use Rattle.slim_modules.proofs.FrontTypes.{body_from_law}
+use Rattle.slim_modules.proofs.PieceTypes.{pieces_law}
+use Rattle.slim_modules.specs.Pieces.{first_piece, units}
+use Rattle.slim_modules.specs.Typed.{types_same}
+use Rattle.slim_modules.specs.SlimModule.{SlimPieces, flat_terms}
+use Rattle.slim_modules.proofs.UnitsTyped.{typed_law}
 use Rattle.rewrite_form.specs.CodesHold.{CodeTyped, three}
 use Rattle.rewrite_form.specs.EmittedBy.{FrameCode, guarded_by, written_by}
 use Rattle.rewrite_form.proofs.EmittedBy.{emitted, same_around}
@@ -126,17 +130,21 @@ module _ (m : Module) (s : Settings) (which : List Bool) (codes : (index : ℕ) 
     labels = None ∷ own ∷ []
 
     -- whose codes have their types has its type
-    pub written_typed : CodeTyped m x f (codes x f).restoring → CodeTyped m x f (codes x f).saving → Typed c g.body
+    pub written_typed : SlimPieces m (Numbered m s which f) x f (codes x f).pieces → CodeTyped m x f (codes x f).restoring → CodeTyped m x f (codes x f).saving → Typed c g.body
     unfolding Types
-    written_typed restores saves =
+    written_typed sp restores saves =
         let gf : GuardedFunc = guarded_by m s which codes x f in
         let ends : own ≡ c.result = sym result_is in
         let result : Types c (c.result ∷ []) (result_got (flattened m x f).result) (listed c.result) [] = subst (λ q. Types c (q ∷ []) (result_got (flattened m x f).result) (listed q) []) ends result_typed in
         let stmts : StmtsTyped c (None ∷ c.result ∷ []) (flattened m x f).body =
         subst (λ q. StmtsTyped c (None ∷ q ∷ []) (flattened m x f).body) ends
         (stmts_wider (wide m f) c to_written labels (flattened m x f).body (body_stmts m f (func_type_small m v) (type_small m v) x (good_body m f body) (own_result m f))) in
-        body_law c (indices_of (global_space m) gf) (codes x f).restoring (codes x f).saving (flattened m x f).result gf.first gf.body state_is index_is
+        let ls : List (Option ValType) = None ∷ c.result ∷ [] in
+        let first0 = first_piece (Numbered m s which f) 0 (flattened m x f).body in
+        let units0 = units (Numbered m s which f) 0 (flattened m x f).body in
+        body_from_law c (indices_of (global_space m) gf) (codes x f).restoring (codes x f).saving (flattened m x f).result gf.first gf.body state_is index_is
         (restores c (None ∷ c.result ∷ []) memory_is address_is locals_are)
         (saves c (None ∷ c.result ∷ []) memory_is address_is locals_are)
         result
-        (pieces_law c (None ∷ c.result ∷ []) (Numbered m s which f) 0 (flattened m x f).body stmts)
+        (typed_law c ls (flat_terms m (Numbered m s which f) x f) 0 (sp.out ∷ []) sp.out sp.here [] first0 gf.first units0 gf.body [] sp.slim types_same
+        (pieces_law c (None ∷ c.result ∷ []) (Numbered m s which f) 0 (flattened m x f).body stmts))

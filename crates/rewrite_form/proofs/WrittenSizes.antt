@@ -15,12 +15,12 @@ use Rattle.wa_model.specs.Rewrites.{instructions_and_labels}
 use Rattle.frame_laws.specs.Layout.{kept, gap, kept_count, Layout, fields_size, placed, spilled_by, restore_code, save_code}
 use Rattle.frame_laws.proofs.FrameSizes.{function_size, function_depth}
 use Rattle.slot_laws.proofs.Few.{slots_are_few}
-use Rattle.rewrite_form.specs.CodesHold.{AllCodesHold, CodeQuiet, codes_size}
-use Rattle.rewrite_form.specs.Emitted.{is_kept, field_where, frame_layout, layout_codes, written_func}
+use Rattle.rewrite_form.specs.CodesHold.{AllCodesHold, AllSlim, CodeQuiet, codes_size}
+use Rattle.rewrite_form.specs.Emitted.{is_kept, field_where, frame_layout, layout_codes}
 use Rattle.rewrite_form.proofs.EmittedBy.{defined_where}
 use Rattle.rewrite_form.proofs.Marks.{Marking, marks_of, marks_saving, marks_restoring, call_marking, calls_are, table_marking, lists_few}
 use Rattle.rewrite_form.proofs.SizesBy.{body_size, code_weighs, counts_less, inner_depths}
-use Rattle.rewrite_form.proofs.SizesBy as By
+use Rattle.slim_modules.specs.SlimModule.{Pieces}
 use Rattle.rewrite_form.proofs.WrittenTypes.{restoring_typed, saving_typed}
 
 -- ---- saved locals
@@ -96,12 +96,10 @@ module _ (l : Layout) where
 
 -- ---- a function
 
-module _ (m : Module) (s : Settings) (which : List Bool) (x : ℕ) (f : Func) where
-  abbrev w : ℕ
-  w = code_weight m (pruned f.body)
-
-  pub layout_size : (v : Valid m) (i : ℕ) → slice_get m.funcs i ≡ Some f → codes_size (layout_codes m s which x f) ≤ 6 * w + 6 * length (locals_of m f) + 34
-  layout_size v i e =
+module _ (m : Module) (s : Settings) (which : List Bool) (pieces : (index : ℕ) → Pieces) where
+  pub layout_size : (x : ℕ) (f : Func) (v : Valid m) (i : ℕ) → slice_get m.funcs i ≡ Some f
+      → codes_size (layout_codes m s which pieces x f) ≤ 6 * code_weight m (pruned f.body) + 6 * length (locals_of m f) + 34
+  layout_size x f v i e =
       let a = both_size (frame_layout m s which x f) in
       let b = kept_few (is_kept m s which x f) (Saved m save_all f 0) in
       let c = saved_count m f in
@@ -109,22 +107,15 @@ module _ (m : Module) (s : Settings) (which : List Bool) (x : ℕ) (f : Func) wh
       let k = counts_less (pruned f.body) in
       let l = code_weighs m (pruned f.body) in omega arith
 
-  pub written_size : (v : Valid m) (i : ℕ) → slice_get m.funcs i ≡ Some f → instructions_and_labels (written_func m s which x f).body ≤ 25 * w + 6 * length (locals_of m f) + 45
-  written_size v i e =
-      let a = layout_size v i e in
-      let b = By.written_size m s which (layout_codes m s which) x f in omega arith
-
-  pub written_depth : depth_of (written_func m s which x f).body ≤ depth_of (pruned f.body) + 3
-  written_depth = By.written_depth m s which (layout_codes m s which) x f (restoring_depth (frame_layout m s which x f)) (saving_depth (frame_layout m s which x f))
-
-pub layouts_hold : (m : Module) (s : Settings) (which : List Bool) → Valid m → AllCodesHold m s which (layout_codes m s which)
-layouts_hold m s which v x f is told =
-    let at = defined_where m x f is in
-    let z = layout_size m s which x f v at.0 at.1 in
-    record {
-      restoring_typed = restoring_typed m s which x f;
-      saving_typed = saving_typed m s which x f;
-      restoring_quiet = restoring_quiet (frame_layout m s which x f);
-      saving_quiet = saving_quiet (frame_layout m s which x f);
-      size = omega arith;
-    }
+  pub layouts_hold : Valid m → AllSlim m s which pieces → AllCodesHold m s which (layout_codes m s which pieces)
+  layouts_hold v slim x f is told =
+      let at = defined_where m x f is in
+      let z = layout_size x f v at.0 at.1 in
+      record {
+        slim = slim x f is told;
+        restoring_typed = restoring_typed m s which x f;
+        saving_typed = saving_typed m s which x f;
+        restoring_quiet = restoring_quiet (frame_layout m s which x f);
+        saving_quiet = saving_quiet (frame_layout m s which x f);
+        size = omega arith;
+      }

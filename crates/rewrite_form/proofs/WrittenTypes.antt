@@ -1,27 +1,24 @@
 -- Under the policy `all` a written function has its type in the emitted module.
-use Rattle.std.proofs.Common.{◌≡◌, ◌∙◌, ℕ, suc, ◌+◌, ◌<◌, List, [], ◌∷◌, ◌++◌, length, map, Some, Bool, true, false, refl, sym, ap, subst, arith, length-append}
+use Rattle.std.proofs.Common.{◌≡◌, ◌∙◌, ℕ, suc, ◌+◌, List, [], ◌∷◌, ◌++◌, length, map, Some, Bool, true, false, refl, sym, ap, subst, arith, length-append}
 use Rattle.std.specs.Prelude.{slice_get, if◌then◌else◌}
 use Rattle.std.proofs.lemmas.List.{append_assoc}
 use Rattle.std.proofs.lemmas.Option.{slice_get_within}
 use Rattle.wa_types.specs.declared.values.ValType.{ValType}
 use Rattle.wa_types.specs.declared.values.ValType.TheVariants.{I32}
-use Rattle.wa_types.specs.Frames.{Pair, Place, SlotPairs, ResultPairs, Count, place_onto, named_places, slot_places, places, Saved}
-use Rattle.wa_types.specs.Modules.{locals_of, around}
+use Rattle.wa_types.specs.Frames.{Pair, Place, SlotPairs, ResultPairs, place_onto, named_places, slot_places, places, Saved}
+use Rattle.wa_types.specs.Modules.{locals_of}
 use Rattle.wa_types.specs.Pausing.{save_all, Settings}
 use Rattle.wa_types.specs.Runtime.{global_space}
 use Rattle.wa_types.specs.Syntax.{done, Func, Module}
-use Rattle.wa_types.specs.Typing.{Around, Types, Typed}
-use Rattle.wa_types.specs.Validity.{Valid}
+use Rattle.wa_types.specs.Typing.{Around, Types}
 use Rattle.wa_model.proofs.GrownSteps.{front}
 use Rattle.wa_model.proofs.RuntimeValid.{behind}
-use Rattle.flat_laws.specs.Flatten.{flattened}
-use Rattle.frame_laws.specs.Layout.{kept, gap}
+use Rattle.slim_modules.specs.Flatten.{flattened}
+use Rattle.frame_laws.specs.Layout.{kept, gap, restore_code, save_code}
 use Rattle.frame_laws.specs.Typed.{FieldsTyped, LayoutTyped}
 use Rattle.frame_laws.proofs.FrameTypes.{save_typed, restore_typed}
 use Rattle.rewrite_form.specs.CodesHold.{CodeTyped, three}
-use Rattle.rewrite_form.specs.Emitted.{is_kept, field_where, frame_layout, layout_codes, written_func}
-use Rattle.rewrite_form.proofs.Emitted.{emitted}
-use Rattle.rewrite_form.proofs.WrittenBy as By
+use Rattle.rewrite_form.specs.Emitted.{is_kept, field_where, frame_layout}
 
 -- ---- places of saved locals
 
@@ -108,20 +105,10 @@ module _ (m : Module) (s : Settings) (which : List Bool) (x : ℕ) (f : Func) wh
         fields = fields_typed c.locals (is_kept m s which x f) (Saved m save_all f 0) (places_written m x f c.locals (λ y. true) (λ p. true) locals);
       }
 
-  pub restoring_typed : CodeTyped m x f (layout_codes m s which x f).restoring
+  pub restoring_typed : CodeTyped m x f (restore_code (frame_layout m s which x f) done)
   unfolding Types
   restoring_typed c ls memory address locals = restore_typed c ls (frame_layout m s which x f) done [] (layout_typed c memory address locals) refl
 
-  pub saving_typed : CodeTyped m x f (layout_codes m s which x f).saving
+  pub saving_typed : CodeTyped m x f (save_code (frame_layout m s which x f) done)
   unfolding Types
   saving_typed c ls memory address locals = save_typed c ls (frame_layout m s which x f) done [] (layout_typed c memory address locals) refl
-
-  module _ (v : Valid m) (sort_there : f.sort < length m.types) (body : Typed (around m f) f.body) where
-    abbrev around_written : Around
-    around_written = around (emitted m s which) (written_func m s which x f)
-
-    pub written_length : length around_written.locals ≡ Count m f
-    written_length = By.written_length m s which (layout_codes m s which) x f v sort_there body
-
-    pub written_typed : Typed around_written (written_func m s which x f).body
-    written_typed = By.written_typed m s which (layout_codes m s which) x f v sort_there body restoring_typed saving_typed

@@ -1,4 +1,4 @@
--- What the codes of frames owe, so that the module that is emitted with them is valid, and no deeper and no larger than it may be.
+-- What pieces and the codes of frames owe, so that the module that is emitted with them is valid, and no deeper and no larger than it may be.
 use Rattle.std.specs.Prelude.{◌≡◌, ◌≤◌, ◌<◌, ◌^◌, ℕ, suc, ◌+◌, ◌*◌, List, [], ◌∷◌, ◌++◌, Option, Some, Bool, true, slice_get}
 use Rattle.wa_types.specs.declared.values.ValType.{ValType}
 use Rattle.wa_types.specs.declared.values.ValType.TheVariants.{I32, I64}
@@ -11,7 +11,8 @@ use Rattle.wa_types.specs.Sizes.{code_lists}
 use Rattle.wa_types.specs.Syntax.{Code, Func, Module}
 use Rattle.wa_types.specs.Typing.{Around, Types}
 use Rattle.wa_model.specs.Rewrites.{frames_size, instructions_and_labels}
-use Rattle.flat_laws.specs.Flatten.{flattened}
+use Rattle.slim_modules.specs.Flatten.{flattened}
+use Rattle.slim_modules.specs.SlimModule.{Pieces, SlimPieces}
 use Rattle.rewrite_form.specs.EmittedBy.{FrameCode}
 
 -- behind the flat locals: the call index, and a scratch local of each type
@@ -34,8 +35,10 @@ pub record CodeQuiet (code : Code) : Type 0 where
 abbrev pub codes_size : FrameCode → ℕ
 codes_size c = instructions_and_labels c.restoring + instructions_and_labels c.saving
 
--- The codes of a function's frame: their types, what they hold, and how large they may be beside the function's weight.
+-- Pieces are the flat function's, or slim. The codes of its frame: their types, what they hold, and how large they may be beside the
+-- function's weight.
 pub record CodesHold (m : Module) (s : Settings) (which : List Bool) (x : ℕ) (f : Func) (c : FrameCode) : Type 0 where
+  pub slim : SlimPieces m (Numbered m s which f) x f c.pieces
   pub restoring_typed : CodeTyped m x f c.restoring
   pub saving_typed : CodeTyped m x f c.saving
   pub restoring_quiet : CodeQuiet c.restoring
@@ -45,6 +48,14 @@ pub record CodesHold (m : Module) (s : Settings) (which : List Bool) (x : ℕ) (
 -- so do those of each told function
 abbrev pub AllCodesHold : Module → Settings → (which : List Bool) → (codes : (index : ℕ) → Func → FrameCode) → Type 0
 AllCodesHold m s which codes = (x : ℕ) (f : Func) → defined_at m x ≡ Some f → is_told (slice_get which x) ≡ true → CodesHold m s which x f (codes x f)
+
+-- The pieces of each told function are slim.
+abbrev pub AllSlim : Module → Settings → (which : List Bool) → (pieces : (index : ℕ) → Pieces) → Type 0
+AllSlim m s which pieces = (x : ℕ) (f : Func) → defined_at m x ≡ Some f → is_told (slice_get which x) ≡ true → SlimPieces m (Numbered m s which f) x f (pieces x)
+
+-- so are those that its codes go with
+abbrev pub AllCodesSlim : Module → Settings → (which : List Bool) → (codes : (index : ℕ) → Func → FrameCode) → Type 0
+AllCodesSlim m s which codes = (x : ℕ) (f : Func) → defined_at m x ≡ Some f → is_told (slice_get which x) ≡ true → SlimPieces m (Numbered m s which f) x f (codes x f).pieces
 
 -- they are smaller than any code that can be stored
 abbrev pub AllCodesSmall : Module → (which : List Bool) → (codes : (index : ℕ) → Func → FrameCode) → Type 0

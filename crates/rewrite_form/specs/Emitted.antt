@@ -1,17 +1,17 @@
--- The module that rewriting emits under policy `all`.
-use Rattle.std.specs.Prelude.{ℕ, suc, List, [], length, map, Option, Some, None, Bool, ◌||◌, slice_get, nat_lt, nat_eq, if◌then◌else◌}
+-- The module that rewriting emits under policy `all`, for any pieces of its functions.
+use Rattle.std.specs.Prelude.{◌≡◌, ℕ, suc, List, [], length, map, Option, Some, None, Bool, ◌||◌, slice_get, nat_lt, nat_eq, if◌then◌else◌}
 use Rattle.std.specs.List.{list_any}
 use Rattle.wa_types.specs.Frames.{Place, Saved}
 use Rattle.wa_types.specs.Modules.{locals_of}
-use Rattle.wa_types.specs.Pausing.{save_all, Settings, is_told, Numbered}
+use Rattle.wa_types.specs.Pausing.{save_all, Settings, Numbered}
 use Rattle.wa_types.specs.Runtime.{global_space}
 use Rattle.wa_types.specs.Syntax.{done, Func, Module}
 use Rattle.wa_model.specs.Flat.{FlatFunc}
-use Rattle.flat_laws.specs.Flatten.{flattened}
-use Rattle.flat_laws.specs.FlatModule.{stacks_in}
+use Rattle.slim_modules.specs.Flatten.{flattened}
+use Rattle.slim_modules.specs.FlatModule.{stacks_in}
 use Rattle.frame_laws.specs.Layout.{FrameField, kept, gap, Layout, save_code, restore_code}
-use Rattle.guard_form.specs.Functions.{GuardedFunc, Role, as_is, with_guards}
-use Rattle.rewrite_form.specs.EmittedBy.{FrameCode, asyncified_by, func_by, funcs_by, guarded_by, written_by}
+use Rattle.slim_modules.specs.SlimModule.{Pieces, plain_pieces}
+use Rattle.rewrite_form.specs.EmittedBy.{FrameCode, asyncified_by, written_by}
 
 -- ---- frames
 
@@ -43,33 +43,19 @@ frame_layout m s which x f = record {
 
 -- ---- functions
 
--- its codes
-abbrev pub layout_codes : Module → Settings → (which : List Bool) → (index : ℕ) → Func → FrameCode
-layout_codes m s which x f = record { restoring = restore_code (frame_layout m s which x f) done; saving = save_code (frame_layout m s which x f) done }
+-- Which slim pieces a function is written from: those that flattening gives.
+abbrev pub ChosenPieces : Module → Settings → (which : List Bool) → (index : ℕ) → Func → Pieces → Type 0
+ChosenPieces m s which x f p = p ≡ plain_pieces (Numbered m s which f) (flattened m x f)
 
--- A function that may pause: its flat statements in pieces and units by its numbered calls, with the code that restores and
--- saves its frame.
-abbrev pub guarded_func : Module → Settings → (which : List Bool) → (index : ℕ) → Func → GuardedFunc
-guarded_func m s which x f = guarded_by m s which (layout_codes m s which) x f
+module _ (m : Module) (s : Settings) (which : List Bool) (pieces : (index : ℕ) → Pieces) where
+  -- its pieces, and its codes
+  abbrev pub layout_codes : (index : ℕ) → Func → FrameCode
+  layout_codes x f = record { pieces = pieces x; restoring = restore_code (frame_layout m s which x f) done; saving = save_code (frame_layout m s which x f) done }
 
--- As it is written. Behind its locals stand the slots, the result locals, the call index and a scratch local of each type.
-abbrev pub written_func : Module → Settings → (which : List Bool) → (index : ℕ) → Func → Func
-written_func m s which x f = written_by m s which (layout_codes m s which) x f
+  -- The module in which each function that may pause is written, `which` telling them, with the runtime's parts behind its own.
+  abbrev pub asyncified : Module
+  asyncified = asyncified_by m s which layout_codes
 
--- a function that may pause is written, any other stays
-abbrev pub emitted_func : Module → Settings → (which : List Bool) → (index : ℕ) → Func → Func
-emitted_func m s which x f = func_by m s which (layout_codes m s which) x f
-
--- the functions from this index on
-abbrev pub emitted_funcs : Module → Settings → (which : List Bool) → (index : ℕ) → List Func → List Func
-emitted_funcs m s which x fs = funcs_by m s which (layout_codes m s which) x fs
-
--- ---- the module
-
--- The module in which each function that may pause is written, `which` telling them, with the runtime's parts behind its own.
-abbrev pub asyncified : Module → Settings → (which : List Bool) → Module
-asyncified m s which = asyncified_by m s which (layout_codes m s which)
-
--- What a function of the module is in flat code and as it is written.
-abbrev pub role_of : Module → Settings → (which : List Bool) → (index : ℕ) → Func → Role
-role_of m s which x f = if is_told (slice_get which x) then with_guards (guarded_func m s which x f) else as_is (length (locals_of m f)) f.body
+-- A function as it is written from these pieces. Behind its locals stand the slots, the result locals, the call index and a scratch local of each type.
+abbrev pub written_func : Module → Settings → (which : List Bool) → (index : ℕ) → Func → Pieces → Func
+written_func m s which x f p = written_by m s which (layout_codes m s which (λ y. p)) x f

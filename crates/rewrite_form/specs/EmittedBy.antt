@@ -1,23 +1,24 @@
--- The module that rewriting emits, for any codes that restore and save frames.
+-- The module that rewriting emits, for any slim pieces, and any codes that restore and save frames.
 use Rattle.std.specs.Prelude.{ℕ, suc, List, [], ◌∷◌, ◌++◌, length, map, Bool, slice_get, if◌then◌else◌}
 use Rattle.wa_types.specs.declared.values.ValType.TheVariants.{I32, I64}
 use Rattle.wa_types.specs.Modules.{func_imports}
-use Rattle.wa_types.specs.Pausing.{Settings, is_told, Numbered}
+use Rattle.wa_types.specs.Pausing.{Settings, is_told}
 use Rattle.wa_types.specs.Runtime.{global_space, with_runtime}
 use Rattle.wa_types.specs.Syntax.{Code, Func, Module}
 use Rattle.wa_model.specs.FlatFits.{one_run}
-use Rattle.flat_laws.specs.Flatten.{flattened}
-use Rattle.flat_laws.specs.FlatModule.{extra_types}
-use Rattle.guard_form.specs.Functions.{GuardedFunc, with_guards, written_code}
-use Rattle.guard_form.specs.Pieces.{first_piece, units}
+use Rattle.slim_modules.specs.Flatten.{flattened}
+use Rattle.slim_modules.specs.FlatModule.{extra_types}
+use Rattle.slim_modules.specs.Functions.{GuardedFunc, with_guards, written_code}
+use Rattle.slim_modules.specs.SlimModule.{Pieces}
 
--- The codes that restore and that save the frame of a function.
+-- What a function is written from: its pieces, and the codes that restore and that save its frame.
 pub record FrameCode : Type 0 where
+  pub pieces : Pieces
   pub restoring : Code
   pub saving : Code
 
 module _ (m : Module) (s : Settings) (which : List Bool) (codes : (index : ℕ) → Func → FrameCode) where
-  -- A function that may pause: its flat statements in pieces and units by its numbered calls, with the code that restores and
+  -- A function that may pause: the pieces and units of its flat statements by its numbered calls, with the code that restores and
   -- saves its frame.
   abbrev pub guarded_by : (index : ℕ) → Func → GuardedFunc
   guarded_by x f = record {
@@ -25,8 +26,8 @@ module _ (m : Module) (s : Settings) (which : List Bool) (codes : (index : ℕ) 
     restoring = (codes x f).restoring;
     saving = (codes x f).saving;
     result = (flattened m x f).result;
-    first = first_piece (Numbered m s which f) 0 (flattened m x f).body;
-    body = units (Numbered m s which f) 0 (flattened m x f).body;
+    first = (codes x f).pieces.first;
+    body = (codes x f).pieces.units;
   }
 
   -- As it is written, where the global of the state stands behind the module's own. Behind its locals stand the slots, the

@@ -9,6 +9,8 @@ use Rattle.wa_types.specs.Validity.{Valid}
 use Rattle.wa_model.specs.Behaves.{Behaves}
 use Rattle.wa_model.specs.Quiet.{FreeOfNames}
 use Rattle.wa_model.specs.Rewrites.{SameFunc, RewrittenFunc, Rewrites}
+use Rattle.slim_modules.specs.SlimModule.{Pieces}
+use Rattle.rewrite_form.specs.CodesHold.{AllSlim}
 use Rattle.rewrite_form.specs.Emitted.{asyncified}
 
 -- Each part of a rewriting but that it behaves like the original.
@@ -31,13 +33,16 @@ pub record RewritesButRuns (m : Module) (s : Settings) (p : Module) : Type 0 whe
 
 -- ---- laws
 
--- The emitted module of a valid one without a reserved name is valid, whichever functions are written.
+-- The emitted module of a valid one without a reserved name is valid, whichever functions are written, from any slim pieces.
 abbrev pub EmittedIsValid : Type 0
-EmittedIsValid = (m : Module) (s : Settings) (which : List Bool) → Valid m → FreeOfNames m → Valid (asyncified m s which)
+EmittedIsValid =
+    (m : Module) (s : Settings) (which : List Bool) (pieces : (index : ℕ) → Pieces) → Valid m → AllSlim m s which pieces → FreeOfNames m → Valid (asyncified m s which pieces)
 
 -- Where those are written that may pause, it is the original, rewritten,
 abbrev pub EmittedIsRewritten : Type 0
-EmittedIsRewritten = (m : Module) (s : Settings) (which : List Bool) → Valid m → FreeOfNames m → TellsMayPause m s which → RewritesButRuns m s (asyncified m s which)
+EmittedIsRewritten =
+    (m : Module) (s : Settings) (which : List Bool) (pieces : (index : ℕ) → Pieces) → Valid m → AllSlim m s which pieces → FreeOfNames m → TellsMayPause m s which
+    → RewritesButRuns m s (asyncified m s which pieces)
 
 -- in every part, where it behaves like it.
 abbrev pub RewritesByRuns : Type 0

@@ -6,6 +6,8 @@ use Rattle.wa_types.specs.Pausing.{Settings, is_told}
 use Rattle.wa_types.specs.Sizes.{SizeRule, StrictSizeRule}
 use Rattle.wa_types.specs.Syntax.{Func, Module}
 use Rattle.wa_types.specs.Validity.{Valid}
+use Rattle.slim_modules.specs.SlimModule.{Pieces}
+use Rattle.rewrite_form.specs.CodesHold.{AllSlim}
 use Rattle.rewrite_form.specs.Emitted.{asyncified}
 
 -- Each function that is told has at most 50,000 locals as it is written.
@@ -14,4 +16,6 @@ FewWritten m which = (x : ℕ) (f : Func) → defined_at m x ≡ Some f → is_t
 
 -- Of a valid module under the strict size rule the emitted one keeps the size rule.
 abbrev pub EmittedKeepsSizes : Type 0
-EmittedKeepsSizes = (m : Module) (s : Settings) (which : List Bool) → Valid m → StrictSizeRule m → FewWritten m which → SizeRule (asyncified m s which)
+EmittedKeepsSizes =
+    (m : Module) (s : Settings) (which : List Bool) (pieces : (index : ℕ) → Pieces) → Valid m → AllSlim m s which pieces → StrictSizeRule m → FewWritten m which
+    → SizeRule (asyncified m s which pieces)

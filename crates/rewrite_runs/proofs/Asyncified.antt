@@ -29,10 +29,12 @@ use Rattle.flat_laws.specs.Flatten.{flattened, names, slots}
 use Rattle.flat_laws.proofs.RuntimeModules.{base_flattened, base_slots}
 use Rattle.flat_laws.proofs.Sizes.{stacks_are_slots}
 use Rattle.emitted_bytes.specs.Layout.{Layout, FrameField, restore_code, save_code}
-use Rattle.flat_guards.specs.Emitted.{Emitted, KeepsEnough, fields_of, layout_of, AllKeepEnough, Framing, kept_frames, lay_at, plain_at, plain_where}
+use Rattle.flat_guards.specs.SlimModule.{Pieces}
+use Rattle.flat_guards.specs.Emitted.{Emitted, KeepsEnough, fields_of, layout_of, AllKeepEnough, Framing, kept_frames, lay_at}
 use Rattle.flat_guards.proofs.KeptFields.{all_places}
 use Rattle.flat_guards.proofs.PairedFlat.{base_defined, base_locals}
 use Rattle.flat_guards.proofs.PauseCosts.{emitted_behave}
+use Rattle.emitted_bytes.specs.CodesHold.{AllSlim}
 use Rattle.emitted_bytes.specs.Emitted.{asyncified, field_where, frame_layout, holds_operand, is_kept, layout_codes, or_none}
 use Rattle.emitted_bytes.specs.EmittedBy.{FrameCode}
 use Rattle.emitted_bytes.specs.Sizes.{FewWritten}
@@ -72,7 +74,7 @@ all_in P (x ∷ xs) h = All-cons P x xs (h x (ap (λ b. b || list_any (nat_eq x)
 
 -- ---- the emitted module
 
-module _ (m : Module) (s : Settings) (which : List Bool) (valid : Valid m) where
+module _ (m : Module) (s : Settings) (which : List Bool) (pieces : (index : ℕ) → Pieces) (valid : Valid m) where
   -- what the frames of each function keep
   abbrev keep_of : (x : ℕ) → Option Func → ℕ → Bool
   keep_of x None y = true
@@ -82,10 +84,10 @@ module _ (m : Module) (s : Settings) (which : List Bool) (valid : Valid m) where
   keep x y = keep_of x (defined_at m x) y
 
   abbrev frames : (index : ℕ) → Framing
-  frames = kept_frames m s which (plain_at m s which) keep
+  frames = kept_frames m s which pieces keep
 
   abbrev p : Module
-  p = asyncified m s which
+  p = asyncified m s which pieces
 
   module _ (x : ℕ) (f : Func) (is : defined_at m x ≡ Some f) where
     abbrev ps : List ℕ
@@ -109,9 +111,9 @@ module _ (m : Module) (s : Settings) (which : List Bool) (valid : Valid m) where
     same_layout = ap (λ z. layout z (map (field_where (is_kept m s which x f)) (Saved m save_all f 0))) (sym same_flat) ∙ ap (layout (flattened (Base m) x f)) same_fields
 
     abbrev codes_of : Layout → FrameCode
-    codes_of l = record { restoring = restore_code l done; saving = save_code l done }
+    codes_of l = record { pieces = pieces x; restoring = restore_code l done; saving = save_code l done }
 
-    same_codes : layout_codes m s which x f ≡ record { restoring = (frames x).restoring; saving = (frames x).saving }
+    same_codes : layout_codes m s which pieces x f ≡ record { pieces = (frames x).pieces; restoring = (frames x).restoring; saving = (frames x).saving }
     same_codes = ap codes_of same_layout ∙ ap (λ o. codes_of (lay_at m s which keep x o)) (sym is)
 
     abbrev at_place : ℕ → ℕ → Bool
@@ -136,18 +138,22 @@ module _ (m : Module) (s : Settings) (which : List Bool) (valid : Valid m) where
       stacked = λ place ops c points. all_in (λ y. keep x y ≡ true) (slots (names (Base m) f) ops) (kept_there place ops c points);
     }
 
-  pub emitted_so : FreeOfNames m → StrictSizeRule m → FewWritten m which → TellsMayPause m s which → Emitted m s which (kept_frames m s which (plain_at m s which) keep) (asyncified m s which)
-  emitted_so free sizes few tells = By.emitted_so m s which (layout_codes m s which) frames valid same_codes (λ x f is. ap (plain_where m s which x) is) (layouts_hold m s which valid) free sizes few tells
+  pub emitted_so : AllSlim m s which pieces → FreeOfNames m → StrictSizeRule m → FewWritten m which → TellsMayPause m s which
+      → Emitted m s which (kept_frames m s which pieces keep) (asyncified m s which pieces)
+  emitted_so slim free sizes few tells =
+      By.emitted_so m s which (layout_codes m s which pieces) frames valid same_codes (layouts_hold m s which pieces valid slim) free sizes few tells
 
   pub all_keep_enough : AllKeepEnough m s which keep
   all_keep_enough x f is told = keeps x f is
 
-pub asyncified_behaves : (m : Module) (s : Settings) (which : List Bool) → Valid m → FreeOfNames m → StrictSizeRule m → FewWritten m which → s.policy ≡ save_all → TellsMayPause m s which → Behaves m s (asyncified m s which)
-asyncified_behaves m s told valid free sizes few policy tells0 wf which tells plan os n cmp pauses =
-    let em = emitted_so m s told valid free sizes few tells0 in
-    emitted_behave m s told (plain_at m s told) (keep m s told valid) (asyncified m s told) valid (valid_law m s told valid free)
-    (well_formed_in (asyncified m s told) (emitted_fits m s told valid wf sizes few)) policy tells0 em (all_keep_enough m s told valid) wf which tells plan os n cmp pauses
+pub asyncified_behaves : (m : Module) (s : Settings) (which : List Bool) (pieces : (index : ℕ) → Pieces) → Valid m → AllSlim m s which pieces → FreeOfNames m → StrictSizeRule m
+    → FewWritten m which → s.policy ≡ save_all → TellsMayPause m s which → Behaves m s (asyncified m s which pieces)
+asyncified_behaves m s told pieces valid slim free sizes few policy tells0 wf which tells plan os n cmp pauses =
+    let em = emitted_so m s told pieces valid slim free sizes few tells0 in
+    emitted_behave m s told pieces (keep m s told pieces valid) (asyncified m s told pieces) valid (valid_law m s told pieces valid slim free)
+    (well_formed_in (asyncified m s told pieces) (emitted_fits m s told pieces valid slim wf sizes few)) policy tells0 em (all_keep_enough m s told pieces valid)
+    wf which tells plan os n cmp pauses
 
 pub asyncified_law : AsyncifiedIsRewritten
-asyncified_law m s which valid free sizes few policy tells =
-    runs_law m s (asyncified m s which) (rewritten_law m s which valid free tells) (asyncified_behaves m s which valid free sizes few policy tells)
+asyncified_law m s which pieces valid slim free sizes few policy tells =
+    runs_law m s (asyncified m s which pieces) (rewritten_law m s which pieces valid slim free tells) (asyncified_behaves m s which pieces valid slim free sizes few policy tells)

@@ -5,7 +5,7 @@ use Rattle.std.proofs.lemmas.List.{append_assoc, map-append}
 use Rattle.std.proofs.lemmas.List.Concat.{flat_map-append}
 use Rattle.wa_types.specs.Base.{Base}
 use Rattle.wa_types.specs.Frames.{Count, Pair, ResultPairs, SlotPairs}
-use Rattle.wa_types.specs.Modules.{declared_locals, defined_at, func_imports}
+use Rattle.wa_types.specs.Modules.{declared_locals, defined_at, func_imports, locals_of}
 use Rattle.wa_types.specs.Pausing.{Callee, Numbered, Settings, TellsMayPause, calls_in, has_number, is_told, places_from}
 use Rattle.wa_types.specs.Runtime.{global_space, runtime_funcs, with_runtime}
 use Rattle.wa_types.specs.Sizes.{StrictSizeRule}
@@ -17,17 +17,20 @@ use Rattle.wa_types.specs.declared.values.ValType.TheVariants.{I32, I64}
 use Rattle.wa_model.specs.Flat.{FlatFunc}
 use Rattle.wa_model.specs.FlatFits.{one_run}
 use Rattle.wa_model.specs.Quiet.{FreeOfNames}
-use Rattle.flat_laws.specs.FlatModule.{extra_types, flat_func}
-use Rattle.flat_laws.specs.Flatten.{flattened}
+use Rattle.flat_laws.specs.FlatModule.{extra_types, flat_func, stacks_in}
+use Rattle.flat_laws.specs.Flatten.{Names, flattened, names}
 use Rattle.flat_laws.proofs.FlatModules.{is_flat}
-use Rattle.flat_laws.proofs.RuntimeModules.{base_flattened, base_results, base_slots}
+use Rattle.flat_laws.proofs.RuntimeModules.{base_flattened, base_names, base_results, base_slots}
 use Rattle.emitted_bytes.proofs.Calls.{calls_stay}
 use Rattle.emitted_bytes.proofs.Whole.{counted, meets}
 use Rattle.flat_guards.specs.Functions.{GuardedFunc, with_guards, written_code}
-use Rattle.flat_guards.specs.SlimModule.{Pieces, SlimPieces, plain_pieces}
-use Rattle.flat_guards.proofs.SlimModules.{plain_slim}
+use Rattle.emitted_bytes.specs.Pieces.{first_piece, units}
+use Rattle.emitted_bytes.specs.Slim.{Terms}
+use Rattle.emitted_bytes.specs.Laws.{ToHeld}
+use Rattle.emitted_bytes.specs.SlimUnits.{SlimUnits}
+use Rattle.flat_guards.specs.SlimModule.{Pieces, SlimPieces, fixed_at, flat_terms, is_slot}
 use Rattle.flat_guards.specs.Emitted.{Emitted, WrittenAs, guarded_of, Framing}
-use Rattle.flat_guards.proofs.PairedFlat.{base_defined, defined_by}
+use Rattle.flat_guards.proofs.PairedFlat.{base_defined, base_locals, defined_by}
 use Rattle.emitted_bytes.specs.CodesHold.{AllCodesHold}
 use Rattle.emitted_bytes.specs.EmittedBy.{FrameCode, asyncified_by, func_by, guarded_by, written_by}
 use Rattle.emitted_bytes.specs.Sizes.{FewWritten}
@@ -54,15 +57,29 @@ grown_funcs m = refl
 
 -- ---- the emitted module
 
--- pieces as flattening gives them
-abbrev pub HavePlainPieces : Module → Settings → (which : List Bool) → (frames : (index : ℕ) → Framing) → Type 0
-HavePlainPieces m s which frames = (x : ℕ) (f : Func) → defined_at m x ≡ Some f → (frames x).pieces ≡ plain_pieces (Numbered m s which f) (flattened (Base m) x f)
+abbrev terms_from : (places : List ℕ) → Names → FlatFunc → ℕ → Terms
+terms_from places n z own = record { slot = is_slot n; size = length z.locals; fixed = fixed_at places own (stacks_in z.body) }
 
--- frames with these codes
+-- With the memory that it is compared with a module has the same terms, and slim pieces are such pieces.
+pub based_slim : (m : Module) (places : List ℕ) (x : ℕ) (f : Func) (p : Pieces) → Valid m → defined_at m x ≡ Some f → SlimPieces m places x f p → SlimPieces (Base m) places x f p
+based_slim m places x f p valid is sp =
+    let same : flattened m x f ≡ flattened (Base m) x f = sym (base_flattened m valid x f is) in
+    let terms : flat_terms m places x f ≡ flat_terms (Base m) places x f =
+    ap (λ n. terms_from places n (flattened m x f) (length (locals_of m f))) (sym (base_names m valid x f is)) ∙ ap (λ z. terms_from places (names (Base m) f) z (length (locals_of m f))) same
+    ∙ ap (λ ts. terms_from places (names (Base m) f) (flattened (Base m) x f) (length ts)) (sym (base_locals m f)) in
+    record {
+      out = sp.out;
+      here = sp.here;
+      slim = subst (λ t. SlimUnits t 0 (sp.out ∷ []) sp.out sp.here [] (first_piece places 0 (flattened (Base m) x f).body) (units places 0 (flattened (Base m) x f).body) p.first p.units) terms
+          (subst (λ (z : FlatFunc). SlimUnits (flat_terms m places x f) 0 (sp.out ∷ []) sp.out sp.here [] (first_piece places 0 z.body) (units places 0 z.body) p.first p.units) same sp.slim);
+      result = subst (λ (z : FlatFunc). ToHeld sp.out z.result) same sp.result;
+    }
+
+-- these pieces, and frames with these codes
 abbrev pub HaveCodes : Module → (codes : (index : ℕ) → Func → FrameCode) → (frames : (index : ℕ) → Framing) → Type 0
-HaveCodes m codes frames = (x : ℕ) (f : Func) → defined_at m x ≡ Some f → codes x f ≡ record { restoring = (frames x).restoring; saving = (frames x).saving }
+HaveCodes m codes frames = (x : ℕ) (f : Func) → defined_at m x ≡ Some f → codes x f ≡ record { pieces = (frames x).pieces; restoring = (frames x).restoring; saving = (frames x).saving }
 
-module _ (m : Module) (s : Settings) (which : List Bool) (codes : (index : ℕ) → Func → FrameCode) (frames : (index : ℕ) → Framing) (valid : Valid m) (have : HaveCodes m codes frames) (plain : HavePlainPieces m s which frames) where
+module _ (m : Module) (s : Settings) (which : List Bool) (codes : (index : ℕ) → Func → FrameCode) (frames : (index : ℕ) → Framing) (valid : Valid m) (have : HaveCodes m codes frames) where
   abbrev p : Module
   p = asyncified_by m s which codes
 
@@ -73,13 +90,12 @@ module _ (m : Module) (s : Settings) (which : List Bool) (codes : (index : ℕ) 
     same_flat : flattened (Base m) x f ≡ flattened m x f
     same_flat = base_flattened m valid x f is
 
-    abbrev guards : FlatFunc → FrameCode → Pieces → GuardedFunc
-    guards z c pieces = record { size = length z.locals; restoring = c.restoring; saving = c.saving; result = z.result; first = pieces.first; body = pieces.units }
+    abbrev guards : FlatFunc → FrameCode → GuardedFunc
+    guards z c = record { size = length z.locals; restoring = c.restoring; saving = c.saving; result = z.result; first = c.pieces.first; body = c.pieces.units }
 
     same_guarded : guarded_by m s which codes x f ≡ guarded_of m s which frames x f
     same_guarded =
-        ap (λ z. guards z (codes x f) (plain_pieces ps z)) (sym same_flat) ∙ ap (λ c. guards (flattened (Base m) x f) c (plain_pieces ps (flattened (Base m) x f))) (have x f is)
-        ∙ ap (guards (flattened (Base m) x f) (record { restoring = (frames x).restoring; saving = (frames x).saving })) (sym (plain x f is))
+        ap (λ z. guards z (codes x f)) (sym same_flat) ∙ ap (guards (flattened (Base m) x f)) (have x f is)
 
     abbrev types : List Pair → List ValType
     types qs = map (λ (q : Pair). q.ty) qs
@@ -141,6 +157,9 @@ module _ (m : Module) (s : Settings) (which : List Bool) (codes : (index : ℕ) 
         runtime = r.runtime;
         sorts = sorts_same;
         written = written_at;
-        slim = λ x f is told. subst (SlimPieces (Base m) (Numbered m s which f) x f) (sym (plain x f (sym (base_defined m x) ∙ is))) (plain_slim (Base m) (Numbered m s which f) x f);
+        slim = λ x f is told.
+            let here = sym (base_defined m x) ∙ is in
+            subst (SlimPieces (Base m) (Numbered m s which f) x f) (ap (λ (c : FrameCode). c.pieces) (have x f here))
+            (based_slim m (Numbered m s which f) x f (codes x f).pieces valid here (hold x f here told).slim);
         few = λ x f is told. few_numbers x f is sizes (few x f is told);
       }

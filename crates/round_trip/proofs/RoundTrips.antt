@@ -10,10 +10,10 @@ use Rattle.wa_types.specs.Norm.{Norm}
 use Rattle.wa_types.specs.Reading.{SpellsModule}
 use Rattle.wa_types.specs.Sizes.{WellFormed}
 use Rattle.wa_types.specs.Syntax.{Func, Module}
-use Rattle.wa_types.proofs.FileWriting.{written_spells}
-use Rattle.wa_types.proofs.OneFault.{fault_spells_none}
-use Rattle.wa_types.proofs.OneModule.{one_spelled}
-use Rattle.wa_types.proofs.SpelledFits.{spelled_fits}
+use Rattle.file_laws.proofs.FileWriting.{written_spells}
+use Rattle.file_laws.proofs.OneFault.{fault_spells_none}
+use Rattle.file_laws.proofs.OneModule.{one_spelled}
+use Rattle.file_laws.proofs.SpelledFits.{spelled_fits}
 use Rattle.wasm_encode.specs.declared.EncodeFault.{EncodeFault}
 use Rattle.wasm_encode.specs.declared.EncodeFault.TheVariants.{Memory as unwritten, TooLong as too_long}
 use Rattle.wasm_entries.specs.Locals.{local_count}

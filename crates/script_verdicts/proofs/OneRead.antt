@@ -9,9 +9,9 @@ use Rattle.wa_types.specs.Marks.{floats, opens, IsLeast, function_count, paramet
 use Rattle.wa_types.specs.ModuleBounds.{ModuleBounds}
 use Rattle.wa_types.specs.Reading.{IsModule}
 use Rattle.wa_types.specs.Syntax.{Module}
-use Rattle.wa_types.proofs.OneFault.{fault_spells_none, one_fault}
-use Rattle.wa_types.proofs.OneModule.{one_module}
-use Rattle.wa_types.proofs.UniqueCode.{one_file}
+use Rattle.file_laws.proofs.OneFault.{fault_spells_none, one_fault}
+use Rattle.file_laws.proofs.OneModule.{one_module}
+use Rattle.file_laws.proofs.UniqueCode.{one_file}
 use Rattle.wasm_reader.specs.declared.read_fault.ReadFault.{ReadFault}
 use Rattle.wasm_reader.specs.declared.read_fault.ReadFault.TheVariants.{Memory, Malformed, Float, Deep, Limit}
 use Rattle.wasm_reader.specs.Answers.{IsFile, HasNoFloat, HasFewFunctions, HasFewParameters, HasShortBodies, IsShallow, HasFewLocals, IsAccepted, IsRefused}

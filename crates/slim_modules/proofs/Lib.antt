@@ -1,10 +1,21 @@
+pub use Rattle.flat_laws.proofs.Depths
+pub use Rattle.flat_laws.proofs.Sizes
+pub use Rattle.flat_laws.proofs.Typing
+pub use Rattle.flat_laws.proofs.ValidModules
 pub use Rattle.flat_runs.proofs.Calls
 pub use Rattle.flat_runs.proofs.Slots
 pub use Rattle.flat_runs.proofs.Stretches
 pub use Rattle.flat_runs.proofs.WaitingCalls
+pub use Rattle.flat_runs.proofs.Whole
 pub use Rattle.slim_runs.proofs.KeptSizes
 pub use Rattle.slim_runs.proofs.Running
+pub use Rattle.slim_units.proofs.FrontTypes
+pub use Rattle.slim_units.proofs.Grouped
+pub use Rattle.slim_units.proofs.PieceTypes
+pub use Rattle.slim_units.proofs.Sizes as GuardSizes
+pub use Rattle.slim_units.proofs.UnitSizes
 pub use Rattle.slim_units.proofs.UnitsAlike
 pub use Rattle.slim_units.proofs.UnitsPassed
 pub use Rattle.slim_units.proofs.UnitsSlim
+pub use Rattle.slim_units.proofs.UnitsTyped
 pub mod SlimModules

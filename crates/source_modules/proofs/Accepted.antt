@@ -15,7 +15,7 @@ use Rattle.wa_types.specs.Sizes.{StrictSizeRule, WellFormed}
 use Rattle.wa_types.specs.Syntax.{Func, Module}
 use Rattle.wa_types.specs.Validity.{Valid}
 use Rattle.wa_types.specs.View.{module_of}
-use Rattle.wa_types.proofs.SpelledFits.{spelled_fits}
+use Rattle.file_laws.proofs.SpelledFits.{spelled_fits}
 use Rattle.wasm_reader.specs.declared.read_fault.ReadFault.{ReadFault}
 use Rattle.wasm_reader.specs.declared.read_fault.ReadFault.TheVariants.{Memory, Malformed, Float, Deep, Limit}
 use Rattle.wasm_reader.specs.Answers.{IsAccepted, IsRefused}

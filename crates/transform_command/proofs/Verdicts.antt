@@ -15,9 +15,9 @@ use Rattle.source_modules.specs.EmittedAs.{EmittedAs}
 use Rattle.source_modules.proofs.OneEmitted.{one_emitted}
 use Rattle.wa_types.specs.Syntax.{Module}
 use Rattle.wa_types.proofs.FaultLemmas.{valid_no_fault}
-use Rattle.wa_types.proofs.OneFault.{fault_spells_none}
-use Rattle.wa_types.proofs.OneModule.{one_module}
-use Rattle.wa_types.proofs.UniqueCode.{one_file}
+use Rattle.file_laws.proofs.OneFault.{fault_spells_none}
+use Rattle.file_laws.proofs.OneModule.{one_module}
+use Rattle.file_laws.proofs.UniqueCode.{one_file}
 use Rattle.wasm_reader.specs.Answers.{IsFile, HasNoFloat, IsAccepted}
 use Rattle.asyncify_runtime.specs.Reserved.{reserved_at}
 use Rattle.source_modules.specs.Sources.{IsFree, IsValidSource, rewritten_counts, IsRewritable, IsSource, Cause, malformed, float, deep, limit, reserved, invalid, rewritten_locals, long_output, IsRefusedFor, refusal_for}

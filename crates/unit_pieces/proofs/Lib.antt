@@ -1,3 +1,3 @@
 mod PieceLemmas
-mod UnitLemmas
+pub mod UnitLemmas
 mod UnitSteps

@@ -14,7 +14,6 @@ mod control;
 mod copy;
 mod frame_laws;
 mod instrs;
-mod laws;
 mod leb;
 mod names;
 mod operators;
@@ -27,10 +26,6 @@ pub use bounds::{Bounds, LimitKind};
 pub use copy::copy_module;
 pub use frame_laws::{live_is_path, one_each_call, slots_are_pairs};
 pub use instrs::Instr;
-pub use laws::{
-    beginnings_are_begun, cut_preambles_fail, faults_spell_nothing, one_file_is_spelled,
-    one_module_is_spelled, spelled_is_well_formed, whole_is_spelled, written_is_spelled,
-};
 pub use leb::{
     LebFault, Spelling, read_s32, read_s64, read_u32, signed_spelling_laws, unsigned_spelling_laws,
     write_s32, write_s64, write_u32,

@@ -4,7 +4,7 @@ use Rattle.std.proofs.lemmas.List.Elements.{All-head, All-tail, All-cons}
 use Rattle.wa_types.specs.declared.syntax.Module.{Module as ModuleValue}
 use Rattle.wa_types.specs.declared.syntax.Func.{Func as FuncValue}
 use Rattle.wa_types.specs.View.{func_of, module_of}
-use Rattle.wa_types.proofs.FileReads.{whole_spelled}
+use Rattle.file_laws.proofs.FileReads.{whole_spelled}
 use Rattle.wa_types.specs.Begun.{IsWhole}
 use Rattle.wa_types.specs.Binary.{RawType, RawBody, Section}
 use Rattle.wa_types.specs.Marks.{parameter_counts, body_sizes, local_counts, first_above}

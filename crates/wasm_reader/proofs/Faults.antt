@@ -5,8 +5,8 @@ use Rattle.std.proofs.lemmas.List.{take_all, drop-drop}
 use Rattle.std.proofs.lemmas.Bool.{cases_lt, ne_eqb}
 use Rattle.std.specs.Option.{unwrap_or}
 use Rattle.wa_types.specs.Begun.{Goal, rest, entries, signed, Kind, some_types, some_imports, some_functions, some_tables, some_memories, some_globals, some_exports, some_elements, some_bodies, some_segments, some_value_types, some_runs, some_indices, some_bytes, first_of, wants, IsItem, IsPart, next, Steps, Leads, BegunFrom, part, then, Inside, settled, start, Begun}
-use Rattle.wa_types.proofs.Items.{item_front, part_front, item_some, item_whole, one_item}
-use Rattle.wa_types.proofs.Runs.{leads_on, leads_only, leads_more, inside_less, begun_front}
+use Rattle.file_laws.proofs.Items.{item_front, part_front, item_some, item_whole, one_item}
+use Rattle.file_laws.proofs.Runs.{leads_on, leads_only, leads_more, inside_less, begun_front}
 use Rattle.wasm_reader.proofs.ItemFronts.{byte_whole}
 use Rattle.wasm_reader.specs.Items.{IsTold, IsWholeItem, IsWrong}
 use Rattle.wasm_reader.specs.Ends.{NoStep, IsReached}

@@ -4,7 +4,7 @@ use Rattle.std.proofs.lemmas.List.{reverse-append, take_more, take_all, drop-map
 use Rattle.std.proofs.lemmas.Bool.{ltb-true, ltb-false}
 use Rattle.std.specs.Option.{is_some}
 use Rattle.wa_types.specs.Begun.{Goal, end_of, Inside, IsBefore, settled, closing, passed, next, Steps}
-use Rattle.wa_types.proofs.Runs.{some_same}
+use Rattle.file_laws.proofs.Runs.{some_same}
 use Rattle.wasm_reader.specs.declared.grammar.goals.Goal.{Goal as Wanted}
 use Rattle.wasm_reader.specs.Goals.{goal_of, stack_of}
 use Rattle.wasm_reader.specs.declared.grammar.ends.Closing.{Closing}

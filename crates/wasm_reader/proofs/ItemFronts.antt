@@ -5,7 +5,7 @@ use Rattle.wa_types.specs.declared.leb.LebFault.{LebFault}
 use Rattle.wa_types.specs.declared.leb.LebFault.TheVariants.{Short, Long, Bits}
 use Rattle.wa_types.specs.Leb.{unsigned_at, signed_at, last_signed, above}
 use Rattle.wa_types.specs.Begun.{Item, a_byte, an_unsigned, a_signed, a_name, a_constant_of, IsItem, IsPart}
-use Rattle.wa_types.proofs.NumberReading.{unsigned_stays, signed_stays, unsigned_ends, signed_ends, unsigned_again, signed_again}
+use Rattle.file_laws.proofs.NumberReading.{unsigned_stays, signed_stays, unsigned_ends, signed_ends, unsigned_again, signed_again}
 use Rattle.wa_types.proofs.UnsignedReads.{takes}
 use Rattle.wa_types.proofs.SignedReads.{takes as signed_takes}
 use Rattle.wasm_reader.specs.Items.{IsWholeItem, IsWrong, IsTold, FrontIs, unread}

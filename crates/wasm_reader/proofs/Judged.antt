@@ -9,7 +9,7 @@ use Rattle.wa_types.specs.Opcodes.{is_float_type, is_float_op}
 use Rattle.wa_types.specs.Spells.{◌▸◌, Exactly, Number, Items, Vector, Byte, ValueType, BlockType, OperandsOf, CodeOf, FunctionType, Text, ImportKindOf, ImportOf, GlobalType, GlobalOf, Expression, ElementOf, RunOf, BodyOf, SegmentOf, ContentOf, Filling, Sized, SectionOf, Spells, sorts_in, bodies_in}
 use Rattle.wa_types.specs.Reading.{types_in, imports_in}
 use Rattle.wa_types.specs.Marks.{place_if, float_type, code_floats, kind_sorts, code_opens, section_floats, section_opens, floats, opens, imported_sorts, function_count, parameter_counts, body_sizes, first_above}
-use Rattle.wa_types.proofs.NumberReading.{unsigned_some}
+use Rattle.file_laws.proofs.NumberReading.{unsigned_some}
 use Rattle.wa_types.specs.ModuleBounds.{ModuleBounds}
 use Rattle.wasm_reader.specs.declared.marks.Marks.{Marks}
 use Rattle.wasm_reader.specs.declared.scan.entries.EntryKind.{EntryKind}

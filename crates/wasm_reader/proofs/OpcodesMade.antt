@@ -10,7 +10,7 @@ use Rattle.wa_types.specs.Opcodes.{Follows, no_operand, a_zero, an_index, an_ind
 use Rattle.wa_types.specs.Binary.{Placed, Operands, nothing, zero_byte, index, index_and_zero, access, labels, constant, float}
 use Rattle.wa_types.specs.Syntax.{nop, drop, select, const, num, global_get, global_set, load, store, memory_size, memory_grow, Plain, basic, local_get, local_set, local_tee, br, br_if, br_table, return, unreachable, call, call_indirect}
 use Rattle.wa_types.specs.Reading.{plain_opcode, plain_operands, HasKind, IsPlain}
-use Rattle.wa_types.proofs.CodeWriting.{within_above}
+use Rattle.file_laws.proofs.CodeWriting.{within_above}
 
 -- a test that all numbers below one pass
 all_below : (ℕ → Bool) → ℕ → Bool

@@ -10,7 +10,7 @@ use Rattle.wa_types.specs.Binary.{nothing, zero_byte, index, access}
 use Rattle.wa_types.specs.Syntax.{nop, drop, select, const, num, global_get, global_set, load, store, memory_size, memory_grow, Plain, basic, local_get, local_set, local_tee, br, br_if, br_table, return, unreachable, call, call_indirect, done, plain}
 use Rattle.wa_types.specs.View.{in_front}
 use Rattle.wa_types.specs.Reading.{plain_opcode, plain_operands, HasKind}
-use Rattle.wa_types.proofs.CodeWriting.{load_range, store_range}
+use Rattle.file_laws.proofs.CodeWriting.{load_range, store_range}
 use Rattle.wasm_reader.specs.BuildsCode.{alone, NamesPlain}
 
 num_low : (op : NumOp) → 0x45 ≤ opcode_of op

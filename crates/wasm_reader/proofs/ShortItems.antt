@@ -7,7 +7,7 @@ use Rattle.std.proofs.Math.Pow.{pow_mono}
 use Rattle.wa_types.specs.Leb.{IsUnsigned, IsSigned, last_signed}
 use Rattle.wa_types.specs.Opcodes.{Follows, no_operand, an_index, an_access, a_constant, follows, is_block_type, is_value_type}
 use Rattle.wa_types.specs.Begun.{Goal, code, block_type, value_type, number, signed, entries, Kind, some_runs, Item, a_byte, an_unsigned, a_signed, a_name, a_constant_of, wants, IsItem, next, Inside, Steps, settled, operands, where_true, and_then, others}
-use Rattle.wa_types.proofs.CodeReads.{refuted, none_nest}
+use Rattle.file_laws.proofs.CodeReads.{refuted, none_nest}
 use Rattle.wasm_reader.specs.Items.{IsTold, IsWholeItem}
 use Rattle.wasm_reader.specs.Ends.{IsReached}
 use Rattle.wasm_reader.specs.Machine.{Stands}

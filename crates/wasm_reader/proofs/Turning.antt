@@ -4,8 +4,8 @@ use Rattle.wa_types.specs.Binary.{Placed, Operands, nothing, zero_byte, index, i
 use Rattle.wa_types.specs.Opcodes.{Follows, no_operand, a_zero, an_index, an_index_and_zero, an_access, some_labels, a_constant, a_float, follows, shape, is_nest, is_float_op}
 use Rattle.wa_types.specs.Spells.{◌▸◌, Exactly, Number, SignedNumber, Vector, Items, Byte, BlockType, OperandsOf, CodeOf, Expression}
 use Rattle.wa_types.specs.Marks.{place_if, float_type, code_floats, code_opens}
-use Rattle.wa_types.proofs.CodeReads.{nest_range}
-use Rattle.wa_types.proofs.Going.{to_right, on_left, on_right}
+use Rattle.file_laws.proofs.CodeReads.{nest_range}
+use Rattle.file_laws.proofs.Going.{to_right, on_left, on_right}
 use Rattle.wa_types.specs.ModuleBounds.{ModuleBounds}
 use Rattle.wasm_reader.specs.declared.marks.Marks.{Marks}
 use Rattle.wasm_reader.specs.declared.front.NotSpelled.{NotSpelled}

@@ -3,8 +3,8 @@ use Rattle.std.proofs.Common.{◌≡◌, ℕ, ◌+◌, ◌-◌, ◌<◌, ◌≤�
 use Rattle.std.proofs.lemmas.List.{take_all, take-append-drop, take-append-le, drop_all}
 use Rattle.std.proofs.Math.Seq.{take-add}
 use Rattle.wa_types.specs.Begun.{Goal, sections, wants, IsPart, Leads, arrived, item, BegunFrom, ends, part, Inside, start, Begun, IsWhole, FaultAt}
-use Rattle.wa_types.proofs.Items.{item_some, item_whole}
-use Rattle.wa_types.proofs.Runs.{leads_on, leads_only, leads_through, begun_front}
+use Rattle.file_laws.proofs.Items.{item_some, item_whole}
+use Rattle.file_laws.proofs.Runs.{leads_on, leads_only, leads_through, begun_front}
 use Rattle.wasm_reader.specs.Ends.{owes_none, is_end}
 use Rattle.wasm_reader.specs.Machine.{Stands, IsPartOf, Waits, StopsAt}
 

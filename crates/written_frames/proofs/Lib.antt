@@ -1,5 +1,4 @@
 pub use Rattle.flow_rewrite.proofs.NumberingLemmas
-pub use Rattle.rewrite_form.proofs.Emitted
 pub use Rattle.rewrite_form.proofs.EmittedBy
 pub mod MarkLemmas
 pub mod FrameLemmas

@@ -1,49 +1,133 @@
-use Rattle.std.proofs.Common.{◌<◌, ◌≡◌, ◌∷◌, [], ap, length, arith, sym, subst, ◌∙◌}
-use Rattle.std.proofs.lemmas.List.{length-map}
-use Rattle.std.proofs.lemmas.Option.{slice_get_within}
-use Rattle.std.specs.Prelude.{Vec, Bool}
-use Rattle.std.specs.declared.alloc.Global.{Global}
-use Rattle.call_frames.specs.PlainFrames.{at_every}
-use Rattle.call_classes.specs.Classes.{AllAre, KeepSets}
-use Rattle.call_classes.specs.Views.{class_parts, fields_in, fields_of, sets_of}
-use Rattle.call_classes.proofs.FoundClasses.{keep_shared}
-use Rattle.call_classes.proofs.PartLemmas.{first_set, no_sets, parts_apart, parts_none, parts_shared, sets_sized}
+use Rattle.std.proofs.Common.{◌<◌, ◌^◌, length, sym, subst, true, false}
+use Rattle.call_classes.specs.CallParts.{parts_length, tests_most}
+use Rattle.call_classes.specs.Views.{part_views}
+use Rattle.call_classes.proofs.Chosen.{are_made, classes_fit, groups_fit, taken_alike, taken_few, taken_keep, taken_parts, told_better}
 use Rattle.call_classes.proofs.classing.saved_parts.Goals as goal
 
-pub returns-then-are_alike-clause-keep : goal.returns-then-are_alike-clause-keep
-returns-then-are_alike-clause-keep c =
-    let fs = fields_of c.in_ok-shared-in-Some.shared.items in
-    let sets = c.args.sets.now in
-    let same = c.deref.ensures.value ∙ sym c.deref-then-are_alike.ensures.value in
-    let some : 0 < length sets = slice_get_within sets 0 c.in-Some.first.now (sym c.in-Some.ensures.value) in
-    let many : length (sets_of sets) ≡ length sets = length-map sets (λ (s : Vec Bool Global). s.items) in
-    subst (λ cs. KeepSets c.args.types.now (sets_of sets) (at_every fs ∷ class_parts cs)) (sym c.new-then-are_alike.ensures.items)
-    (keep_shared c.args.types.now c.deref-then-are_alike.result.now (sets_of sets) fs (subst (λ s. AllAre s (sets_of sets)) same (c.are_alike.ensures.alike c.if-are_alike.true))
-    (omega (arith, some, many)) c.in_ok-shared-in-Some.ensures.fields)
-
-pub returns-in-None-clause-parts : goal.returns-in-None-clause-parts
-returns-in-None-clause-parts c =
-    ap (λ ks. at_every (fields_of ks) ∷ class_parts c.new-in-None.result.items) c.new.ensures.items
-    ∙ ap (λ cs. at_every [] ∷ class_parts cs) c.new-in-None.ensures.items
-    ∙ parts_none c.args.types.now (sets_of c.args.sets.now) (no_sets c.args.sets.now (sym c.in-None.ensures.value))
-
-pub returns-then-are_alike-clause-parts : goal.returns-then-are_alike-clause-parts
-returns-then-are_alike-clause-parts c =
+pub are_better-requires-clause-groups : goal.are_better-requires-clause-groups
+are_better-requires-clause-groups c =
     let types = c.args.types.now in
     let sets = c.args.sets.now in
-    let first = c.in-Some.first.now in
-    let rest = first_set sets first (sym c.in-Some.ensures.value) in
-    ap (λ cs. at_every (fields_of c.in_ok-shared-in-Some.shared.items) ∷ class_parts cs) c.new-then-are_alike.ensures.items
-    ∙ ap (λ fs. at_every fs ∷ []) (c.in_ok-shared-in-Some.ensures.fields ∙ ap (λ s. fields_in 0 s types) c.deref-then-are_alike.ensures.value)
-    ∙ parts_shared types first.items (sets_of sets) rest.0 rest.1 (subst (λ s. AllAre s (sets_of sets)) c.deref.ensures.value (c.are_alike.ensures.alike c.if-are_alike.true))
+    let gs = c.in_ok-groups.groups.items in
+    let cs = c.in_ok-classes.classes.items in
+    let own = c.in_ok-classes_of.ensures in
+    let made = are_made types sets gs cs c.in_ok-groups_of.field-0.items c.in_ok-classes_of.field-0.items c.in_ok-groups.ensures c.in_ok-groups_of.ensures
+    c.in_ok-classes.ensures own.parts own.keep own.few in
+    subst (λ ps. parts_length (part_views ps) < 2 ^ 60) (sym c.deref.ensures.value)
+    (groups_fit types sets c.requires.sizes c.requires.few c.requires.calls gs cs made)
 
-pub returns-in_ok-classes-in-Some-clause-parts : goal.returns-in_ok-classes-in-Some-clause-parts
-returns-in_ok-classes-in-Some-clause-parts c =
+pub are_better-requires-clause-classes : goal.are_better-requires-clause-classes
+are_better-requires-clause-classes c =
     let types = c.args.types.now in
     let sets = c.args.sets.now in
-    let first = c.in-Some.first.now in
-    let rest = first_set sets first (sym c.in-Some.ensures.value) in
-    ap (λ ks. at_every (fields_of ks) ∷ class_parts c.in_ok-classes-in-Some.classes.items) c.new-in-Some.ensures.items
-    ∙ ap (λ ps. at_every [] ∷ ps) c.in_ok-classes-in-Some.ensures.parts
-    ∙ parts_apart types first.items (sets_of sets) rest.0 rest.1 (sets_sized types sets c.requires.sizes)
-    (λ h. let yes_ = c.are_alike.ensures.other (subst (λ s. AllAre s (sets_of sets)) (sym c.deref.ensures.value) h) in let no_ = c.if-are_alike.false in cc)
+    let gs = c.in_ok-groups.groups.items in
+    let cs = c.in_ok-classes.classes.items in
+    let own = c.in_ok-classes_of.ensures in
+    let made = are_made types sets gs cs c.in_ok-groups_of.field-0.items c.in_ok-classes_of.field-0.items c.in_ok-groups.ensures c.in_ok-groups_of.ensures
+    c.in_ok-classes.ensures own.parts own.keep own.few in
+    subst (λ ps. parts_length (part_views ps) < 2 ^ 60) (sym c.deref-2.ensures.value)
+    (classes_fit types sets c.requires.sizes c.requires.few c.requires.calls gs cs made)
+
+pub returns-then-are_better-clause-keep : goal.returns-then-are_better-clause-keep
+returns-then-are_better-clause-keep c =
+    let types = c.args.types.now in
+    let sets = c.args.sets.now in
+    let gs = c.in_ok-groups.groups.items in
+    let cs = c.in_ok-classes.classes.items in
+    let own = c.in_ok-classes_of.ensures in
+    let made = are_made types sets gs cs c.in_ok-groups_of.field-0.items c.in_ok-classes_of.field-0.items c.in_ok-groups.ensures c.in_ok-groups_of.ensures
+    c.in_ok-classes.ensures own.parts own.keep own.few in
+    let is = told_better (tests_most (length types) (length sets)) gs cs c.deref.result.now c.deref-2.result.now c.are_better.result true c.deref.ensures.value
+    c.deref-2.ensures.value c.are_better.ensures c.if-are_better.true in
+    taken_keep types sets c.requires.sizes c.requires.few c.requires.calls gs cs made true is
+
+pub returns-then-are_better-clause-alike : goal.returns-then-are_better-clause-alike
+returns-then-are_better-clause-alike c =
+    let types = c.args.types.now in
+    let sets = c.args.sets.now in
+    let gs = c.in_ok-groups.groups.items in
+    let cs = c.in_ok-classes.classes.items in
+    let own = c.in_ok-classes_of.ensures in
+    let made = are_made types sets gs cs c.in_ok-groups_of.field-0.items c.in_ok-classes_of.field-0.items c.in_ok-groups.ensures c.in_ok-groups_of.ensures
+    c.in_ok-classes.ensures own.parts own.keep own.few in
+    let is = told_better (tests_most (length types) (length sets)) gs cs c.deref.result.now c.deref-2.result.now c.are_better.result true c.deref.ensures.value
+    c.deref-2.ensures.value c.are_better.ensures c.if-are_better.true in
+    taken_alike types sets c.requires.sizes c.requires.few c.requires.calls gs cs made true is
+
+pub returns-then-are_better-clause-parts : goal.returns-then-are_better-clause-parts
+returns-then-are_better-clause-parts c =
+    let types = c.args.types.now in
+    let sets = c.args.sets.now in
+    let gs = c.in_ok-groups.groups.items in
+    let cs = c.in_ok-classes.classes.items in
+    let own = c.in_ok-classes_of.ensures in
+    let made = are_made types sets gs cs c.in_ok-groups_of.field-0.items c.in_ok-classes_of.field-0.items c.in_ok-groups.ensures c.in_ok-groups_of.ensures
+    c.in_ok-classes.ensures own.parts own.keep own.few in
+    let is = told_better (tests_most (length types) (length sets)) gs cs c.deref.result.now c.deref-2.result.now c.are_better.result true c.deref.ensures.value
+    c.deref-2.ensures.value c.are_better.ensures c.if-are_better.true in
+    taken_parts types sets c.requires.sizes c.requires.few c.requires.calls gs cs made true is
+
+pub returns-then-are_better-clause-few : goal.returns-then-are_better-clause-few
+returns-then-are_better-clause-few c =
+    let types = c.args.types.now in
+    let sets = c.args.sets.now in
+    let gs = c.in_ok-groups.groups.items in
+    let cs = c.in_ok-classes.classes.items in
+    let own = c.in_ok-classes_of.ensures in
+    let made = are_made types sets gs cs c.in_ok-groups_of.field-0.items c.in_ok-classes_of.field-0.items c.in_ok-groups.ensures c.in_ok-groups_of.ensures
+    c.in_ok-classes.ensures own.parts own.keep own.few in
+    let is = told_better (tests_most (length types) (length sets)) gs cs c.deref.result.now c.deref-2.result.now c.are_better.result true c.deref.ensures.value
+    c.deref-2.ensures.value c.are_better.ensures c.if-are_better.true in
+    taken_few types sets c.requires.sizes c.requires.few c.requires.calls gs cs made true is
+
+pub returns-clause-keep : goal.returns-clause-keep
+returns-clause-keep c =
+    let types = c.args.types.now in
+    let sets = c.args.sets.now in
+    let gs = c.in_ok-groups.groups.items in
+    let cs = c.in_ok-classes.classes.items in
+    let own = c.in_ok-classes_of.ensures in
+    let made = are_made types sets gs cs c.in_ok-groups_of.field-0.items c.in_ok-classes_of.field-0.items c.in_ok-groups.ensures c.in_ok-groups_of.ensures
+    c.in_ok-classes.ensures own.parts own.keep own.few in
+    let is = told_better (tests_most (length types) (length sets)) gs cs c.deref.result.now c.deref-2.result.now c.are_better.result false c.deref.ensures.value
+    c.deref-2.ensures.value c.are_better.ensures c.if-are_better.false in
+    taken_keep types sets c.requires.sizes c.requires.few c.requires.calls gs cs made false is
+
+pub returns-clause-alike : goal.returns-clause-alike
+returns-clause-alike c =
+    let types = c.args.types.now in
+    let sets = c.args.sets.now in
+    let gs = c.in_ok-groups.groups.items in
+    let cs = c.in_ok-classes.classes.items in
+    let own = c.in_ok-classes_of.ensures in
+    let made = are_made types sets gs cs c.in_ok-groups_of.field-0.items c.in_ok-classes_of.field-0.items c.in_ok-groups.ensures c.in_ok-groups_of.ensures
+    c.in_ok-classes.ensures own.parts own.keep own.few in
+    let is = told_better (tests_most (length types) (length sets)) gs cs c.deref.result.now c.deref-2.result.now c.are_better.result false c.deref.ensures.value
+    c.deref-2.ensures.value c.are_better.ensures c.if-are_better.false in
+    taken_alike types sets c.requires.sizes c.requires.few c.requires.calls gs cs made false is
+
+pub returns-clause-parts : goal.returns-clause-parts
+returns-clause-parts c =
+    let types = c.args.types.now in
+    let sets = c.args.sets.now in
+    let gs = c.in_ok-groups.groups.items in
+    let cs = c.in_ok-classes.classes.items in
+    let own = c.in_ok-classes_of.ensures in
+    let made = are_made types sets gs cs c.in_ok-groups_of.field-0.items c.in_ok-classes_of.field-0.items c.in_ok-groups.ensures c.in_ok-groups_of.ensures
+    c.in_ok-classes.ensures own.parts own.keep own.few in
+    let is = told_better (tests_most (length types) (length sets)) gs cs c.deref.result.now c.deref-2.result.now c.are_better.result false c.deref.ensures.value
+    c.deref-2.ensures.value c.are_better.ensures c.if-are_better.false in
+    taken_parts types sets c.requires.sizes c.requires.few c.requires.calls gs cs made false is
+
+pub returns-clause-few : goal.returns-clause-few
+returns-clause-few c =
+    let types = c.args.types.now in
+    let sets = c.args.sets.now in
+    let gs = c.in_ok-groups.groups.items in
+    let cs = c.in_ok-classes.classes.items in
+    let own = c.in_ok-classes_of.ensures in
+    let made = are_made types sets gs cs c.in_ok-groups_of.field-0.items c.in_ok-classes_of.field-0.items c.in_ok-groups.ensures c.in_ok-groups_of.ensures
+    c.in_ok-classes.ensures own.parts own.keep own.few in
+    let is = told_better (tests_most (length types) (length sets)) gs cs c.deref.result.now c.deref-2.result.now c.are_better.result false c.deref.ensures.value
+    c.deref-2.ensures.value c.are_better.ensures c.if-are_better.false in
+    taken_few types sets c.requires.sizes c.requires.few c.requires.calls gs cs made false is

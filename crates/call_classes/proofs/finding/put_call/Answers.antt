@@ -3,7 +3,7 @@ use Rattle.std.proofs.lemmas.Result.{on_ok_weaker}
 use Rattle.call_frames.specs.PlainFrames.{at_these}
 use Rattle.call_classes.specs.declared.frames.CallClass.{CallClass}
 use Rattle.call_classes.specs.CallParts.{joined}
-use Rattle.call_classes.specs.Classes.{HasFields, IsIndex, KeepSets, found_at, with_call}
+use Rattle.call_classes.specs.Classes.{HasFields, IsIndex, KeepByClasses, found_at, with_call}
 use Rattle.call_classes.specs.Views.{class_parts, fields_of}
 use Rattle.call_classes.proofs.ClassLemmas.{classes_only, keep_new, keep_none, keep_with}
 use Rattle.call_classes.proofs.FoundClasses.{class_with, has_within, no_fields, none_some, parts_count, some_fields}
@@ -41,8 +41,8 @@ returns-in-Some-clause-more c =
     (c.put_number.ensures.fields ∙ ap (λ (y : CallClass). y.fields) c.index_mut.ensures.value) in
     record {
       index = subst (IsIndex types c.args.found.now) (sym is) (index_with types c.args.found.now (class_parts cs) n c.args.call c.requires.index);
-      keeps = λ sets at h. subst (KeepSets types (sets ++ set ∷ [])) (sym is)
-          (subst (λ m. KeepSets types (sets ++ set ∷ []) (with_call n m (class_parts cs))) at (keep_with types sets set n (class_parts cs) (classes_only cs) has h));
+      keeps = λ sets at h. subst (KeepByClasses types (sets ++ set ∷ [])) (sym is)
+          (subst (λ m. KeepByClasses types (sets ++ set ∷ []) (with_call n m (class_parts cs))) at (keep_with types sets set n (class_parts cs) (classes_only cs) has h));
       joins = is ∙ joined_found n c.args.call (class_parts cs) _ c.requires.index.apart has;
     })
     c.put_number.ensures.calls
@@ -60,8 +60,8 @@ returns-in_ok-insert-in-None-clause-more c =
       index = subst (IsIndex types c.insert.new.self) (sym is)
           (index_new types c.args.found.now c.insert.new.self c.args.set (class_parts cs) (c.args.call ∷ []) fs c.len.result (parts_count c.args.classes.now c.len.result c.len.ensures) keeps_it some
           c.requires.size (sym c.in-None.ensures.value) c.in_ok-insert-in-None.ensures.updates c.requires.index);
-      keeps = λ sets at h. subst (KeepSets types (sets ++ set ∷ [])) (sym is)
-          (subst (λ m. KeepSets types (sets ++ set ∷ []) (class_parts cs ++ at_these (m ∷ []) fs ∷ [])) at (keep_new types sets set fs (class_parts cs) (classes_only cs) keeps_it some h));
+      keeps = λ sets at h. subst (KeepByClasses types (sets ++ set ∷ [])) (sym is)
+          (subst (λ m. KeepByClasses types (sets ++ set ∷ []) (class_parts cs ++ at_these (m ∷ []) fs ∷ [])) at (keep_new types sets set fs (class_parts cs) (classes_only cs) keeps_it some h));
       joins = is ∙ joined_new c.args.call (class_parts cs) fs
           (λ n h. none_some (found_at c.args.found.now c.args.set) n (sym c.in-None.ensures.value) (c.requires.index.all c.args.set n c.requires.size (subst (HasFields n (class_parts cs)) keeps_it h)))
           some ∙ ap (λ gs. joined c.args.call gs (class_parts cs)) keeps_it;

@@ -12,3 +12,6 @@ returns-clause-elsewhere c = T.elsewhere_law
 
 pub returns-clause-sizes : goal.returns-clause-sizes
 returns-clause-sizes c = T.sizes_law
+
+pub returns-clause-row : goal.returns-clause-row
+returns-clause-row c = T.row_law

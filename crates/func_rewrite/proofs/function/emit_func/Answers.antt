@@ -10,7 +10,8 @@ use Rattle.call_graph.specs.Settings.{settings_of}
 use Rattle.written_frames.specs.Numbering.{callees, gets_number}
 use Rattle.written_frames.specs.Emitting.{Rises}
 use Rattle.local_spill.specs.declared.frames.Place.{Place}
-use Rattle.written_frames.specs.Emitted.{is_kept, written_func}
+use Rattle.written_frames.specs.Emitted.{is_kept}
+use Rattle.func_rewrite.specs.Written.{plain_written}
 use Rattle.func_rewrite.proofs.CallNumbers.{places_rise}
 use Rattle.func_rewrite.proofs.WrittenFuncs.{fits, few_calls, stacks, numbers, own_few, saved_few, places_few, row_fits, kept_is, body_same, runs_same, func_is}
 use Rattle.func_rewrite.proofs.function.emit_func.Goals as goal
@@ -54,7 +55,7 @@ written_body-requires-clause-few c = few_calls (module_of c.args._module.now) (s
 
 pub returns : goal.returns
 returns c =
-    let g = written_func (module_of c.args._module.now) (settings_of c.args.settings.now) c.args.which.now c.args.flat.now.func.func (func_of c.args.source.now) in
+    let g = plain_written (module_of c.args._module.now) (settings_of c.args.settings.now) c.args.which.now c.args.flat.now.func.func (func_of c.args.source.now) in
     let kept : Place → Bool = λ (p : Place). get_or c.deref-4.result.now p.local false in
     let row : c.in_ok-layout.field-0.places.items ≡ in_a_row 0 c.in_ok-saved.saved.items = c.in_ok-layout.ensures.places ∙ ap (in_a_row 0) c.deref-3.ensures.value in
     let rows : c.in_ok-layout.field-0.size ≡ row_size c.in_ok-saved.saved.items + 4 = c.in_ok-layout.ensures.size ∙ ap (λ xs. row_size xs + 4) c.deref-3.ensures.value in

@@ -12,7 +12,7 @@ use Rattle.save_laws.specs.Emitting.{Rises}
 use Rattle.guard_form.specs.Guarded.{function_body, guarded_code}
 use Rattle.func_rewrite.proofs.WrittenFuncs.{few_calls, fits}
 use Rattle.call_classes.specs.CallParts.{call_parts, kept_by_sets}
-use Rattle.call_classes.specs.Classes.{KeepSets}
+use Rattle.call_classes.specs.Classes.{KeepCheaply}
 use Rattle.call_classes.specs.Views.{parts_view, sets_of, told_frames}
 use Rattle.save_laws.specs.LiveAt.{lists_of}
 use Rattle.live_rewrite.proofs.CallFacts.{SetsSized, numbers_rise, set_sizes, sets_few, types_few}
@@ -62,15 +62,15 @@ returns c =
     let ids = c.args.ids.now in
     let parts = c.in_ok-parts.parts in
     let told = told_frames (length calls.numbers.items) (length v.func.locals.items) ids.address parts in
-    let keep = subst (λ ts. KeepSets ts (sets_of calls.sets.items) (parts_view parts)) c.deref-2.ensures.value
-    (subst (λ ss. KeepSets c.deref-2.result.now (sets_of ss) (parts_view parts)) c.deref.ensures.value c.in_ok-parts.ensures.keep) in
-    let made = subst (λ ts. parts_view parts ≡ call_parts (kept_by_sets ts (sets_of calls.sets.items))) c.deref-2.ensures.value
-    (subst (λ ss. parts_view parts ≡ call_parts (kept_by_sets c.deref-2.result.now (sets_of ss))) c.deref.ensures.value c.in_ok-parts.ensures.parts) in
+    let cheap = subst (λ ts. KeepCheaply ts (sets_of calls.sets.items) (parts_view parts)) c.deref-2.ensures.value
+    (subst (λ ss. KeepCheaply c.deref-2.result.now (sets_of ss) (parts_view parts)) c.deref.ensures.value c.in_ok-parts.ensures.keep) in
+    let made = subst (λ ts. parts_view parts ≡ call_parts ts (kept_by_sets ts (sets_of calls.sets.items))) c.deref-2.ensures.value
+    (subst (λ ss. parts_view parts ≡ call_parts c.deref-2.result.now (kept_by_sets c.deref-2.result.now (sets_of ss))) c.deref.ensures.value c.in_ok-parts.ensures.parts) in
     let body = c.in_ok-body.ensures (length calls.numbers.items)
     ∙ ap (λ ns. function_body ids.state (restoring_by_call (frames_of told) done) (saving_by_call (frames_of told) done) (result_got v.func.result)
     (guarded_code ids.state ns (flat_func_of v.func))) c.deref-3.ensures.value in
     let locals = c.in_ok-locals.ensures ∙ ap (λ rs. rs ++ map one_run (drop v.first_slot c.deref-5.result.now ++ I32 ∷ I32 ∷ I64 ∷ [])) c.deref-4.ensures.value
     ∙ ap (λ ls. c.args.source.now.locals.items ++ map one_run (drop v.first_slot ls ++ I32 ∷ I32 ∷ I64 ∷ [])) c.deref-5.ensures.value in
     live_is (module_of c.args._module.now) (settings_of c.args._settings.now) c.args._which.now (func_of c.args.source.now) v
-    c.requires.valid c.requires.sizes c.requires.flat calls.numbers.items (lists_of calls.sets.items) c.requires.calls.numbers c.requires.calls.sets ids c.requires.ids parts keep made
+    c.requires.valid c.requires.sizes c.requires.flat calls.numbers.items (lists_of calls.sets.items) c.requires.calls.numbers c.requires.calls.sets ids c.requires.ids parts cheap made
     c.in_ok-locals.locals.items (code c.in_ok-body.body.items) locals body

@@ -2,4 +2,4 @@ use Rattle.prepared_modules.proofs.Prepared.{emitted_prepared}
 use Rattle.prepared_modules.proofs.laws.emitted_modules_are_prepared.Goals as goal
 
 pub returns : goal.returns
-returns c = λ m s which bytes a v few short spelled. emitted_prepared m s which bytes a v few short spelled
+returns c = emitted_prepared

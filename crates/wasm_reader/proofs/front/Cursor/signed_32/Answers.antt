@@ -2,7 +2,7 @@ use Rattle.std.proofs.Common.{Ok, refl, ap, ◌∙◌}
 use Rattle.std.specs.Int.{w32, cast_unsigned, cast_signed}
 use Rattle.std.proofs.lemmas.Int.{of_z-to_z}
 use Rattle.wa_types.proofs.LebAnswers.{ok-injective}
-use Rattle.wa_types.proofs.SpelledFits.{signed_fits}
+use Rattle.file_laws.proofs.SpelledFits.{signed_fits}
 use Rattle.wasm_reader.proofs.Cursors.{signed_given, signed_on}
 use Rattle.wasm_reader.proofs.front.Cursor.signed_32.Goals as goal
 

@@ -1,0 +1,3 @@
+mod FixedLemmas
+mod GuardLemmas
+mod ToldLemmas

@@ -1,0 +1,66 @@
+//! Guesses at which operands stay. A wrong one costs the slim code of a function, and no more.
+
+use slim_walk::Walk;
+use wa_model::{Operand, Stmt};
+use wa_types::ValType;
+
+/// Whether an operand is this local.
+fn is_local(operand: Operand, x: u32) -> bool {
+    match operand {
+        Operand::Local(y) => y == x,
+        Operand::Const(_) => false,
+    }
+}
+
+/// The type of a local, if it is there.
+fn is_type(types: &[ValType], x: u32, ty: ValType) -> bool {
+    match types.get(x as usize) {
+        Some(there) => *there == ty,
+        None => false,
+    }
+}
+
+/// Whether an operand stays below one that goes to this slot: slots stand in the order of their heights, and at one
+/// height that of an i32 first.
+fn stays_below(types: &[ValType], x: u32, to: Option<u32>) -> bool {
+    let Some(to) = to else {
+        return false;
+    };
+    if to <= x {
+        return false;
+    }
+    to - x != 1 || !is_type(types, x, ValType::I32) || !is_type(types, to, ValType::I64)
+}
+
+/// Whether a statement takes this operand, or leaves it where it is.
+fn leaves(types: &[ValType], x: u32, next: &Stmt) -> bool {
+    match next {
+        Stmt::Plain { args, to, .. } => match args.last().copied() {
+            Some(arg) => is_local(arg, x),
+            None => stays_below(types, x, *to),
+        },
+        Stmt::Move { to, from } => is_local(*from, x) || stays_below(types, x, Some(*to)),
+        Stmt::Call { stack, .. } => stack.last().copied() == Some(x),
+        Stmt::BrIf { cond, .. } => is_local(*cond, x),
+        Stmt::BrTable { index, .. } => is_local(*index, x),
+        Stmt::If { cond, .. } => is_local(*cond, x),
+        _ => false,
+    }
+}
+
+/// Whether a statement moves an operand that is read again, where these stand behind it.
+pub(crate) fn reads_again(at: &Walk, types: &[ValType], stmt: &Stmt, next: Option<&Stmt>) -> bool {
+    let Stmt::Move { from, .. } = stmt else {
+        return false;
+    };
+    let Operand::Local(x) = *from else {
+        return false;
+    };
+    if at.stack.last().copied() != Some(x) {
+        return true;
+    }
+    match next {
+        Some(next) => leaves(types, x, next),
+        None => false,
+    }
+}
