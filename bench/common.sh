@@ -14,12 +14,20 @@ build_asyncify() {
     [ -x "$asyncify" ]
 }
 
-# Proves and builds a crate's program, tries it with these words, and puts it at a path: CRATE PATH [WORD ...]
-build_program() {
-    local crate=$1 path=$2
-    shift 2
-    (cd "$bench/../crates/$crate" && rt run ${1:+-- "$@"}) >"$temp/log" 2>&1 || { cat "$temp/log"; exit 1; }
-    cp "$bench/../crates/$crate/out/$crate" "$path"
+# Proves and builds the loops of bench/loops, which are no crate of the repository, in a copy of it that has one crate more, and puts
+# the program at a path: PATH
+build_loops() {
+    local at=$temp/copy file
+    mkdir -p "$at"
+    cp -al "$bench/../crates" "$at" 2>/dev/null || cp -r "$bench/../crates" "$at"
+    cp "$bench/../HANDLES" "$at"
+    { cat "$bench/../crates.txt"; echo "bench_loops: $(cat "$bench/loops/libraries")"; } >"$at/crates.txt"
+    mkdir -p "$at/crates/bench_loops/src"
+    for file in "$bench"/loops/*.rs; do
+        cp "$file" "$at/crates/bench_loops/src/$(basename "$file" .rs).rt"
+    done
+    (cd "$at/crates/bench_loops" && rt run) >"$temp/log" 2>&1 || { cat "$temp/log"; exit 1; }
+    cp "$at/crates/bench_loops/out/bench_loops" "$1"
 }
 
 # Whether a peer is there to be measured beside; without it the script says so, and fails.

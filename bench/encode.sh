@@ -1,5 +1,5 @@
 #!/usr/bin/env bash
-# Times reading and writing: `bench_loops` (crates/bench_loops) on modules of 8 to 64 MB just below the bounds of prepared
+# Times reading and writing: bench/loops on modules of 8 to 64 MB just below the bounds of prepared
 # modules, in three shapes: small bodies, as many as there may be; one long body; data segments. User time and greatest
 # resident memory, beside `wasm-opt` reading and writing the same file (Debian's binaryen). Fails where a doubled size takes
 # more than 2.6 times the time, or where more than half of wasm-opt's time is taken.
@@ -28,7 +28,7 @@ open(path, "wb").write(module(section(1, [b"\x60\x01\x7f\x01\x7f"]), *sections))
 PY
 }
 
-build_program bench_loops "$temp/loops"
+build_loops "$temp/loops"
 for kind in small long data; do
     before=
     for megabytes in 8 16 32 64; do

@@ -1,5 +1,5 @@
 #!/usr/bin/env bash
-# Times `asyncify host`: a loop of 120 million reductions beside the interpreter alone (crates/bench_loops) on the same module; a script
+# Times `asyncify host`: a loop of 120 million reductions beside the interpreter alone (bench/loops) on the same module; a script
 # of 1 MiB of answer lines; and pauses of a small frame, as many as a script has answer lines for, at a quarter, half and the whole.
 # User time, the least of RUNS runs (3). Fails where the loop takes more than 1.05 times the interpreter's time, the script more than
 # 0.2 s, or twice the pauses more than 2.6 times the time.
@@ -34,7 +34,7 @@ hosted() {
 }
 
 build_asyncify
-build_program bench_loops "$temp/loops"
+build_loops "$temp/loops"
 
 make_module loads 10000000 "$temp/in.wasm"
 "$asyncify" transform --ignore-imports "$temp/in.wasm" "$temp/loop.wasm" >/dev/null

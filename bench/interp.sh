@@ -1,5 +1,5 @@
 #!/usr/bin/env bash
-# Times the interpreter (crates/bench_loops, which calls `Instance::begin` on the function `run` of a module): a loop of
+# Times the interpreter (bench/loops, which calls `Instance::begin` on the function `run` of a module): a loop of
 # as many rounds as the argument says, or 10 million, each with a load and two additions, beside `wasm-interp` (Debian's
 # wabt) running the same file; and runs over nested blocks, locals and calls, each at one size and at twice that size.
 # Takes the best user time of five runs of each. Fails where the loop makes less than 20 million reductions a second or
@@ -59,7 +59,7 @@ open(path, "wb").write(module(
 PY
 }
 
-build_program bench_loops "$temp/loops"
+build_loops "$temp/loops"
 make_module loads 0 "$rounds" "$temp/loads.wasm"
 read -r time _ < <(measure 0 5 "$temp/loops" interp "$temp/loads.wasm")
 sum=$(sed -n 1p "$temp/printed")

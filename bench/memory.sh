@@ -1,11 +1,11 @@
 #!/usr/bin/env bash
-# Times loads and stores through `Pages` (crates/bench_loops) against the same loop over a plain slice
+# Times loads and stores through `Pages` (bench/loops) against the same loop over a plain slice
 # (slice.rs, by rustc -O): as many of each as the argument says, or 10 million. Prints the best time of seven
 # runs of both, and fails where the first is more than twice the second.
 . "$(dirname "$0")/common.sh"
 rounds=${1:-10000000}
 
-build_program bench_loops "$temp/loops"
+build_loops "$temp/loops"
 rustc --edition 2024 -O -o "$temp/slice" "$bench/slice.rs"
 [ "$("$temp/loops" memory "$rounds")" = "$("$temp/slice" "$rounds")" ] || { echo "the sums differ"; exit 1; }
 
