@@ -4,7 +4,7 @@ use Rattle.wa_types.specs.declared.values.Value.TheVariants as V
 use Rattle.wa_types.specs.declared.operators.NumOp.TheVariants.{I32LtU}
 use Rattle.wa_types.specs.Syntax.{const, num, basic, Code, done, plain}
 use Rattle.guard_form.specs.Pieces.{Units, no_unit, call_unit, nest_unit, if_unit, any_unit, numbers_in}
-use Rattle.guard_form.specs.Guarded.{GuardIndices, index_with, choice, arm}
+use Rattle.guard_form.specs.Guarded.{GuardIndices, index_with, choice, arm, Exit, each_end, its_end, by_label, nowhere, last_piece}
 
 -- there is a unit
 abbrev pub Some_unit : Units → Type 0
@@ -67,3 +67,10 @@ counted no_unit k t le lt = absurd (omega arith)
 counted (call_unit slots x to behind rest) k t le lt = tt
 counted (nest_unit y inner body behind rest) k t le lt = tt
 counted (if_unit y fa a fb b behind rest) k t le lt = tt
+
+-- no piece behind the last unit
+pub last_none : (i : GuardIndices) (e : Exit) → last_piece i e done ≡ done
+last_none i each_end = refl
+last_none i its_end = refl
+last_none i (by_label l) = refl
+last_none i nowhere = refl

@@ -18,6 +18,7 @@ use Rattle.guard_form.specs.Pieces.{Units, no_unit, call_unit, nest_unit, if_uni
 use Rattle.guard_form.specs.Places.{Enclosing, in_a_block, in_a_loop, flat_labels, exit_at, written_labels, label_more, BodyPlace, at_start, past_call, past_block, past_loop, past_if, in_block, in_loop, in_then, in_else}
 use Rattle.guard_runs.specs.Beside.{Sides, Together, BehindPiece, guard_end, before_call, before_if, sequence_end, func_end, tail_at, InPiece, outside, GoesOn, SamePoint, in_piece, at_args, at_block, at_loop, at_choice, at_end, at_return, Locals, Callers, Aligned, aligned, Near}
 use Rattle.guard_form.proofs.CodeLemmas.{calls_pruned, raised_none}
+use Rattle.guard_form.proofs.UnitLemmas.{last_none}
 use Rattle.guard_form.proofs.Grouped.{then_then, then_got, calls_then, calls_got}
 use Rattle.guard_runs.proofs.SilentStretches.{Comes, none, on, walks}
 
@@ -64,12 +65,6 @@ none_then tail = refl
 
 joined_got : (first : Code) (c : Operand) (tail : Code) → followed_by (followed_by first (got c done)) tail ≡ followed_by first (got c tail)
 joined_got first c tail = then_then first (got c done) tail ∙ ap (followed_by first) (then_got c done tail ∙ ap (got c) (none_then tail))
-
-last_none : (i : GuardIndices) (e : Exit) → last_piece i e done ≡ done
-last_none i each_end = refl
-last_none i its_end = refl
-last_none i (by_label l) = refl
-last_none i nowhere = refl
 
 guarded_is : (i : GuardIndices) (first next : Code) → GoesOn 0 first → guarded i first next ≡ by_state i.state done (raised 0 1 first) next
 guarded_is i done next go = absurd go
