@@ -1,4 +1,4 @@
-use Rattle.std.proofs.Common.{refl, None, ◌+◌}
+use Rattle.std.proofs.Common.{refl, None, ◌+◌, arith}
 use Rattle.wa_types.specs.View.{code}
 use Rattle.wa_types.proofs.ViewLemmas.{in_block}
 use Rattle.flat_pieces.proofs.PutLemmas.{put_one}
@@ -16,7 +16,7 @@ returns-in_ok-push-in-End c =
 pub returns-in_ok-put_called-in-Label : goal.returns-in_ok-put_called-in-Label
 returns-in_ok-put_called-in-Label c =
     called_labelled (indices c.args.guards.now) c.args.exit c.args.depth c.args.number (code c.args.piece.now) c.args.slots.now (callee_of c.args.target) c.args.to (code c.args.behind.now)
-    c.in-Label.label (c.in-Label.label + 1) _ _ _ c.in-Label.is refl c.in_ok-put_search-in-Label.ensures c.in_ok-put_called-in-Label.ensures
+    c.in-Label.label _ _ _ _ c.in-Label.is (omega arith) c.in_ok-put_search-in-Label.ensures c.in_ok-put_called-in-Label.ensures
 
 pub returns-in_ok-put_called-in-Nowhere : goal.returns-in_ok-put_called-in-Nowhere
 returns-in_ok-put_called-in-Nowhere c =
