@@ -82,6 +82,9 @@ module _ {X : Type 0} (k : Marking X) where
   marks_slim t n ts out f sh _ code' (S.keeps {sh2 = sh2} {rest = rest} x g is lt co gx ta la sl) =
       marks_slim t n ts out g (Some x ∷ sh2) rest code' sl ∙ sym (unmarked (local_set x) rest (k.on_set x))
   marks_slim t n ts out f sh _ code' (S.uses {sh2 = sh2} {rest = rest} x is ri sl) = marks_slim t n ts out f sh2 rest code' sl ∙ sym (unmarked (local_get x) rest (k.on_get x))
+  marks_slim t n ts out f _ _ _ (S.copies {sh = sh} {rest = rest} {rest' = rest'} x y g is co la sl) =
+      unmarked (local_tee y) rest' (k.on_tee y) ∙ marks_slim t n ts out g (Some x ∷ sh) rest rest' sl ∙ sym (unmarked (local_set y) rest (k.on_set y))
+      ∙ sym (unmarked (local_get x) (plain (local_set y) rest) (k.on_get x))
   marks_slim t n ts out f _ code _ (S.saves {sh = sh} {code' = code'} x g lt co sl) = unmarked (local_set x) code' (k.on_set x) ∙ marks_slim t n ts out g sh code code' sl
   marks_slim t n ts out f sh code code' (S.narrows g co sl) = marks_slim t n ts out g sh code code' sl
   marks_slim t n ts out f sh code code' (S.forgets pl sl) = marks_slim t n ts out f [] code code' sl
