@@ -6,7 +6,7 @@ use Rattle.wa_types.specs.declared.values.ValType.TheVariants.{I32, I64}
 use Rattle.wa_types.specs.declared.values.Value.TheVariants as V
 use Rattle.wa_types.specs.declared.operators.NumOp.TheVariants.{I32LtU, I32Sub}
 use Rattle.wa_types.specs.Sizes.{value_fits, BasicFits, PlainFits, CodeFits}
-use Rattle.wa_types.specs.Syntax.{basic, num, const, local_get, local_set, local_tee, br, br_if, br_table, return, unreachable, call, call_indirect, Plain, Code, done, plain, nest, branch}
+use Rattle.wa_types.specs.Syntax.{basic, num, const, local_get, local_set, local_tee, br, br_if, br_table, return, unreachable, call, call_indirect, Plain, a_block, Code, done, plain, nest, branch}
 use Rattle.wa_types.specs.Frames.{width}
 use Rattle.wa_types.specs.Pausing.{Callee, direct, indirect}
 use Rattle.wa_types.specs.Points.{after}
@@ -18,8 +18,8 @@ use Rattle.rewrite_form.specs.Flatten.{Names, top, carry_to, carry, carry_all, a
 use Rattle.rewrite_form.specs.Layout.{FrameField, kept, gap, fields_size, placed, Layout, save_code, restore_code}
 use Rattle.local_spill.specs.Spilling.{stored_value, loaded_value, locals_stored, locals_loaded}
 use Rattle.local_spill.specs.Spilling as Spilling
-use Rattle.rewrite_form.specs.Pieces.{Units, no_unit, call_unit, nest_unit, if_unit, numbers_in, call_to, numbered, holds_call, call_total, piece_call, first_piece, unit_call, units}
-use Rattle.rewrite_form.specs.Guarded.{GuardIndices, raised_plain, raised, guarded, sought, noted, choice, arm, front}
+use Rattle.rewrite_form.specs.Pieces.{Units, no_unit, call_unit, nest_unit, if_unit, any_unit, numbers_in, call_to, numbered, holds_call, call_total, piece_call, first_piece, unit_call, units}
+use Rattle.rewrite_form.specs.Guarded.{GuardIndices, raised_plain, raised, guarded, sought, one_more, noted, call_guarded, choice, arm, Exit, each_end, its_end, by_label, nowhere, exit_inside, last_piece, call_front, front}
 
 -- what a basic instruction holds is in range
 abbrev pub PlainBasic : Plain → Type 0
@@ -259,11 +259,26 @@ module _ (i : GuardIndices) (small : i.state < 2 ^ 32) where
   guarded_fits (nest s r body rest) next h k = (small, (tt, raised_fits 0 1 (nest s r body rest) h, k))
   guarded_fits (branch r a b rest) next h k = (small, (tt, raised_fits 0 1 (branch r a b rest) h, k))
 
-  sought_fits : (k : ℕ) (first next : Code) → k < 2 ^ 32 → BasicsFit first → BasicsFit next → BasicsFit (sought i k first next)
-  sought_fits k first next l h g = (small, ((tt, (l, (tt, (tt, tt)))), raised_fits 0 2 first h, g))
+  sought_fits : (label by k : ℕ) (first next : Code) → k < 2 ^ 32 → BasicsFit first → BasicsFit next → BasicsFit (sought i label by k first next)
+  sought_fits label by k first next l h g = (small, ((tt, (l, (tt, (tt, tt)))), raised_fits 0 by first h, g))
 
-  noted_fits : (d k : ℕ) (next : Code) → k < 2 ^ 32 → BasicsFit next → BasicsFit (noted i d k next)
-  noted_fits d k next l h = (l, (tt, (small, (tt, h))))
+  noted_fits : (label k : ℕ) (next : Code) → k < 2 ^ 32 → BasicsFit next → BasicsFit (noted i label k next)
+  noted_fits label k next l h = (l, (tt, (small, (tt, h))))
+
+  last_fits : (e : Exit) (c : Code) → BasicsFit c → BasicsFit (last_piece i e c)
+  last_fits each_end c h = guarded_fits c done h tt
+  last_fits its_end c h = guarded_fits c done h tt
+  last_fits (by_label l) c h = h
+  last_fits nowhere c h = h
+
+  call_fits : (e : Exit) (any : Bool) (k : ℕ) (first : Code) (call_of : Bool → Code) (next : Code) → k < 2 ^ 32 → BasicsFit first → ((own : Bool) → BasicsFit (call_of own)) → BasicsFit next
+      → BasicsFit (call_front i e any k first call_of next)
+  call_fits each_end any k first call_of next l h c g = (sought_fits 1 2 k first (call_of true) l h (c true), g)
+  call_fits its_end any k first call_of next l h c g = (sought_fits 1 2 k first (call_of true) l h (c true), g)
+  call_fits (by_label label) true k first call_of next l h c g = (sought_fits 1 2 k first (call_of true) l h (c true), g)
+  call_fits (by_label label) false k first call_of next l h c g = sought_fits (suc label) 1 k first (call_of false) l h (c false)
+  call_fits nowhere true k first call_of next l h c g = (sought_fits 1 2 k first (call_of true) l h (c true), g)
+  call_fits nowhere false k first call_of next l h c g = guarded_fits first (call_of false) h (c false)
 
   choice_fits : (k : ℕ) (a b : Units) → k + numbers_in a < 2 ^ 32 → BasicsFit (choice i k a b)
   choice_fits k a no_unit l = (omega arith, tt)
@@ -290,24 +305,24 @@ module _ (i : GuardIndices) (small : i.state < 2 ^ 32) where
   call_basic (direct x) = tt
   call_basic (indirect sort) = tt
 
-  pub front_fits : (d k : ℕ) (first : Code) (us : Units) → k + numbers_in us < 2 ^ 32 → BasicsFit first → UnitsBasic us → BasicsFit (front i d k first us)
-  front_fits d k first no_unit l h u = guarded_fits first done h tt
-  front_fits d k first (call_unit xs x to behind rest) l h u = (
-    sought_fits k first _ (omega (arith, l)) h
-        (slots_fit xs _ (call_basic x, noted_fits d k _ (omega (arith, l)) (set_fits to (raised 0 1 behind) (raised_fits 0 1 behind u.0)))),
-    front_fits d (suc k) done rest (omega (arith, l)) tt u.1,
-  )
-  front_fits d k first (nest_unit s inner body behind rest) l h u =
-      guarded_fits first _ h (front_fits (suc d) k inner body (omega (arith, l)) u.0 u.1, front_fits d (k + numbers_in body) behind rest (omega (arith, l)) u.2 u.3)
-  front_fits d k first (if_unit c fa a fb b behind rest) l h u = (
+  pub front_fits : (e : Exit) (d k : ℕ) (first : Code) (us : Units) → k + numbers_in us < 2 ^ 32 → BasicsFit first → UnitsBasic us → BasicsFit (front i e d k first us)
+  front_fits e d k first no_unit l h u = last_fits e first h
+  front_fits e d k first (call_unit xs x to behind rest) l h u =
+      call_fits e (any_unit rest) k first (λ own. call_guarded i own d k xs x to behind) (front i e d (suc k) done rest) (omega (arith, l)) h
+      (λ own. slots_fit xs _ (call_basic x, noted_fits (one_more own d) k _ (omega (arith, l)) (set_fits to (raised 0 (one_more own 0) behind) (raised_fits 0 (one_more own 0) behind u.0))))
+      (front_fits e d (suc k) done rest (omega (arith, l)) tt u.1)
+  front_fits e d k first (nest_unit s inner body behind rest) l h u =
+      guarded_fits first _ h
+      (front_fits (exit_inside e s (any_unit rest)) (suc d) k inner body (omega (arith, l)) u.0 u.1, front_fits e d (k + numbers_in body) behind rest (omega (arith, l)) u.2 u.3)
+  front_fits e d k first (if_unit c fa a fb b behind rest) l h u = (
     small,
     (
       choice_fits k a b (omega (arith, l)),
       raised_fits 0 1 (followed_by first (got c done)) (followed_fits first (got c done) h (got_fits c done u.0 tt)),
       (
-        arm_fits a fa _ u.1 (front_fits (suc d) k fa a (omega (arith, l)) u.1 u.2),
-        arm_fits b fb _ u.3 (front_fits (suc d) (k + numbers_in a) fb b (omega (arith, l)) u.3 u.4),
-        front_fits d (k + numbers_in a + numbers_in b) behind rest (omega (arith, l)) u.5 u.6,
+        arm_fits a fa _ u.1 (front_fits (exit_inside e a_block (any_unit rest)) (suc d) k fa a (omega (arith, l)) u.1 u.2),
+        arm_fits b fb _ u.3 (front_fits (exit_inside e a_block (any_unit rest)) (suc d) (k + numbers_in a) fb b (omega (arith, l)) u.3 u.4),
+        front_fits e d (k + numbers_in a + numbers_in b) behind rest (omega (arith, l)) u.5 u.6,
       ),
     ),
   )

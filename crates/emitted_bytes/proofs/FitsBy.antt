@@ -24,6 +24,7 @@ use Rattle.wa_model.specs.Rewrites.{instructions_and_labels}
 use Rattle.rewrite_form.specs.Flatten.{Names, names, top, carry_to, carry, carry_all, arrive, flat_plain, flat, flattened}
 use Rattle.rewrite_form.specs.FlatModule.{extra_types}
 use Rattle.rewrite_form.specs.Functions.{GuardedFunc, indices_of}
+use Rattle.rewrite_form.specs.Guarded.{body_exit}
 use Rattle.rewrite_form.specs.Pieces.{Units, nest_unit, if_unit, numbers_in, numbered, holds_call, call_total, first_piece, unit_call, units}
 use Rattle.rewrite_form.specs.CodesHold.{AllCodesHold, CodesHold, three}
 use Rattle.rewrite_form.specs.EmittedBy.{FrameCode, guarded_by, written_by, func_by, funcs_by, asyncified_by}
@@ -191,7 +192,7 @@ module _ (m : Module) (s : Settings) (which : List Bool) (codes : (index : ℕ) 
         units_basic (flat_terms m (Numbered m s which f) x f) 0 (owed.slim.out ∷ []) owed.slim.out owed.slim.here []
         (first_piece (Numbered m s which f) 0 (flattened m x f).body) gf.first (units (Numbered m s which f) 0 (flattened m x f).body) gf.body owed.slim.slim
         (first_fits (Numbered m s which f) 0 (flattened m x f).body stmts) (units_fit (Numbered m s which f) 0 (flattened m x f).body stmts) in
-        let guarded = front_fits (indices_of (global_space m) gf) state 0 0 gf.first gf.body (omega (arith, numbers_small)) both.0 both.1 in
+        let guarded = front_fits (indices_of (global_space m) gf) state (body_exit gf.exits) 0 0 gf.first gf.body (omega (arith, numbers_small)) both.0 both.1 in
         (state, (basics.0, tt, (guarded, (state, (basics.1, tt, result_fits (flattened m x f).result)))))
 
     depth_small : 1 + depth_of g.body ≤ 2 ^ 32

@@ -17,6 +17,7 @@ module _ (t : Terms) where
   code_slim n ts out f sh _ _ (S.tees {sh2 = sh2} {rest = rest} {rest' = rest'} x g co ta la sl) h = (h.0, code_slim n ts out g (None ∷ sh2) rest rest' sl h.1)
   code_slim n ts out f sh _ code' (keeps {sh2 = sh2} {rest = rest} x g is lt co gx ta la sl) h = code_slim n ts out g (Some x ∷ sh2) rest code' sl h.1
   code_slim n ts out f sh _ code' (uses {sh2 = sh2} {rest = rest} x is ri sl) h = code_slim n ts out f sh2 rest code' sl h.1
+  code_slim n ts out f _ _ _ (S.copies {sh = sh} {rest = rest} {rest' = rest'} x y g is co la sl) h = (tt, code_slim n ts out g (Some x ∷ sh) rest rest' sl (h.1).1)
   code_slim n ts out f _ code _ (saves {sh = sh} {code' = code'} x g lt co sl) h = (tt, code_slim n ts out g sh code code' sl h)
   code_slim n ts out f sh code code' (narrows g co sl) h = code_slim n ts out g sh code code' sl h
   code_slim n ts out f sh code code' (forgets pl sl) h = code_slim n ts out f [] code code' sl h

@@ -31,7 +31,7 @@ use Rattle.guard_sizes.proofs.Closed.{one_list}
 use Rattle.std.proofs.lemmas.Option.{slice_get_within, get_or_from_slice_get}
 use Rattle.guard_sizes.proofs.OneFunction.{layout_codes}
 use Rattle.guard_form.specs.Functions.{GuardedFunc, indices_of}
-use Rattle.guard_form.specs.Guarded.{front}
+use Rattle.guard_form.specs.Guarded.{guarded_body}
 use Rattle.slim_links.specs.Joined.{one_frame}
 use Rattle.flat_guards.specs.Framed.{Framed, FramedCalls, pause_cost}
 
@@ -88,7 +88,7 @@ module _ (m : Module) (s : Settings) (which : List Bool) (pieces : (index : ℕ)
         let index : l.index ≡ length (flattened (Base m) x f).locals = sym (ap (λ (z : Layout). z.index) same) in
         let scratch : l.scratch ≡ suc (length (flattened (Base m) x f).locals) = sym (ap (λ (z : Layout). z.scratch) same) in
         record {
-          codes = layout_codes l (front (indices_of (global_space m) gf) 0 0 gf.first gf.body) gf.result k (λ e. let z : l.index ≡ l.scratch = e in omega arith);
+          codes = layout_codes l (guarded_body (indices_of (global_space m) gf) gf.exits gf.first gf.body) gf.result k (λ e. let z : l.index ≡ l.scratch = e in omega arith);
           address = sym (ap (λ (z : Layout). z.address) same);
           index = index;
           scratch = scratch;

@@ -11,7 +11,7 @@ use Rattle.wa_types.specs.View.{in_front, onto, code}
 use Rattle.wa_types.proofs.ViewLemmas.{is_block, is_loop, is_if, is_plain, kind, in_block, in_loop, in_if, onto_append, onto_done, onto_none}
 use Rattle.wa_model.specs.Flat.{Stmts, no_more}
 use Rattle.guard_form.specs.Pieces.{no_unit, numbers_in, call_total, holds_call, first_piece, units}
-use Rattle.guard_form.specs.Guarded.{GuardIndices, by_state, raised, guarded, front}
+use Rattle.guard_form.specs.Guarded.{each_end, GuardIndices, by_state, raised, guarded, front}
 use Rattle.flow_calls.specs.declared.sequence.Sequence.{Sequence}
 use Rattle.flat_pieces.specs.Raising.{Raisable}
 use Rattle.flat_pieces.specs.Statements.{with_rest, one_code, one_place, one_holds}
@@ -91,7 +91,7 @@ step_piece i ps d a b u s free out behind call held number place puts =
     let fi : first_of ps a (with_rest u s)
     ≡ first_of ps b s = ap (onto a.piece.items) (first_with ps a.place u s free ∙ ap (λ n. one_code u (first_piece ps n s)) (sym place)) ∙ sym (puts (first_piece ps b.place s)) in
     record {
-      written = (λ j. onto (sym out j) (if sym behind j then nest a_block None (onto (sym call j) (raised 0 1 (fi j))) (front i d (sym number j) done (us j)) else front i d
+      written = (λ j. onto (sym out j) (if sym behind j then nest a_block None (onto (sym call j) (raised 0 1 (fi j))) (front i each_end d (sym number j) done (us j)) else front i each_end d
           (sym number j) (fi j) (us j)));
       held = ap (λ z. a.held || z) (holds_with ps a.place u s ∙ ap (λ z. z || holds_call ps (one_place a.place u) s) free) ∙ (λ j. sym held j || holds_call ps (sym place j) s);
       plainly = λ e. (sym held ∙ e, fi);
@@ -109,15 +109,15 @@ module _ (i : GuardIndices) (ps : List ℕ) (d : ℕ) (a b : Sequence) (v : Vec 
       let us : units ps a.place s ≡ units ps b.place s = ap (λ n. units ps n s) (sym place) in
       let fa : first_of ps a s ≡ code a.piece.items = ap (onto a.piece.items) nothing ∙ onto_done a.piece.items in
       let fb : first_of ps b s ≡ done = (λ j. onto (piece j) (first_piece ps (place j) s)) ∙ onto_none (first_piece ps a.place s) ∙ nothing in
-      let one : written_with i ps d a s ≡ onto a.out.items (nest a_block None (onto a.call.items (raised 0 1 (code a.piece.items))) (front i d b.number done (units ps b.place s))) =
-      (λ j. onto a.out.items (if open_ j then nest a_block None (onto a.call.items (raised 0 1 (fa j))) (front i d (sym number j) done (us j)) else front i d a.number (first_of ps a s)
+      let one : written_with i ps d a s ≡ onto a.out.items (nest a_block None (onto a.call.items (raised 0 1 (code a.piece.items))) (front i each_end d b.number done (units ps b.place s))) =
+      (λ j. onto a.out.items (if open_ j then nest a_block None (onto a.call.items (raised 0 1 (fa j))) (front i each_end d (sym number j) done (us j)) else front i each_end d a.number (first_of ps a s)
       (units ps a.place s))) in
-      let two : written_with i ps d b s ≡ onto a.out.items (nest a_block None (code v.items) (front i d b.number done (units ps b.place s))) =
-      (λ j. onto (out j) (if closed j then nest a_block None (onto b.call.items (raised 0 1 (first_of ps b s))) (front i d b.number done (units ps b.place s)) else front i d b.number
+      let two : written_with i ps d b s ≡ onto a.out.items (nest a_block None (code v.items) (front i each_end d b.number done (units ps b.place s))) =
+      (λ j. onto (out j) (if closed j then nest a_block None (onto b.call.items (raised 0 1 (first_of ps b s))) (front i each_end d b.number done (units ps b.place s)) else front i each_end d b.number
       (fb j) (units ps b.place s)))
-      ∙ onto_append a.out.items (Block None v) (front i d b.number done (units ps b.place s)) ∙ ap (onto a.out.items) (in_block None v (front i d b.number done (units ps b.place s))) in
+      ∙ onto_append a.out.items (Block None v) (front i each_end d b.number done (units ps b.place s)) ∙ ap (onto a.out.items) (in_block None v (front i each_end d b.number done (units ps b.place s))) in
       record {
-        written = one ∙ ap (λ z. onto a.out.items (nest a_block None z (front i d b.number done (units ps b.place s)))) (sym block) ∙ sym two;
+        written = one ∙ ap (λ z. onto a.out.items (nest a_block None z (front i each_end d b.number done (units ps b.place s)))) (sym block) ∙ sym two;
         held = (λ j. sym held j || holds_call ps (sym place j) s);
         plainly = λ e. absurd (not_both a.held (good.behind_held open_) (sym held ∙ e));
         numbers = (λ j. sym number j + numbers_in (us j));
@@ -157,4 +157,4 @@ finished i ps a b new st puts =
     let sm = st.same i ps 0 no_more refl in
     sym (onto_done new) ∙ puts done ∙ ap (λ c. onto b.out.items (guarded i c done)) (sym (onto_done b.piece.items))
     ∙ sym (λ j. onto b.out.items (if st.closed j then nest a_block None (onto b.call.items (raised 0 1 (first_of ps b no_more)))
-    (front i 0 b.number done no_unit) else front i 0 b.number (first_of ps b no_more) no_unit)) ∙ sym sm.written
+    (front i each_end 0 b.number done no_unit) else front i each_end 0 b.number (first_of ps b no_more) no_unit)) ∙ sym sm.written

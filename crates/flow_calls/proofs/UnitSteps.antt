@@ -15,7 +15,7 @@ use Rattle.wa_types.proofs.ViewLemmas.{onto_done, onto_none}
 use Rattle.wa_model.specs.Flat.{Stmts, no_more, calls, followed_by, set_to, slots_got, last_of}
 use Rattle.wa_model.specs.FlatFits.{IsCallCode}
 use Rattle.guard_form.specs.Pieces.{numbers_in, call_to, call_total, sole_callee, numbered, holds_call, piece_call, first_piece, unit_call, units}
-use Rattle.guard_form.specs.Guarded.{GuardIndices, index_with, raised, sought, noted, front}
+use Rattle.guard_form.specs.Guarded.{each_end, GuardIndices, index_with, raised, sought, noted, front}
 use Rattle.guard_form.specs.Grouping.{is_place}
 use Rattle.flow_calls.specs.declared.guards.Guards.{Guards}
 use Rattle.flow_calls.specs.declared.sequence.Sequence.{Sequence}
@@ -69,8 +69,8 @@ free_stepped g d a b op stack args to free good fits out behind block held numbe
 module _ (g : Guards) (d : ℕ) (a0 a b : Sequence) (op : Code) (x : Callee) (stack : List ℕ) (args : ℕ) (to : Option ℕ) (st : Settled a0 a) (is : op ≡ plain (call_to x) done)
     (there : is_place g.numbers.items a0.place ≡ true) (out : b.out.items ≡ a.out.items) (behind : b.behind ≡ true) (piece : b.piece.items ≡ []) (held : b.held ≡ true)
     (place : b.place ≡ a.place + 1) (number : b.number ≡ a.number + 1)
-    (block : (c : Code) → onto b.call.items c ≡ sought (indices g) a.number (code a.piece.items)
-    (slots_got (last_of args stack) (plain (call_to x) (noted (indices g) d a.number (set_to to c))))) where
+    (block : (c : Code) → onto b.call.items c ≡ sought (indices g) 1 2 a.number (code a.piece.items)
+    (slots_got (last_of args stack) (plain (call_to x) (noted (indices g) (suc d) a.number (set_to to c))))) where
   abbrev ps : List ℕ
   ps = g.numbers.items
 
@@ -93,15 +93,15 @@ module _ (g : Guards) (d : ℕ) (a0 a b : Sequence) (op : Code) (x : Callee) (st
       let ua = ap (λ o. unit_call o (last_of args stack) to (first_piece ps (suc a.place) s) (units ps (suc a.place) s)) some in
       let fb : first_of ps b s ≡ first_piece ps (suc a.place) s = (λ j. onto (piece j) (first_piece ps (pl j) s)) ∙ onto_none (first_piece ps (suc a.place) s) in
       let one : written_with (indices g) ps d a (calls op stack args to s)
-      ≡ onto a.out.items (front (indices g) d a.number (code a.piece.items) (unit_call (Some x) (last_of args stack) to (first_piece ps (suc a.place) s) (units ps (suc a.place) s))) =
+      ≡ onto a.out.items (front (indices g) each_end d a.number (code a.piece.items) (unit_call (Some x) (last_of args stack) to (first_piece ps (suc a.place) s) (units ps (suc a.place) s))) =
       (λ j. onto a.out.items (if st.closed j then nest a_block None (onto a.call.items (raised 0 1 (first_of ps a (calls op stack args to s))))
-      (front (indices g) d a.number done (units ps a.place (calls op stack args to s))) else front (indices g) d a.number (fa j) (ua j))) in
+      (front (indices g) each_end d a.number done (units ps a.place (calls op stack args to s))) else front (indices g) each_end d a.number (fa j) (ua j))) in
       let two : written_with (indices g) ps d b s
-      ≡ onto a.out.items (nest a_block None (onto b.call.items (raised 0 1 (first_piece ps (suc a.place) s))) (front (indices g) d (suc a.number) done (units ps (suc a.place) s))) =
-      (λ j. onto (out j) (if behind j then nest a_block None (onto b.call.items (raised 0 1 (fb j))) (front (indices g) d (nu j) done (units ps (pl j) s)) else front
-      (indices g) d b.number (first_of ps b s) (units ps b.place s))) in
+      ≡ onto a.out.items (nest a_block None (onto b.call.items (raised 0 1 (first_piece ps (suc a.place) s))) (front (indices g) each_end d (suc a.number) done (units ps (suc a.place) s))) =
+      (λ j. onto (out j) (if behind j then nest a_block None (onto b.call.items (raised 0 1 (fb j))) (front (indices g) each_end d (nu j) done (units ps (pl j) s)) else front
+      (indices g) each_end d b.number (first_of ps b s) (units ps b.place s))) in
       record {
-        written = one ∙ sym (two ∙ ap (λ z. onto a.out.items (nest a_block None z (front (indices g) d (suc a.number) done (units ps (suc a.place) s))))
+        written = one ∙ sym (two ∙ ap (λ z. onto a.out.items (nest a_block None z (front (indices g) each_end d (suc a.number) done (units ps (suc a.place) s))))
             (block (raised 0 1 (first_piece ps (suc a.place) s))));
         held = true_or a.held _ (ap (λ o. is_some o || holds_call ps (suc a.place) s) some) ∙ sym (ap (λ z. z || holds_call ps b.place s) held);
         plainly = λ e. absurd (not_both b.held held e);
@@ -128,12 +128,12 @@ module _ (g : Guards) (d : ℕ) (a0 a b : Sequence) (op : Code) (x : Callee) (st
 
 -- ---- what is put of a numbered call
 
-pub test_of : (i : GuardIndices) (k : ℕ) (l0 l1 l2 : List Instr) → l0 ≡ []
-    → Puts l0 l1 (λ c. plain (local_get i.index) (plain (basic (const (V.I32 k))) (plain (basic (num I32Ne)) c))) → l2 ≡ l1 ++ BrIf 1 ∷ []
-    → code l2 ≡ index_with i (basic (num I32Ne)) k (plain (br_if 1) done)
-test_of i k l0 l1 l2 e puts f =
-    sym (onto_done l2) ∙ put_one l1 l2 (BrIf 1) (plain (br_if 1)) f (br_if_is 1) done ∙ puts (plain (br_if 1) done)
-    ∙ ap (λ xs. onto xs (index_with i (basic (num I32Ne)) k (plain (br_if 1) done))) e ∙ onto_none _
+pub test_of : (i : GuardIndices) (k l : ℕ) (l0 l1 l2 : List Instr) → l0 ≡ []
+    → Puts l0 l1 (λ c. plain (local_get i.index) (plain (basic (const (V.I32 k))) (plain (basic (num I32Ne)) c))) → l2 ≡ l1 ++ BrIf l ∷ []
+    → code l2 ≡ index_with i (basic (num I32Ne)) k (plain (br_if l) done)
+test_of i k l l0 l1 l2 e puts f =
+    sym (onto_done l2) ∙ put_one l1 l2 (BrIf l) (plain (br_if l)) f (br_if_is l) done ∙ puts (plain (br_if l) done)
+    ∙ ap (λ xs. onto xs (index_with i (basic (num I32Ne)) k (plain (br_if l) done))) e ∙ onto_none _
 
 call_then : (x : Callee) (c : Code) → followed_by (plain (call_to x) done) c ≡ plain (call_to x) c
 unfolding followed_by
@@ -145,7 +145,7 @@ pub block_of : (i : GuardIndices) (d k : ℕ) (first op : Code) (x : Callee) (sl
     → op ≡ plain (call_to x) done
     → Puts l3 l4 (λ c. plain (basic (const (V.I32 k))) (plain (local_set i.index) (plain (basic (global_get i.state)) (plain (br_if label) c)))) → label ≡ suc d
     → Puts l4 l5 (set_to to)
-    → (c : Code) → onto l5 c ≡ sought i k first (slots_got slots (plain (call_to x) (noted i d k (set_to to c))))
+    → (c : Code) → onto l5 c ≡ sought i 1 2 k first (slots_got slots (plain (call_to x) (noted i (suc d) k (set_to to c))))
 block_of i d k first op x slots slots2 to l0 l1 l2 l3 l4 l5 other piece label e0 eo ep p1 p2 es p3 eop p4 el p5 c =
     let n : ℕ → Code = λ l. plain (basic (const (V.I32 k))) (plain (local_set i.index) (plain (basic (global_get i.state)) (plain (br_if l) (set_to to c)))) in
     p5 c ∙ p4 (set_to to c) ∙ ap (λ l. onto l3 (n l)) el ∙ p3 (n (suc d)) ∙ ap (λ o. onto l2 (followed_by o (n (suc d)))) eop ∙ ap (onto l2) (call_then x (n (suc d)))

@@ -8,7 +8,7 @@ use Rattle.wa_model.specs.declared.flat.Stmt.{Stmt}
 use Rattle.wa_model.specs.Flat.{Stmts, no_more, code_of}
 use Rattle.wa_model.specs.FlatView.{stmt_in_front}
 use Rattle.guard_form.specs.Pieces.{numbers_in, call_total, holds_call, first_piece, units}
-use Rattle.guard_form.specs.Guarded.{GuardIndices, raised, index_with, front}
+use Rattle.guard_form.specs.Guarded.{each_end, GuardIndices, raised, index_with, front}
 use Rattle.flat_pieces.specs.Statements.{Fits}
 use Rattle.flat_pieces.specs.Raising.{Raisable}
 use Rattle.flow_calls.specs.declared.guards.Guards.{Guards}
@@ -31,8 +31,8 @@ first_of ps at s = onto at.piece.items (first_piece ps at.place s)
 abbrev pub written_with : GuardIndices → (places : List ℕ) → (depth : ℕ) → Sequence → Stmts → Code
 written_with i ps d at s =
     onto at.out.items
-    (if at.behind then nest a_block None (onto at.call.items (raised 0 1 (first_of ps at s))) (front i d at.number done (units ps at.place s))
-    else front i d at.number (first_of ps at s) (units ps at.place s))
+    (if at.behind then nest a_block None (onto at.call.items (raised 0 1 (first_of ps at s))) (front i each_end d at.number done (units ps at.place s))
+    else front i each_end d at.number (first_of ps at s) (units ps at.place s))
 
 -- Both come to the same, with these statements to come at each.
 pub record Same (i : GuardIndices) (ps : List ℕ) (d : ℕ) (a : Sequence) (s : Stmts) (b : Sequence) (t : Stmts) : Type 0 where
@@ -60,7 +60,7 @@ pub record Settled (a b : Sequence) : Type 0 where
 -- Statements as they are written, the first call of which has this place, and the first numbered one this number.
 pub record IsPart (i : GuardIndices) (ps : List ℕ) (d n k : ℕ) (s : Stmts) (p : Part) : Type 0 where
   pub held : p.held ≡ holds_call ps n s
-  pub written : code p.code.items ≡ (if p.held then front i d k (first_piece ps n s) (units ps n s) else code_of s)
+  pub written : code p.code.items ≡ (if p.held then front i each_end d k (first_piece ps n s) (units ps n s) else code_of s)
   pub place : p.place ≡ n + call_total s
   pub number : p.number ≡ k + numbers_in (units ps n s)
 
@@ -93,7 +93,7 @@ pub record ReadyAt (g : Guards) (d : ℕ) (at : Sequence) (x : Stmt) : Type 0 wh
 pub record Walked (g : Guards) (d n k : ℕ) (s : Stmts) (at : Sequence) (t : Stmts) : Type 0 where
   pub good : Good at
   pub fits : Fits g.index d t
-  pub written : front (indices g) d k (first_piece g.numbers.items n s) (units g.numbers.items n s) ≡ written_with (indices g) g.numbers.items d at t
+  pub written : front (indices g) each_end d k (first_piece g.numbers.items n s) (units g.numbers.items n s) ≡ written_with (indices g) g.numbers.items d at t
   pub held : holds_call g.numbers.items n s ≡ (at.held || holds_call g.numbers.items at.place t)
   pub plainly : at.held ≡ false → first_piece g.numbers.items n s ≡ first_of g.numbers.items at t
   pub numbers : k + numbers_in (units g.numbers.items n s) ≡ at.number + numbers_in (units g.numbers.items at.place t)

@@ -9,7 +9,7 @@ use Rattle.wa_types.proofs.ViewLemmas.{in_block, in_loop, in_if, onto_done, onto
 use Rattle.wa_model.specs.declared.flat.Operand.{Operand}
 use Rattle.wa_model.specs.Flat.{Stmts, no_more, computes, copies, calls, leaps, leaps_if, leaps_by, nests, decides, halts, followed_by, got, last_of, code_of}
 use Rattle.guard_form.specs.Pieces.{no_unit, nest_unit, if_unit, numbers_in, call_total, numbered, holds_call, first_piece, unit_call, units, flat_units}
-use Rattle.guard_form.specs.Guarded.{GuardIndices, raised, guarded, arm, front}
+use Rattle.guard_form.specs.Guarded.{each_end, GuardIndices, raised, guarded, arm, front}
 use Rattle.guard_form.proofs.CodeLemmas.{then_done}
 use Rattle.guard_form.proofs.Grouped.{joins, has_unit}
 use Rattle.wa_types.proofs.ViewLemmas.{is_block, is_loop, is_if, is_plain, kind}
@@ -60,7 +60,7 @@ first_is ps n s h = sym (then_done (first_piece ps n s)) ∙ ap (λ us. followed
 -- ---- parts
 
 module _ (i : GuardIndices) (ps : List ℕ) (d n k : ℕ) (s : Stmts) (p : Part) (is : IsPart i ps d n k s p) where
-  pub part_held : p.held ≡ true → code p.code.items ≡ front i d k (first_piece ps n s) (units ps n s)
+  pub part_held : p.held ≡ true → code p.code.items ≡ front i each_end d k (first_piece ps n s) (units ps n s)
   part_held h = is.written ∙ if_true p.held _ _ h
 
   pub part_plain : p.held ≡ false → code p.code.items ≡ code_of s
@@ -73,9 +73,9 @@ module _ (i : GuardIndices) (ps : List ℕ) (d n k : ℕ) (s : Stmts) (p : Part)
   part_none h = none_held ps n s (sym is.held ∙ h)
 
   -- as an arm
-  pub part_arm : (b : Bool) → p.held ≡ b → code p.code.items ≡ arm (units ps n s) (first_piece ps n s) (front i d k (first_piece ps n s) (units ps n s))
-  part_arm true h = part_held h ∙ sym (arm_is (units ps n s) (first_piece ps n s) (front i d k (first_piece ps n s) (units ps n s)) (part_some h))
-  part_arm false h = part_plain h ∙ sym (first_is ps n s (sym is.held ∙ h)) ∙ sym (ap (λ us. arm us (first_piece ps n s) (front i d k (first_piece ps n s) (units ps n s))) (part_none h))
+  pub part_arm : (b : Bool) → p.held ≡ b → code p.code.items ≡ arm (units ps n s) (first_piece ps n s) (front i each_end d k (first_piece ps n s) (units ps n s))
+  part_arm true h = part_held h ∙ sym (arm_is (units ps n s) (first_piece ps n s) (front i each_end d k (first_piece ps n s) (units ps n s)) (part_some h))
+  part_arm false h = part_plain h ∙ sym (first_is ps n s (sym is.held ∙ h)) ∙ sym (ap (λ us. arm us (first_piece ps n s) (front i each_end d k (first_piece ps n s) (units ps n s))) (part_none h))
 
 pub not_both : (x : Bool) → x ≡ true → x ≡ false → ⊥
 not_both true e f = cc
@@ -124,13 +124,13 @@ module _ (g : Guards) (d : ℕ) (a0 a b : Sequence) (y : Shape) (body : Stmts) (
       let fa : first_of ps a (nests y body s)
       ≡ code a.piece.items = ap (onto a.piece.items) (ap (λ z. first_piece ps z (nests y body s)) st.place ∙ nothing s) ∙ onto_done a.piece.items in
       let fb : first_of ps b s ≡ first_piece ps m s = (λ j. onto (piece j) (first_piece ps (pl j) s)) ∙ onto_none (first_piece ps m s) in
-      let behind_code = front i d (k + numbers_in (units ps n body)) (first_piece ps m s) (units ps m s) in
+      let behind_code = front i each_end d (k + numbers_in (units ps n body)) (first_piece ps m s) (units ps m s) in
       let one : written_with i ps d a (nests y body s)
-      ≡ onto a.out.items (guarded i (code a.piece.items) (nest y None (front i (suc d) k (first_piece ps n body) (units ps n body)) behind_code)) =
+      ≡ onto a.out.items (guarded i (code a.piece.items) (nest y None (front i each_end (suc d) k (first_piece ps n body) (units ps n body)) behind_code)) =
       (λ j. onto a.out.items (if st.closed j then nest a_block None (onto a.call.items (raised 0 1 (first_of ps a (nests y body s))))
-      (front i d a.number done (units ps a.place (nests y body s))) else front i d (st.number j) (fa j) (ua j))) in
+      (front i each_end d a.number done (units ps a.place (nests y body s))) else front i each_end d (st.number j) (fa j) (ua j))) in
       let two : written_with i ps d b s ≡ onto b.out.items behind_code =
-      (λ j. onto b.out.items (if behind j then nest a_block None (onto b.call.items (raised 0 1 (first_of ps b s))) (front i d b.number done (units ps b.place s)) else front i d (nu j)
+      (λ j. onto b.out.items (if behind j then nest a_block None (onto b.call.items (raised 0 1 (first_of ps b s))) (front i each_end d b.number done (units ps b.place s)) else front i each_end d (nu j)
       (fb j) (units ps (pl j) s))) in
       record {
         written = sm.written ∙ one ∙ sym (two ∙ puts behind_code ∙ ap (λ z. onto a.out.items (guarded i (code a.piece.items) (nest y None z behind_code)))

@@ -9,7 +9,7 @@ use Rattle.wa_types.proofs.ViewLemmas.{onto_done, onto_none}
 use Rattle.wa_model.specs.declared.flat.Operand.{Operand}
 use Rattle.wa_model.specs.Flat.{Stmts, no_more, decides, followed_by, got}
 use Rattle.guard_form.specs.Pieces.{Units, no_unit, if_unit, numbers_in, call_total, holds_call, first_piece, units}
-use Rattle.guard_form.specs.Guarded.{GuardIndices, raised, choice, arm, front}
+use Rattle.guard_form.specs.Guarded.{each_end, GuardIndices, raised, choice, arm, front}
 use Rattle.guard_form.proofs.UnitLemmas.{Some_unit, choice_is, choice_one, choice_two}
 use Rattle.flow_calls.specs.declared.guards.Guards.{Guards}
 use Rattle.flow_calls.specs.declared.sequence.Sequence.{Sequence}
@@ -88,15 +88,15 @@ module _ (g : Guards) (d : ℕ) (a0 a b : Sequence) (o : Operand) (sa sb : Stmts
       let us : units ps a.place u ≡ if_unit o (first_piece ps n sa) ua (first_piece ps n2 sb) ub (first_piece ps m s) (units ps m s) = ap (λ z. units ps z u) st.place ∙ unit s in
       let fa : first_of ps a u ≡ code a.piece.items = ap (onto a.piece.items) (ap (λ z. first_piece ps z u) st.place ∙ nothing s) ∙ onto_done a.piece.items in
       let fb : first_of ps b s ≡ first_piece ps m s = (λ j. onto (none j) (first_piece ps (pl j) s)) ∙ onto_none (first_piece ps m s) in
-      let behind_code = front i d (k + numbers_in ua + numbers_in ub) (first_piece ps m s) (units ps m s) in
-      let arm_a = arm ua (first_piece ps n sa) (front i (suc d) k (first_piece ps n sa) ua) in
-      let arm_b = arm ub (first_piece ps n2 sb) (front i (suc d) k2 (first_piece ps n2 sb) ub) in
+      let behind_code = front i each_end d (k + numbers_in ua + numbers_in ub) (first_piece ps m s) (units ps m s) in
+      let arm_a = arm ua (first_piece ps n sa) (front i each_end (suc d) k (first_piece ps n sa) ua) in
+      let arm_b = arm ub (first_piece ps n2 sb) (front i each_end (suc d) k2 (first_piece ps n2 sb) ub) in
       let one : written_with i ps d a u ≡ onto a.out.items (plain (basic (global_get g.state))
       (branch (Some I32) (choice i k ua ub) (raised 0 1 (followed_by (code a.piece.items) (got o done))) (branch None arm_a arm_b behind_code))) =
-      (λ j. onto a.out.items (if st.closed j then nest a_block None (onto a.call.items (raised 0 1 (first_of ps a u))) (front i d a.number done (units ps a.place u)) else front i d
+      (λ j. onto a.out.items (if st.closed j then nest a_block None (onto a.call.items (raised 0 1 (first_of ps a u))) (front i each_end d a.number done (units ps a.place u)) else front i each_end d
       (st.number j) (fa j) (us j))) in
       let two : written_with i ps d b s ≡ onto b.out.items behind_code =
-      (λ j. onto b.out.items (if closed j then nest a_block None (onto b.call.items (raised 0 1 (first_of ps b s))) (front i d b.number done (units ps b.place s)) else front i d (nu j)
+      (λ j. onto b.out.items (if closed j then nest a_block None (onto b.call.items (raised 0 1 (first_of ps b s))) (front i each_end d b.number done (units ps b.place s)) else front i each_end d (nu j)
       (fb j) (units ps (pl j) s))) in
       let three : onto b.out.items behind_code
       ≡ onto a.out.items (plain (basic (global_get g.state)) (branch (Some I32) (code chosen) (code piece) (branch None (code p.code.items) (code q.code.items) behind_code))) =

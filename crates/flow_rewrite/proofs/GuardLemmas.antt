@@ -8,7 +8,7 @@ use Rattle.wa_types.proofs.ViewLemmas.{onto_done, onto_none}
 use Rattle.wa_model.specs.Flat.{FlatFunc}
 use Rattle.wa_model.specs.FlatFits.{StmtsFit, FlatFits}
 use Rattle.guard_form.specs.Pieces.{call_total, first_piece, units}
-use Rattle.guard_form.specs.Guarded.{GuardIndices, guarded, guarded_code, front}
+use Rattle.guard_form.specs.Guarded.{each_end, GuardIndices, guarded, guarded_code, front}
 use Rattle.flow_calls.specs.declared.guards.Guards.{Guards}
 use Rattle.flow_calls.specs.declared.sequence.Part.{Part}
 use Rattle.flat_pieces.specs.Raising.{Raisable}
@@ -25,14 +25,14 @@ func_ready g f e rises fits room =
 
 pub whole_is : (g : Guards) (f : FlatFunc) (p : Part) (body : Code) → g.index ≡ length f.locals → IsPart (indices g) g.numbers.items 0 0 0 f.body p
     → body ≡ (if p.held then code p.code.items else guarded (indices g) (code p.code.items) done) → body ≡ guarded_code g.state g.numbers.items f
-whole_is g f p body e part is = is ∙ by p.held refl ∙ ap (λ n. front (record { state = g.state; index = n }) 0 0 (first_piece g.numbers.items 0 f.body) (units g.numbers.items 0 f.body)) e
+whole_is g f p body e part is = is ∙ by p.held refl ∙ ap (λ n. front (record { state = g.state; index = n }) each_end 0 0 (first_piece g.numbers.items 0 f.body) (units g.numbers.items 0 f.body)) e
   where
-    by : (b : Bool) → p.held ≡ b → (if p.held then code p.code.items else guarded (indices g) (code p.code.items) done) ≡ front (indices g) 0 0 (first_piece g.numbers.items 0 f.body)
+    by : (b : Bool) → p.held ≡ b → (if p.held then code p.code.items else guarded (indices g) (code p.code.items) done) ≡ front (indices g) each_end 0 0 (first_piece g.numbers.items 0 f.body)
         (units g.numbers.items 0 f.body)
     by true h = if_true p.held _ _ h ∙ part_held (indices g) g.numbers.items 0 0 0 f.body p part h
     by false h =
         if_false p.held _ _ h ∙ ap (λ c. guarded (indices g) c done) (part_plain (indices g) g.numbers.items 0 0 0 f.body p part h ∙ sym (first_is g.numbers.items 0 f.body (sym part.held ∙ h)))
-        ∙ sym (ap (front (indices g) 0 0 (first_piece g.numbers.items 0 f.body)) (part_none (indices g) g.numbers.items 0 0 0 f.body p part h))
+        ∙ sym (ap (front (indices g) each_end 0 0 (first_piece g.numbers.items 0 f.body)) (part_none (indices g) g.numbers.items 0 0 0 f.body p part h))
 
 pub part_raisable : (g : Guards) (f : FlatFunc) (p : Part) → IsPart (indices g) g.numbers.items 0 0 0 f.body p → Ready g 0 0 0 f.body → p.held ≡ false
     → Raisable 0 1 (code p.code.items)

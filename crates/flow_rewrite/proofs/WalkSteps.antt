@@ -18,7 +18,7 @@ use Rattle.wa_model.specs.FlatFits.{StmtsFit}
 use Rattle.wasm_tree.specs.Kinds.{is_leaf}
 use Rattle.flow_calls.proofs.UnitSteps.{callee_of}
 use Rattle.guard_form.specs.Pieces.{call_to, numbers_in, call_total, holds_call, first_piece, units}
-use Rattle.guard_form.specs.Guarded.{raised, front}
+use Rattle.guard_form.specs.Guarded.{each_end, raised, front}
 use Rattle.flow_calls.specs.declared.guards.Guards.{Guards}
 use Rattle.flow_calls.specs.declared.sequence.Sequence.{Sequence}
 use Rattle.flow_calls.specs.declared.sequence.Part.{Part}
@@ -265,7 +265,7 @@ walked_start g d n k s at rd out behind piece held place number =
       good = record { behind_held = λ e. absurd (false_true at.behind behind e); piece = raisable_none at.piece.items piece; few = omega (arith, place, number, fw) };
       fits = rd.fits;
       written = sym ((λ j. onto (out j) (if behind j then nest a_block None (onto at.call.items (raised 0 1 (first_of ps at s)))
-          (front i d at.number done (units ps at.place s)) else front i d (number j) (fi j) (units ps (place j) s))) ∙ onto_none (front i d k (first_piece ps n s) (units ps n s)));
+          (front i each_end d at.number done (units ps at.place s)) else front i each_end d (number j) (fi j) (units ps (place j) s))) ∙ onto_none (front i each_end d k (first_piece ps n s) (units ps n s)));
       held = sym (λ j. held j || holds_call ps (place j) s);
       plainly = λ e. sym fi;
       numbers = sym (λ j. number j + numbers_in (units ps (place j) s));
@@ -323,8 +323,8 @@ walked_end g d n k xs at j p le w written held place number =
     or_none false = refl
 
     by : (b : Bool) → at.held ≡ b → holds_call g.numbers.items n (stmts xs) ≡ at.held → (at.held ≡ false → first_piece g.numbers.items n (stmts xs) ≡ onto at.piece.items done)
-        → front (indices g) d k (first_piece g.numbers.items n (stmts xs)) (units g.numbers.items n (stmts xs)) ≡ written_with (indices g) g.numbers.items 0 at no_more
-        → code p.code.items ≡ (if p.held then front (indices g) d k (first_piece g.numbers.items n (stmts xs)) (units g.numbers.items n (stmts xs)) else code_of (stmts xs))
+        → front (indices g) each_end d k (first_piece g.numbers.items n (stmts xs)) (units g.numbers.items n (stmts xs)) ≡ written_with (indices g) g.numbers.items 0 at no_more
+        → code p.code.items ≡ (if p.held then front (indices g) each_end d k (first_piece g.numbers.items n (stmts xs)) (units g.numbers.items n (stmts xs)) else code_of (stmts xs))
     by true h hold plainly full = written ∙ if_true at.held _ _ h ∙ sym full ∙ sym (if_true p.held _ _ (held ∙ h))
     by false h hold plainly full = written ∙ if_false at.held _ _ h ∙ sym (onto_done at.piece.items) ∙ sym (plainly h) ∙ first_is g.numbers.items n (stmts xs) (hold ∙ h)
         ∙ sym (if_false p.held _ _ (held ∙ h))

@@ -1,16 +1,16 @@
 -- Types of guarded code.
-use Rattle.std.proofs.Common.{◌≡◌, ℕ, zero, suc, ◌+◌, List, [], ◌∷◌, ◌++◌, length, map, Option, Some, None, refl, sym, ap, ◌∙◌, subst, arith, length-append}
+use Rattle.std.proofs.Common.{◌≡◌, ℕ, zero, suc, ◌+◌, List, [], ◌∷◌, ◌++◌, length, map, Option, Some, None, Bool, true, false, refl, sym, ap, ◌∙◌, subst, arith, length-append}
 use Rattle.std.specs.Prelude.{slice_get, nat_lt, ◌&&◌}
 use Rattle.wa_types.specs.declared.values.ValType.{ValType}
 use Rattle.wa_types.specs.declared.values.ValType.TheVariants.{I32}
 use Rattle.wa_types.specs.declared.operators.NumOp.TheVariants.{I32Ne}
-use Rattle.wa_types.specs.Syntax.{Plain, num, global_get, basic, local_get, local_set, local_tee, br, br_if, br_table, return, unreachable, call, call_indirect, a_block, a_loop, Code, done, plain, nest, branch}
+use Rattle.wa_types.specs.Syntax.{Plain, Shape, num, global_get, basic, local_get, local_set, local_tee, br, br_if, br_table, return, unreachable, call, call_indirect, a_block, a_loop, Code, done, plain, nest, branch}
 use Rattle.wa_types.specs.Pausing.{Callee, direct, indirect}
 use Rattle.wa_types.specs.Typing.{Around, gets, sets, gets_global, jump, may_jump, jumps, all_there, all_alike, agrees_with, sig, Takes, label, listed, Types}
 use Rattle.wa_model.specs.Flat.{followed_by, got, set_to, slots_got, result_got}
-use Rattle.guard_form.specs.Guarded.{raise, raised_plain, raised, GuardIndices, by_state, index_with, guarded, noted, choice, arm, front}
-use Rattle.guard_form.specs.Pieces.{Units, no_unit, call_unit, nest_unit, if_unit, numbers_in, call_to}
-use Rattle.guard_form.specs.Typed.{UnitsTyped, UnitsTypedFrom, an_i32, FrontTyped, FrontTypedFrom, BodyTyped, BodyTypedFrom}
+use Rattle.guard_form.specs.Guarded.{raise, raised_plain, raised, GuardIndices, by_state, index_with, guarded, sought, noted, call_guarded, choice, arm, Exit, each_end, its_end, by_label, nowhere, exit_behind, exit_inside, last_piece, call_front, body_exit, front}
+use Rattle.guard_form.specs.Pieces.{Units, no_unit, call_unit, nest_unit, if_unit, any_unit, numbers_in, call_to}
+use Rattle.guard_form.specs.Typed.{UnitsTyped, UnitsTypedFrom, ExitTyped, an_i32, FrontTyped, FrontTypedFrom, BodyTyped, BodyTypedFrom}
 use Rattle.guard_form.proofs.PieceTypes.{types_then}
 use Rattle.guard_form.proofs.CodeLemmas.{raise_out, raise_in, raise_on}
 
@@ -103,10 +103,42 @@ module _ (c : Around) where
     guards ls (nest s t b r) next h g = tests ls done (raised 0 1 (nest s t b r)) next [] refl (below_one ls (nest s t b r) [] h) g
     guards ls (branch t a b r) next h g = tests ls done (raised 0 1 (branch t a b r)) next [] refl (below_one ls (branch t a b r) [] h) g
 
-    -- the index against a constant, and out of a call's block
-    leaves_block : (ls : Labels) (k : ℕ) → Types c (None ∷ None ∷ ls) (index_with i (basic (num I32Ne)) k (plain (br_if 1) done)) [] []
+    -- a label under one more, which leads to code without a result
+    leads : (ls : Labels) (l : ℕ) (ins : List ValType) → slice_get ls l ≡ Some None → Takes (sig c ls (br_if l)) (I32 ∷ ins) ins
+    leads ls l ins e = subst (λ o. Takes (may_jump o) (I32 ∷ ins) ins) (sym e) (ins, refl, refl)
+
+    -- the index against a constant, and out by a label
+    leaves_index : (ls : Labels) (l k : ℕ) → slice_get ls l ≡ Some None → Types c ls (index_with i (basic (num I32Ne)) k (plain (br_if l) done)) [] []
     unfolding Types
-    leaves_block ls k = (I32 ∷ [], gets_index (None ∷ None ∷ ls) [], (I32 ∷ I32 ∷ [], (I32 ∷ [], refl, refl), (I32 ∷ [], ([], refl, refl), ([], ([], refl, refl), refl))))
+    leaves_index ls l k e = (I32 ∷ [], gets_index ls [], (I32 ∷ I32 ∷ [], (I32 ∷ [], refl, refl), (I32 ∷ [], ([], refl, refl), ([], leads ls l [] e, refl))))
+
+    -- a label of an exit stands one further out inside
+    exit_typed : (ls : Labels) (s : Shape) (e : Exit) (more : Bool) → ExitTyped ls e → ExitTyped (None ∷ ls) (exit_inside e s more)
+    exit_typed ls s each_end more h = tt
+    exit_typed ls s its_end more h = behind_typed s
+      where
+        behind_typed : (s : Shape) → ExitTyped (None ∷ ls) (exit_behind s)
+        behind_typed a_block = refl
+        behind_typed a_loop = tt
+    exit_typed ls s (by_label l) true h = behind_typed s
+      where
+        behind_typed : (s : Shape) → ExitTyped (None ∷ ls) (exit_behind s)
+        behind_typed a_block = refl
+        behind_typed a_loop = tt
+    exit_typed ls s (by_label l) false h = h
+    exit_typed ls s nowhere true h = behind_typed s
+      where
+        behind_typed : (s : Shape) → ExitTyped (None ∷ ls) (exit_behind s)
+        behind_typed a_block = refl
+        behind_typed a_loop = tt
+    exit_typed ls s nowhere false h = tt
+
+    last_typed : (ls : Labels) (e : Exit) (first : Code) → Types c ls first [] [] → Types c ls (last_piece i e first) [] []
+    unfolding Types
+    last_typed ls each_end first h = guards ls first done h refl
+    last_typed ls its_end first h = guards ls first done h refl
+    last_typed ls (by_label l) first h = h
+    last_typed ls nowhere first h = h
 
     chooses : (ls : Labels) (k : ℕ) (a b : Units) → Types c ls (choice i k a b) (I32 ∷ []) []
     unfolding Types
@@ -142,37 +174,53 @@ module _ (c : Around) where
     call_sig ls ls2 (indirect t) = refl
 
     -- behind a call: with the call's result below, the state may leave the function's block
-    results_too : (ls : Labels) (to : Option ℕ) (behind : Code) (outs mids : List ValType) → Types c ls (set_to to done) outs mids → Types c (None ∷ ls) behind [] outs
-        → Types c (None ∷ ls) (set_to to behind) [] mids
+    results_too : (ls : Labels) (to : Option ℕ) (behind : Code) (outs mids : List ValType) → Types c ls (set_to to done) outs mids → Types c ls behind [] outs
+        → Types c ls (set_to to behind) [] mids
     unfolding Types
-    results_too ls None behind outs mids h g = subst (λ ms. Types c (None ∷ ls) behind [] ms) (sym h) g
-    results_too ls (Some x) behind outs mids h g = (h.0, h.1, subst (λ ms. Types c (None ∷ ls) behind [] ms) (sym h.2) g)
+    results_too ls None behind outs mids h g = subst (λ ms. Types c ls behind [] ms) (sym h) g
+    results_too ls (Some x) behind outs mids h g = (h.0, h.1, subst (λ ms. Types c ls behind [] ms) (sym h.2) g)
 
-    may_leave : (ls : Labels) (d : ℕ) (ins : List ValType) → slice_get ls d ≡ Some None → Takes (sig c (None ∷ ls) (br_if (suc d))) (I32 ∷ ins) ins
-    may_leave ls d ins e = subst (λ o. Takes (may_jump o) (I32 ∷ ins) ins) (sym e) (ins, refl, refl)
-
-    calls_too : (ls : Labels) (d k : ℕ) (x : Callee) (to : Option ℕ) (behind : Code) (outs mids : List ValType) → slice_get ls d ≡ Some None → Types c ls behind [] outs
-        → Types c ls (plain (call_to x) (set_to to done)) outs mids
-        → Types c (None ∷ ls) (plain (call_to x) (noted i d k (set_to to (raised 0 1 behind)))) [] mids
+    -- behind a call in labels where the function's block has this one
+    calls_noted : (ls : Labels) (l k : ℕ) (x : Callee) (to : Option ℕ) (behind : Code) (outs mids : List ValType) → slice_get ls l ≡ Some None → Types c ls behind [] outs
+        → Types c ls (plain (call_to x) (set_to to done)) outs mids → Types c ls (plain (call_to x) (noted i l k (set_to to behind))) [] mids
     unfolding Types
-    calls_too ls d k x to behind outs mids e hb h =
-        let ms = h.0 in (
-          ms,
-          subst (λ g. Takes g mids ms) (call_sig ls (None ∷ ls) x) h.1,
-          (
-            I32 ∷ ms,
-            (ms, refl, refl),
-            (
-              ms,
-              sets_index (None ∷ ls) ms,
-              (
-                I32 ∷ ms,
-                gets_state (None ∷ ls) ms,
-                (ms, may_leave ls d ms e, results_too ls to (raised 0 1 behind) outs ms h.2 (below_one ls behind outs hb)),
-              ),
-            ),
-          ),
-        )
+    calls_noted ls l k x to behind outs mids e hb h =
+        let ms = h.0 in
+        (ms, h.1, (I32 ∷ ms, (ms, refl, refl), (ms, sets_index ls ms, (I32 ∷ ms, gets_state ls ms, (ms, leads ls l ms e, results_too ls to behind outs ms h.2 hb)))))
+
+    -- a call's result in other labels
+    called_too : (ls ls2 : Labels) (x : Callee) (to : Option ℕ) (outs mids : List ValType) → Types c ls (plain (call_to x) (set_to to done)) outs mids
+        → Types c ls2 (plain (call_to x) (set_to to done)) outs mids
+    unfolding Types
+    called_too ls ls2 x None outs mids h = (h.0, subst (λ g. Takes g mids h.0) (call_sig ls ls2 x) h.1, h.2)
+    called_too ls ls2 x (Some y) outs mids h = (h.0, subst (λ g. Takes g mids h.0) (call_sig ls ls2 x) h.1, h.2)
+
+    abbrev call_labels : (own : Bool) → Labels → Labels
+    call_labels true ls = None ∷ ls
+    call_labels false ls = ls
+
+    called_typed : (ls : Labels) (own : Bool) (d k : ℕ) (slots : List ℕ) (x : Callee) (to : Option ℕ) (behind : Code) (outs : List ValType) → slice_get ls d ≡ Some None
+        → Types c ls behind [] outs → Types c ls (slots_got slots (plain (call_to x) (set_to to done))) outs [] → Types c (call_labels own ls) (call_guarded i own d k slots x to behind) [] []
+    called_typed ls true d k slots x to behind outs e hb h = slots_too ls (None ∷ ls) slots _ _ outs [] []
+        (λ mids t. calls_noted (None ∷ ls) (suc d) k x to (raised 0 1 behind) outs mids e (below_one ls behind outs hb) (called_too ls (None ∷ ls) x to outs mids t)) h
+    called_typed ls false d k slots x to behind outs e hb h = slots_too ls ls slots _ _ outs [] []
+        (λ mids t. calls_noted ls d k x to (raised 0 0 behind) outs mids e (types_raised [] [] ls behind [] outs hb) t) h
+
+    in_block : (ls : Labels) (k : ℕ) (first code next : Code) → Types c ls first [] [] → Types c (None ∷ ls) code [] [] → Types c ls next [] []
+        → Types c ls (nest a_block None (sought i 1 2 k first code) next) [] []
+    unfolding Types
+    in_block ls k first code next hf hc hn =
+        (tests (None ∷ ls) (index_with i (basic (num I32Ne)) k (plain (br_if 1) done)) (raised 0 2 first) code [] (leaves_index (None ∷ None ∷ ls) 1 k refl) (below_two ls first hf) hc, hn)
+
+    call_typed : (ls : Labels) (e : Exit) (more : Bool) (k : ℕ) (first : Code) (by_own : Bool → Code) (next : Code) → ExitTyped ls e → Types c ls first [] []
+        → ((own : Bool) → Types c (call_labels own ls) (by_own own) [] []) → Types c ls next [] [] → Types c ls (call_front i e more k first by_own next) [] []
+    call_typed ls each_end more k first by_own next et hf hc hn = in_block ls k first (by_own true) next hf (hc true) hn
+    call_typed ls its_end more k first by_own next et hf hc hn = in_block ls k first (by_own true) next hf (hc true) hn
+    call_typed ls (by_label l) true k first by_own next et hf hc hn = in_block ls k first (by_own true) next hf (hc true) hn
+    call_typed ls (by_label l) false k first by_own next et hf hc hn =
+        tests ls (index_with i (basic (num I32Ne)) k (plain (br_if (suc l)) done)) (raised 0 1 first) (by_own false) [] (leaves_index (None ∷ ls) (suc l) k et) (below_one ls first [] hf) (hc false)
+    call_typed ls nowhere true k first by_own next et hf hc hn = in_block ls k first (by_own true) next hf (hc true) hn
+    call_typed ls nowhere false k first by_own next et hf hc hn = guards ls first (by_own false) hf (hc false)
 
     first_typed : (ls : Labels) (ins : List ValType) (first : Code) (us : Units) → UnitsTypedFrom c ls ins first us → Types c ls first [] ins
     first_typed ls ins first no_unit h = h
@@ -194,28 +242,35 @@ module _ (c : Around) where
     arm_typed ls (nest_unit _ _ _ _ _) first code h g = g
     arm_typed ls (if_unit _ _ _ _ _ _ _) first code h g = g
 
-    front_typed : (ls : Labels) (d k : ℕ) (us : Units) (first : Code) → slice_get ls d ≡ Some None → UnitsTypedFrom c ls [] first us → Types c ls (front i d k first us) [] []
+    front_typed : (ls : Labels) (v : Exit) (d k : ℕ) (us : Units) (first : Code) → slice_get ls d ≡ Some None → ExitTyped ls v → UnitsTypedFrom c ls [] first us
+        → Types c ls (front i v d k first us) [] []
     unfolding Types
-    front_typed ls d k no_unit first e h = guards ls first done h refl
-    front_typed ls d k (call_unit slots x to behind rest) first e h =
-        let hb = first_typed ls h.0 behind rest h.3 in (
-          tests (None ∷ ls) (index_with i (basic (num I32Ne)) k (plain (br_if 1) done)) (raised 0 2 first) _ [] (leaves_block ls k) (below_two ls first h.1)
-              (slots_too ls (None ∷ ls) slots (plain (call_to x) (set_to to done)) (plain (call_to x) (noted i d k (set_to to (raised 0 1 behind)))) h.0 [] []
-              (λ mids t. calls_too ls d k x to behind h.0 mids e hb t) h.2),
-          front_typed ls d (suc k) rest done e (done_typed ls h.0 behind rest h.3),
-        )
-    front_typed ls d k (nest_unit a_block inner body behind rest) first e h =
-        guards ls first (nest a_block None (front i (suc d) k inner body) (front i d (k + numbers_in body) behind rest)) h.0
-        (front_typed (None ∷ ls) (suc d) k body inner e h.1, front_typed ls d (k + numbers_in body) rest behind e h.2)
-    front_typed ls d k (nest_unit a_loop inner body behind rest) first e h =
-        guards ls first (nest a_loop None (front i (suc d) k inner body) (front i d (k + numbers_in body) behind rest)) h.0
-        (front_typed (None ∷ ls) (suc d) k body inner e h.1, front_typed ls d (k + numbers_in body) rest behind e h.2)
-    front_typed ls d k (if_unit o fa a fb b behind rest) first e h =
-        let ta = arm_typed (None ∷ ls) a fa (front i (suc d) k fa a) (first_typed (None ∷ ls) [] fa a h.2) (front_typed (None ∷ ls) (suc d) k a fa e h.2) in
-        let tb = arm_typed (None ∷ ls) b fb (front i (suc d) (k + numbers_in a) fb b) (first_typed (None ∷ ls) [] fb b h.3) (front_typed (None ∷ ls) (suc d) (k + numbers_in a) b fb e h.3) in
+    front_typed ls v d k no_unit first e et h = last_typed ls v first h
+    front_typed ls v d k (call_unit slots x to behind rest) first e et h =
+        let hb = first_typed ls h.0 behind rest h.3 in
+        call_typed ls v (any_unit rest) k first (λ own. call_guarded i own d k slots x to behind) (front i v d (suc k) done rest) et h.1
+        (λ own. called_typed ls own d k slots x to behind h.0 e hb h.2) (front_typed ls v d (suc k) rest done e et (done_typed ls h.0 behind rest h.3))
+    front_typed ls v d k (nest_unit a_block inner body behind rest) first e et h =
+        let w = exit_inside v a_block (any_unit rest) in
+        guards ls first (nest a_block None (front i w (suc d) k inner body) (front i v d (k + numbers_in body) behind rest)) h.0
+        (front_typed (None ∷ ls) w (suc d) k body inner e (exit_typed ls a_block v (any_unit rest) et) h.1, front_typed ls v d (k + numbers_in body) rest behind e et h.2)
+    front_typed ls v d k (nest_unit a_loop inner body behind rest) first e et h =
+        let w = exit_inside v a_loop (any_unit rest) in
+        guards ls first (nest a_loop None (front i w (suc d) k inner body) (front i v d (k + numbers_in body) behind rest)) h.0
+        (front_typed (None ∷ ls) w (suc d) k body inner e (exit_typed ls a_loop v (any_unit rest) et) h.1, front_typed ls v d (k + numbers_in body) rest behind e et h.2)
+    front_typed ls v d k (if_unit o fa a fb b behind rest) first e et h =
+        let w = exit_inside v a_block (any_unit rest) in
+        let wt = exit_typed ls a_block v (any_unit rest) et in
+        let ta = arm_typed (None ∷ ls) a fa (front i w (suc d) k fa a) (first_typed (None ∷ ls) [] fa a h.2) (front_typed (None ∷ ls) w (suc d) k a fa e wt h.2) in
+        let tb = arm_typed (None ∷ ls) b fb (front i w (suc d) (k + numbers_in a) fb b) (first_typed (None ∷ ls) [] fb b h.3)
+        (front_typed (None ∷ ls) w (suc d) (k + numbers_in a) b fb e wt h.3) in
         let condition = types_then c ls first (got o done) (I32 ∷ []) [] [] h.0 h.1 in
         let raised_too = types_raised [] (Some I32 ∷ []) ls (followed_by first (got o done)) (I32 ∷ []) [] condition in
-        (I32 ∷ [], gets_state ls [], ([], refl, chooses (Some I32 ∷ ls) k a b, raised_too, ([], refl, ta, tb, front_typed ls d (k + numbers_in a + numbers_in b) rest behind e h.4)))
+        (I32 ∷ [], gets_state ls [], ([], refl, chooses (Some I32 ∷ ls) k a b, raised_too, ([], refl, ta, tb, front_typed ls v d (k + numbers_in a + numbers_in b) rest behind e et h.4)))
+
+    body_typed : (ls : Labels) (exits : Bool) → ExitTyped ls (body_exit exits)
+    body_typed ls true = tt
+    body_typed ls false = tt
 
   -- where no call leaves an operand
   pub from_none : (ls : Labels) (first : Code) (us : Units) → UnitsTyped c ls first us → UnitsTypedFrom c ls [] first us
@@ -225,16 +280,19 @@ module _ (c : Around) where
   from_none ls first (if_unit o fa a fb b behind rest) h = (h.0, h.1, from_none (None ∷ ls) fa a h.2, from_none (None ∷ ls) fb b h.3, from_none ls behind rest h.4)
 
 pub front_from_law : FrontTypedFrom
-front_from_law c i d k ls first us state index e h = front_typed c i state index ls d k us first e h
+front_from_law c i v d k ls first us state index e et h = front_typed c i state index ls v d k us first e et h
 
 pub front_law : FrontTyped
-front_law c i d k ls first us state index e h = front_from_law c i d k ls first us state index e (from_none c ls first us h)
+front_law c i v d k ls first us state index e et h = front_from_law c i v d k ls first us state index e et (from_none c ls first us h)
 
 pub body_from_law : BodyTypedFrom
 unfolding Types
-body_from_law c i restoring saving result first us state index hr hs hg h =
-    tests c i state index (c.result ∷ []) restoring done (nest a_block None (front i 0 0 first us) (by_state i.state saving done (result_got result))) (listed c.result) hr refl
-    (front_typed c i state index (None ∷ c.result ∷ []) 0 0 us first refl h, tests c i state index (c.result ∷ []) saving done (result_got result) (listed c.result) hs refl hg)
+body_from_law c i exits restoring saving result first us state index hr hs hg h =
+    tests c i state index (c.result ∷ []) restoring done (nest a_block None (front i (body_exit exits) 0 0 first us) (by_state i.state saving done (result_got result))) (listed c.result) hr refl (
+      front_typed c i state index (None ∷ c.result ∷ []) (body_exit exits) 0 0 us first refl (body_typed c i state index (None ∷ c.result ∷ []) exits) h,
+      tests c i state index (c.result ∷ []) saving done (result_got result) (listed c.result) hs refl hg,
+    )
 
 pub body_law : BodyTyped
-body_law c i restoring saving result first us state index hr hs hg h = body_from_law c i restoring saving result first us state index hr hs hg (from_none c (None ∷ c.result ∷ []) first us h)
+body_law c i exits restoring saving result first us state index hr hs hg h =
+    body_from_law c i exits restoring saving result first us state index hr hs hg (from_none c (None ∷ c.result ∷ []) first us h)

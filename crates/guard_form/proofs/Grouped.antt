@@ -10,7 +10,7 @@ use Rattle.wa_model.specs.Flat.{Stmts, no_more, computes, copies, calls, leaps, 
 use Rattle.guard_form.specs.Functions.{MayCall, Calls, PiecesCall, HasUnit, ArmsHold}
 use Rattle.guard_form.specs.Grouping.{is_place, StmtsNumbered, PiecesJoin, UnitsHold, PiecesAreFree}
 use Rattle.guard_form.specs.Pieces.{Units, no_unit, call_unit, nest_unit, if_unit, call_to, flat_units, call_total, sole_callee, numbered, holds_call, piece_call, first_piece, unit_call, units}
-use Rattle.guard_form.proofs.UnitLemmas.{Some_unit}
+use Rattle.guard_form.proofs.UnitLemmas.{any_is, Some_unit}
 
 -- ---- one behind the other
 
@@ -194,13 +194,13 @@ arms_hold ps n (calls op stack args to rest) = by (numbered ps n op) (arms_hold 
 arms_hold ps n (leaps l rest) = arms_hold ps n rest
 arms_hold ps n (leaps_if c l rest) = arms_hold ps n rest
 arms_hold ps n (leaps_by index labels last rest) = arms_hold ps n rest
-arms_hold ps n (nests s body rest) = by (holds_call ps n body) (arms_hold ps n body) (arms_hold ps (n + call_total body) rest)
+arms_hold ps n (nests s body rest) = by (holds_call ps n body) refl (arms_hold ps n body) (arms_hold ps (n + call_total body) rest)
   where
-    by : (b : Bool) → ArmsHold (units ps n body) → ArmsHold (units ps (n + call_total body) rest)
+    by : (b : Bool) → holds_call ps n body ≡ b → ArmsHold (units ps n body) → ArmsHold (units ps (n + call_total body) rest)
         → ArmsHold (if b then nest_unit s (first_piece ps n body) (units ps n body) (first_piece ps (n + call_total body) rest) (units ps (n + call_total body) rest) else units ps
         (n + call_total body) rest)
-    by true ib ih = (ib, ih)
-    by false ib ih = ih
+    by true e ib ih = (any_is (units ps n body) (has_unit ps n body e), ib, ih)
+    by false e ib ih = ih
 arms_hold ps n (decides c a b rest) = by (holds_call ps n a) refl (holds_call ps (n + call_total a) b) refl (arms_hold ps n a) (arms_hold ps (n + call_total a) b)
     (arms_hold ps (n + call_total a + call_total b) rest)
   where

@@ -1,16 +1,16 @@
 -- Places of the calls that pass a test, among all calls of statements.
-use Rattle.std.proofs.Common.{◌≡◌, ℕ, suc, ◌+◌, ◌<◌, ◌≤◌, ◌^◌, List, [], ◌∷◌, ◌++◌, length, Some, None, Option, Bool, true, false, nat_eq, refl, sym, ap, ◌∙◌, subst, arith, append_assoc, length-append}
-use Rattle.std.specs.Prelude.{◌||◌, ◌≢◌, if◌then◌else◌}
+use Rattle.std.proofs.Common.{◌≡◌, ℕ, suc, ◌+◌, ◌<◌, List, [], ◌∷◌, ◌++◌, length, Option, Bool, true, false, nat_eq, refl, sym, ap, ◌∙◌, subst, arith, append_assoc, length-append}
+use Rattle.std.specs.Prelude.{◌||◌, if◌then◌else◌}
 use Rattle.std.proofs.lemmas.Bool.{ne_eqb}
 use Rattle.std.proofs.lemmas.List.{append-nil}
 use Rattle.wa_types.specs.Syntax.{basic, local_get, local_set, local_tee, br, br_if, br_table, return, unreachable, call, call_indirect, Shape, Code, done, plain, nest, branch}
 use Rattle.wa_types.specs.Pausing.{Callee, direct, indirect, calls_of, places_from}
 use Rattle.wa_model.specs.declared.flat.Operand.{Operand}
 use Rattle.wa_model.specs.declared.flat.Operand.TheVariants.{Local, Const}
-use Rattle.wa_model.specs.Flat.{Stmts, no_more, computes, copies, calls, leaps, leaps_if, leaps_by, nests, decides, halts, followed_by, got, all_got, set_to, slots_got, last_of, code_of}
+use Rattle.wa_model.specs.Flat.{Stmts, no_more, computes, copies, calls, leaps, leaps_if, leaps_by, nests, decides, halts, followed_by, got, all_got, set_to, last_of, code_of}
 use Rattle.wa_model.specs.FlatFits.{ComputesFit, IsCallCode, StmtsFit}
 use Rattle.guard_form.specs.Functions.{Calls}
-use Rattle.guard_form.specs.Grouping.{is_place, CallNumbered, StmtsNumbered}
+use Rattle.guard_form.specs.Grouping.{is_place, StmtsNumbered}
 use Rattle.guard_form.specs.Numbers.{PlacesNumber, PlacesCount}
 use Rattle.guard_form.specs.Pieces.{call_to, call_total, first_piece, units}
 use Rattle.guard_form.proofs.Grouped.{free_law, joins_law}

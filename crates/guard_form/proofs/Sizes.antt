@@ -1,18 +1,18 @@
 -- Bounds on guarded code.
-use Rattle.std.proofs.Common.{◌≡◌, ℕ, suc, ◌+◌, ◌*◌, ◌≤◌, List, [], ◌∷◌, length, Option, Some, None, Bool, true, false, max, refl, ap, arith}
-use Rattle.std.specs.Prelude.{nat_eq, if◌then◌else◌, ◌||◌}
+use Rattle.std.proofs.Common.{◌≡◌, ℕ, suc, ◌+◌, ◌*◌, ◌≤◌, List, [], ◌∷◌, length, Option, Some, None, Bool, true, false, max, refl, ap, ◌∙◌, arith}
+use Rattle.std.specs.Prelude.{nat_eq, if◌then◌else◌}
 use Rattle.std.proofs.lemmas.List.{length-map}
 use Rattle.wa_types.specs.Sizes.{label_count}
 use Rattle.wa_types.specs.Counts.{depth_of}
-use Rattle.wa_types.specs.Syntax.{Plain, global_get, basic, local_get, local_set, local_tee, br, br_if, br_table, return, unreachable, call, call_indirect, Code, done, plain, nest, branch}
+use Rattle.wa_types.specs.Syntax.{Plain, global_get, basic, local_get, local_set, local_tee, br, br_if, br_table, return, unreachable, call, call_indirect, a_block, Code, done, plain, nest, branch}
 use Rattle.wa_types.specs.Pausing.{Callee, direct, indirect}
 use Rattle.wa_model.specs.declared.flat.Operand.{Operand}
 use Rattle.wa_model.specs.declared.flat.Operand.TheVariants.{Local, Const}
 use Rattle.wa_model.specs.Rewrites.{instructions_and_labels}
-use Rattle.wa_model.specs.Flat.{Stmts, no_more, computes, copies, calls, leaps, leaps_if, leaps_by, nests, decides, halts, followed_by, got, set_to, slots_got, last_of}
+use Rattle.wa_model.specs.Flat.{followed_by, got, set_to, slots_got}
 use Rattle.guard_form.specs.Bounds.{over, unit_count, SizeBound, DepthBound, PassingBound, plain_reads, reads, ReadsBound}
-use Rattle.guard_form.specs.Guarded.{raise, raised_plain, raised, GuardIndices, guarded, noted, choice, arm, front}
-use Rattle.guard_form.specs.Pieces.{Units, no_unit, call_unit, nest_unit, if_unit, numbers_in, call_to, flat_units, call_total, numbered, holds_call, first_piece, unit_call, units}
+use Rattle.guard_form.specs.Guarded.{raise, raised_plain, raised, GuardIndices, guarded, sought, one_more, noted, call_guarded, choice, arm, Exit, each_end, its_end, by_label, nowhere, exit_inside, last_piece, call_front, front}
+use Rattle.guard_form.specs.Pieces.{Units, no_unit, call_unit, nest_unit, if_unit, any_unit, numbers_in, call_to, flat_units}
 
 abbrev size : Code → ℕ
 size c = instructions_and_labels c
@@ -102,38 +102,69 @@ size_arm (call_unit _ _ _ _ _) first code n h g = g
 size_arm (nest_unit _ _ _ _ _) first code n h g = g
 size_arm (if_unit _ _ _ _ _ _ _) first code n h g = g
 
-size_front : (i : GuardIndices) (d k : ℕ) (first : Code) (us : Units) → size (front i d k first us) ≤ size (followed_by first (flat_units us)) + 11 * unit_count us + 2
+size_last : (i : GuardIndices) (e : Exit) (c : Code) → size (last_piece i e c) ≤ size c + 2
 unfolding instructions_and_labels
-size_front i d k first no_unit = let e = size_then first done in let g = size_guarded i first done in omega arith
-size_front i d k first (call_unit slots x to behind rest) =
-    let ih = size_front i d (suc k) done rest in
+size_last i each_end c = let g = size_guarded i c done in omega arith
+size_last i its_end c = let g = size_guarded i c done in omega arith
+size_last i (by_label l) c = omega arith
+size_last i nowhere c = omega arith
+
+-- a numbered call, in a block of its own or not
+size_sought : (i : GuardIndices) (l n k : ℕ) (first next : Code) → size (sought i l n k first next) ≤ size first + size next + 6
+unfolding instructions_and_labels
+size_sought i l n k first next = let e = size_raised 0 n first in omega arith
+
+size_call : (i : GuardIndices) (e : Exit) (more : Bool) (k : ℕ) (first : Code) (by_own : Bool → Code) (next : Code) (n : ℕ) → ((own : Bool) → size (by_own own) ≤ n)
+    → size (call_front i e more k first by_own next) ≤ size first + n + size next + 7
+unfolding instructions_and_labels
+size_call i each_end more k first by_own next n h = let a = h true in let b = size_sought i 1 2 k first (by_own true) in omega arith
+size_call i its_end more k first by_own next n h = let a = h true in let b = size_sought i 1 2 k first (by_own true) in omega arith
+size_call i (by_label l) true k first by_own next n h = let a = h true in let b = size_sought i 1 2 k first (by_own true) in omega arith
+size_call i (by_label l) false k first by_own next n h = let a = h false in let b = size_sought i (suc l) 1 k first (by_own false) in omega arith
+size_call i nowhere true k first by_own next n h = let a = h true in let b = size_sought i 1 2 k first (by_own true) in omega arith
+size_call i nowhere false k first by_own next n h = let a = h false in let b = size_guarded i first (by_own false) in omega arith
+
+size_called : (i : GuardIndices) (own : Bool) (d k : ℕ) (slots : List ℕ) (x : Callee) (to : Option ℕ) (behind : Code)
+    → size (call_guarded i own d k slots x to behind) ≡ length slots + 5 + set_size to + size behind
+unfolding instructions_and_labels
+size_called i own d k slots x to behind =
+    let e5 = no_labels x in
+    let e7 = size_raised 0 (one_more own 0) behind in
+    let e8 = size_set to (raised 0 (one_more own 0) behind) in
+    let e9 = size_slots slots (plain (call_to x) (noted i (one_more own d) k (set_to to (raised 0 (one_more own 0) behind)))) in
+    omega arith
+
+size_front : (i : GuardIndices) (e : Exit) (d k : ℕ) (first : Code) (us : Units) → size (front i e d k first us) ≤ size (followed_by first (flat_units us)) + 11 * unit_count us + 2
+unfolding instructions_and_labels
+size_front i x d k first no_unit = let e = size_then first done in let g = size_last i x first in omega arith
+size_front i v d k first (call_unit slots x to behind rest) =
+    let ih = size_front i v d (suc k) done rest in
     let e0 = size_then done (flat_units rest) in
     let e = size_then first (flat_units (call_unit slots x to behind rest)) in
     let e2 = size_slots slots (plain (call_to x) (set_to to (followed_by behind (flat_units rest)))) in
     let e3 = size_set to (followed_by behind (flat_units rest)) in
     let e4 = size_then behind (flat_units rest) in
     let e5 = no_labels x in
-    let e6 = size_raised 0 2 first in
-    let e7 = size_raised 0 1 behind in
-    let e8 = size_set to (raised 0 1 behind) in
-    let e9 = size_slots slots (plain (call_to x) (noted i d k (set_to to (raised 0 1 behind)))) in
+    let n : ℕ = length slots + 5 + set_size to + size behind in
+    let c = size_call i v (any_unit rest) k first (λ own. call_guarded i own d k slots x to behind) (front i v d (suc k) done rest) n
+    (λ own. let z = size_called i own d k slots x to behind in omega arith) in
     omega arith
-size_front i d k first (nest_unit s inner body behind rest) =
-    let ib = size_front i (suc d) k inner body in
-    let ih = size_front i d (k + numbers_in body) behind rest in
+size_front i v d k first (nest_unit s inner body behind rest) =
+    let ib = size_front i (exit_inside v s (any_unit rest)) (suc d) k inner body in
+    let ih = size_front i v d (k + numbers_in body) behind rest in
     let e = size_then first (flat_units (nest_unit s inner body behind rest)) in
-    let g = size_guarded i first (nest s None (front i (suc d) k inner body) (front i d (k + numbers_in body) behind rest)) in
+    let g = size_guarded i first (nest s None (front i (exit_inside v s (any_unit rest)) (suc d) k inner body) (front i v d (k + numbers_in body) behind rest)) in
     omega arith
-size_front i d k first (if_unit c fa a fb b behind rest) =
-    let na = front i (suc d) k fa a in
-    let nb = front i (suc d) (k + numbers_in a) fb b in
-    let nx = front i d (k + numbers_in a + numbers_in b) behind rest in
+size_front i v d k first (if_unit c fa a fb b behind rest) =
+    let na = front i (exit_inside v a_block (any_unit rest)) (suc d) k fa a in
+    let nb = front i (exit_inside v a_block (any_unit rest)) (suc d) (k + numbers_in a) fb b in
+    let nx = front i v d (k + numbers_in a + numbers_in b) behind rest in
     let fa_ = followed_by fa (flat_units a) in
     let fb_ = followed_by fb (flat_units b) in
     let fr_ = followed_by behind (flat_units rest) in
-    let ia = size_front i (suc d) k fa a in
-    let ib = size_front i (suc d) (k + numbers_in a) fb b in
-    let ih = size_front i d (k + numbers_in a + numbers_in b) behind rest in
+    let ia = size_front i (exit_inside v a_block (any_unit rest)) (suc d) k fa a in
+    let ib = size_front i (exit_inside v a_block (any_unit rest)) (suc d) (k + numbers_in a) fb b in
+    let ih = size_front i v d (k + numbers_in a + numbers_in b) behind rest in
     let ea = size_then fa (flat_units a) in
     let eb = size_then fb (flat_units b) in
     let aa : size (arm a fa na) ≤ size fa_ + 11 * unit_count a + 2 = size_arm a fa na (size fa_ + 11 * unit_count a + 2) (omega arith) ia in
@@ -147,7 +178,7 @@ size_front i d k first (if_unit c fa a fb b behind rest) =
     omega arith
 
 pub size_law : SizeBound
-size_law i d k first us = size_front i d k first us
+size_law i e d k first us = size_front i e d k first us
 
 -- ---- nesting
 
@@ -218,37 +249,65 @@ deep_arm (call_unit _ _ _ _ _) first code n h g = g
 deep_arm (nest_unit _ _ _ _ _) first code n h g = g
 deep_arm (if_unit _ _ _ _ _ _ _) first code n h g = g
 
-deep_front : (i : GuardIndices) (d k : ℕ) (first : Code) (us : Units) → deep (front i d k first us) ≤ deep (followed_by first (flat_units us)) + 2
+deep_last : (i : GuardIndices) (e : Exit) (c : Code) → deep (last_piece i e c) ≤ deep c + 2
 unfolding depth_of
-deep_front i d k first no_unit = let e = deep_then first done in deep_guarded i first done (deep (followed_by first done) + 2) (omega arith) (omega arith)
-deep_front i d k first (call_unit slots x to behind rest) =
-    let ih = deep_front i d (suc k) done rest in
+deep_last i each_end c = deep_guarded i c done (deep c + 2) (omega arith) (omega arith)
+deep_last i its_end c = deep_guarded i c done (deep c + 2) (omega arith) (omega arith)
+deep_last i (by_label l) c = omega arith
+deep_last i nowhere c = omega arith
+
+deep_sought : (i : GuardIndices) (l n k : ℕ) (first next : Code) (m : ℕ) → deep first + 1 ≤ m → deep next ≤ m → 1 ≤ m → deep (sought i l n k first next) ≤ m
+unfolding depth_of
+deep_sought i l n k first next m h g o = let e = deep_raised 0 n first in omega arith
+
+deep_call : (i : GuardIndices) (e : Exit) (more : Bool) (k : ℕ) (first : Code) (by_own : Bool → Code) (next : Code) (n : ℕ) → ((own : Bool) → deep (by_own own) + 1 ≤ n) → deep first + 2 ≤ n
+    → deep next ≤ n → deep (call_front i e more k first by_own next) ≤ n
+unfolding depth_of
+deep_call i each_end more k first by_own next n h f g =
+    let a = h true in let b = deep_sought i 1 2 k first (by_own true) (max (deep first + 1) (deep (by_own true))) (omega arith) (omega arith) (omega arith) in omega arith
+deep_call i its_end more k first by_own next n h f g =
+    let a = h true in let b = deep_sought i 1 2 k first (by_own true) (max (deep first + 1) (deep (by_own true))) (omega arith) (omega arith) (omega arith) in omega arith
+deep_call i (by_label l) true k first by_own next n h f g =
+    let a = h true in let b = deep_sought i 1 2 k first (by_own true) (max (deep first + 1) (deep (by_own true))) (omega arith) (omega arith) (omega arith) in omega arith
+deep_call i (by_label l) false k first by_own next n h f g = let a = h false in deep_sought i (suc l) 1 k first (by_own false) n (omega arith) (omega arith) (omega arith)
+deep_call i nowhere true k first by_own next n h f g =
+    let a = h true in let b = deep_sought i 1 2 k first (by_own true) (max (deep first + 1) (deep (by_own true))) (omega arith) (omega arith) (omega arith) in omega arith
+deep_call i nowhere false k first by_own next n h f g = let a = h false in deep_guarded i first (by_own false) n (omega arith) (omega arith)
+
+deep_called : (i : GuardIndices) (own : Bool) (d k : ℕ) (slots : List ℕ) (x : Callee) (to : Option ℕ) (behind : Code) → deep (call_guarded i own d k slots x to behind) ≡ deep behind
+unfolding depth_of
+deep_called i own d k slots x to behind =
+    deep_slots slots (plain (call_to x) (noted i (one_more own d) k (set_to to (raised 0 (one_more own 0) behind))))
+    ∙ deep_set to (raised 0 (one_more own 0) behind) ∙ deep_raised 0 (one_more own 0) behind
+
+deep_front : (i : GuardIndices) (e : Exit) (d k : ℕ) (first : Code) (us : Units) → deep (front i e d k first us) ≤ deep (followed_by first (flat_units us)) + 2
+unfolding depth_of
+deep_front i v d k first no_unit = let e = deep_then first done in let l = deep_last i v first in omega arith
+deep_front i v d k first (call_unit slots x to behind rest) =
+    let ih = deep_front i v d (suc k) done rest in
     let e0 = deep_then done (flat_units rest) in
     let e = deep_then first (flat_units (call_unit slots x to behind rest)) in
     let e2 = deep_slots slots (plain (call_to x) (set_to to (followed_by behind (flat_units rest)))) in
     let e3 = deep_set to (followed_by behind (flat_units rest)) in
     let e4 = deep_then behind (flat_units rest) in
-    let e6 = deep_raised 0 2 first in
-    let e7 = deep_raised 0 1 behind in
-    let e8 = deep_set to (raised 0 1 behind) in
-    let e9 = deep_slots slots (plain (call_to x) (noted i d k (set_to to (raised 0 1 behind)))) in
-    omega arith
-deep_front i d k first (nest_unit s inner body behind rest) =
-    let ib = deep_front i (suc d) k inner body in
-    let ih = deep_front i d (k + numbers_in body) behind rest in
+    deep_call i v (any_unit rest) k first (λ own. call_guarded i own d k slots x to behind) (front i v d (suc k) done rest)
+    (deep (followed_by first (flat_units (call_unit slots x to behind rest))) + 2) (λ own. let z = deep_called i own d k slots x to behind in omega arith) (omega arith) (omega arith)
+deep_front i v d k first (nest_unit s inner body behind rest) =
+    let ib = deep_front i (exit_inside v s (any_unit rest)) (suc d) k inner body in
+    let ih = deep_front i v d (k + numbers_in body) behind rest in
     let e = deep_then first (flat_units (nest_unit s inner body behind rest)) in
-    deep_guarded i first (nest s None (front i (suc d) k inner body) (front i d (k + numbers_in body) behind rest))
+    deep_guarded i first (nest s None (front i (exit_inside v s (any_unit rest)) (suc d) k inner body) (front i v d (k + numbers_in body) behind rest))
     (deep (followed_by first (flat_units (nest_unit s inner body behind rest))) + 2) (omega arith) (omega arith)
-deep_front i d k first (if_unit c fa a fb b behind rest) =
-    let na = front i (suc d) k fa a in
-    let nb = front i (suc d) (k + numbers_in a) fb b in
-    let nx = front i d (k + numbers_in a + numbers_in b) behind rest in
+deep_front i v d k first (if_unit c fa a fb b behind rest) =
+    let na = front i (exit_inside v a_block (any_unit rest)) (suc d) k fa a in
+    let nb = front i (exit_inside v a_block (any_unit rest)) (suc d) (k + numbers_in a) fb b in
+    let nx = front i v d (k + numbers_in a + numbers_in b) behind rest in
     let fa_ = followed_by fa (flat_units a) in
     let fb_ = followed_by fb (flat_units b) in
     let fr_ = followed_by behind (flat_units rest) in
-    let ia = deep_front i (suc d) k fa a in
-    let ib = deep_front i (suc d) (k + numbers_in a) fb b in
-    let ih = deep_front i d (k + numbers_in a + numbers_in b) behind rest in
+    let ia = deep_front i (exit_inside v a_block (any_unit rest)) (suc d) k fa a in
+    let ib = deep_front i (exit_inside v a_block (any_unit rest)) (suc d) (k + numbers_in a) fb b in
+    let ih = deep_front i v d (k + numbers_in a + numbers_in b) behind rest in
     let ea = deep_then fa (flat_units a) in
     let eb = deep_then fb (flat_units b) in
     let aa : deep (arm a fa na) ≤ deep fa_ + 2 = deep_arm a fa na (deep fa_ + 2) (omega arith) ia in
@@ -262,7 +321,7 @@ deep_front i d k first (if_unit c fa a fb b behind rest) =
     omega arith
 
 pub depth_law : DepthBound
-depth_law i d k first us = deep_front i d k first us
+depth_law i e d k first us = deep_front i e d k first us
 
 -- ---- passing
 
@@ -365,38 +424,64 @@ module _ (i : GuardIndices) where
   reads_choice k (if_unit _ _ _ _ _ _ _) (nest_unit _ _ _ _ _) = refl
   reads_choice k (if_unit _ _ _ _ _ _ _) (if_unit _ _ _ _ _ _ _) = refl
 
-  reads_front : (d k : ℕ) (first : Code) (us : Units) → reads i.state (front i d k first us) ≤ reads i.state (followed_by first (flat_units us)) + 4 * unit_count us + 1
-  reads_front d k first no_unit = let e = reads_then i.state first done in let g = reads_guarded first done in omega arith
-  reads_front d k first (call_unit slots x to behind rest) =
-      let ih = reads_front d (suc k) done rest in
+  reads_last : (e : Exit) (c : Code) → reads i.state (last_piece i e c) ≤ reads i.state c + 1
+  reads_last each_end c = let g = reads_guarded c done in omega arith
+  reads_last its_end c = let g = reads_guarded c done in omega arith
+  reads_last (by_label l) c = omega arith
+  reads_last nowhere c = omega arith
+
+  reads_sought : (l n k : ℕ) (first next : Code) → reads i.state (sought i l n k first next) ≤ reads i.state first + reads i.state next + 1
+  reads_sought l n k first next = let e = reads_raised i.state 0 n first in let o = one_read i.state (basic (global_get i.state)) in omega arith
+
+  reads_one : (e : Exit) (more : Bool) (k : ℕ) (first : Code) (by_own : Bool → Code) (next : Code) (n : ℕ) → ((own : Bool) → reads i.state (by_own own) ≤ n)
+      → reads i.state (call_front i e more k first by_own next) ≤ reads i.state first + n + reads i.state next + 1
+  reads_one each_end more k first by_own next n h = let a = h true in let b = reads_sought 1 2 k first (by_own true) in omega arith
+  reads_one its_end more k first by_own next n h = let a = h true in let b = reads_sought 1 2 k first (by_own true) in omega arith
+  reads_one (by_label l) true k first by_own next n h = let a = h true in let b = reads_sought 1 2 k first (by_own true) in omega arith
+  reads_one (by_label l) false k first by_own next n h = let a = h false in let b = reads_sought (suc l) 1 k first (by_own false) in omega arith
+  reads_one nowhere true k first by_own next n h = let a = h true in let b = reads_sought 1 2 k first (by_own true) in omega arith
+  reads_one nowhere false k first by_own next n h = let a = h false in let b = reads_guarded first (by_own false) in omega arith
+
+  reads_called : (own : Bool) (d k : ℕ) (slots : List ℕ) (x : Callee) (to : Option ℕ) (behind : Code)
+      → reads i.state (call_guarded i own d k slots x to behind) ≤ reads i.state behind + 1
+  reads_called own d k slots x to behind =
+      let e5 = reads_call i.state x in
+      let e7 = reads_raised i.state 0 (one_more own 0) behind in
+      let e8 = reads_set i.state to (raised 0 (one_more own 0) behind) in
+      let e9 = reads_slots i.state slots (plain (call_to x) (noted i (one_more own d) k (set_to to (raised 0 (one_more own 0) behind)))) in
+      let o = one_read i.state (basic (global_get i.state)) in
+      omega arith
+
+  reads_front : (e : Exit) (d k : ℕ) (first : Code) (us : Units)
+      → reads i.state (front i e d k first us) ≤ reads i.state (followed_by first (flat_units us)) + 4 * unit_count us + 1
+  reads_front v d k first no_unit = let e = reads_then i.state first done in let g = reads_last v first in omega arith
+  reads_front v d k first (call_unit slots x to behind rest) =
+      let ih = reads_front v d (suc k) done rest in
       let e0 = reads_then i.state done (flat_units rest) in
       let e = reads_then i.state first (flat_units (call_unit slots x to behind rest)) in
       let e2 = reads_slots i.state slots (plain (call_to x) (set_to to (followed_by behind (flat_units rest)))) in
       let e3 = reads_set i.state to (followed_by behind (flat_units rest)) in
       let e4 = reads_then i.state behind (flat_units rest) in
       let e5 = reads_call i.state x in
-      let e6 = reads_raised i.state 0 2 first in
-      let e7 = reads_raised i.state 0 1 behind in
-      let e8 = reads_set i.state to (raised 0 1 behind) in
-      let e9 = reads_slots i.state slots (plain (call_to x) (noted i d k (set_to to (raised 0 1 behind)))) in
-      let o = one_read i.state (basic (global_get i.state)) in
+      let c = reads_one v (any_unit rest) k first (λ own. call_guarded i own d k slots x to behind) (front i v d (suc k) done rest) (reads i.state behind + 1)
+      (λ own. reads_called own d k slots x to behind) in
       omega arith
-  reads_front d k first (nest_unit s inner body behind rest) =
-      let ib = reads_front (suc d) k inner body in
-      let ih = reads_front d (k + numbers_in body) behind rest in
+  reads_front v d k first (nest_unit s inner body behind rest) =
+      let ib = reads_front (exit_inside v s (any_unit rest)) (suc d) k inner body in
+      let ih = reads_front v d (k + numbers_in body) behind rest in
       let e = reads_then i.state first (flat_units (nest_unit s inner body behind rest)) in
-      let g = reads_guarded first (nest s None (front i (suc d) k inner body) (front i d (k + numbers_in body) behind rest)) in
+      let g = reads_guarded first (nest s None (front i (exit_inside v s (any_unit rest)) (suc d) k inner body) (front i v d (k + numbers_in body) behind rest)) in
       omega arith
-  reads_front d k first (if_unit c fa a fb b behind rest) =
-      let na = front i (suc d) k fa a in
-      let nb = front i (suc d) (k + numbers_in a) fb b in
-      let nx = front i d (k + numbers_in a + numbers_in b) behind rest in
+  reads_front v d k first (if_unit c fa a fb b behind rest) =
+      let na = front i (exit_inside v a_block (any_unit rest)) (suc d) k fa a in
+      let nb = front i (exit_inside v a_block (any_unit rest)) (suc d) (k + numbers_in a) fb b in
+      let nx = front i v d (k + numbers_in a + numbers_in b) behind rest in
       let fa_ = followed_by fa (flat_units a) in
       let fb_ = followed_by fb (flat_units b) in
       let fr_ = followed_by behind (flat_units rest) in
-      let ia = reads_front (suc d) k fa a in
-      let ib = reads_front (suc d) (k + numbers_in a) fb b in
-      let ih = reads_front d (k + numbers_in a + numbers_in b) behind rest in
+      let ia = reads_front (exit_inside v a_block (any_unit rest)) (suc d) k fa a in
+      let ib = reads_front (exit_inside v a_block (any_unit rest)) (suc d) (k + numbers_in a) fb b in
+      let ih = reads_front v d (k + numbers_in a + numbers_in b) behind rest in
       let ea = reads_then i.state fa (flat_units a) in
       let eb = reads_then i.state fb (flat_units b) in
       let aa : reads i.state (arm a fa na) ≤ reads i.state fa_ + 4 * unit_count a + 1 = reads_arm i.state a fa na (reads i.state fa_ + 4 * unit_count a + 1) (omega arith) ia in
@@ -411,4 +496,4 @@ module _ (i : GuardIndices) where
       omega arith
 
 pub reads_law : ReadsBound
-reads_law i d k first us = reads_front i d k first us
+reads_law i e d k first us = reads_front i e d k first us

@@ -6,7 +6,7 @@ use Rattle.wa_types.specs.Counts.{depth_of}
 use Rattle.wa_model.specs.Rewrites.{instructions_and_labels}
 use Rattle.wa_model.specs.Flat.{Stmts, no_more, computes, copies, calls, leaps, leaps_if, leaps_by, nests, decides, halts, FlatFunc, followed_by, code_of}
 use Rattle.guard_form.specs.Pieces.{Units, no_unit, call_unit, nest_unit, if_unit, numbers_in, call_total, numbered, holds_call, flat_units, first_piece, units}
-use Rattle.guard_form.specs.Guarded.{GuardIndices, front, written_body, guarded_code}
+use Rattle.guard_form.specs.Guarded.{GuardIndices, Exit, front, written_body, guarded_code}
 
 -- ---- counts
 
@@ -78,17 +78,17 @@ passing first (if_unit c fa a fb b behind rest) = 8 + (passing fa a + passing fb
 
 -- Guarded code has at most 11 instructions a unit more than flat code, and 2;
 abbrev pub SizeBound : Type 0
-SizeBound = (i : GuardIndices) (d k : ℕ) (first : Code) (us : Units)
-    → instructions_and_labels (front i d k first us) ≤ instructions_and_labels (followed_by first (flat_units us)) + 11 * unit_count us + 2
+SizeBound = (i : GuardIndices) (e : Exit) (d k : ℕ) (first : Code) (us : Units)
+    → instructions_and_labels (front i e d k first us) ≤ instructions_and_labels (followed_by first (flat_units us)) + 11 * unit_count us + 2
 
 -- it nests at most 2 constructs deeper;
 abbrev pub DepthBound : Type 0
-DepthBound = (i : GuardIndices) (d k : ℕ) (first : Code) (us : Units) → depth_of (front i d k first us) ≤ depth_of (followed_by first (flat_units us)) + 2
+DepthBound = (i : GuardIndices) (e : Exit) (d k : ℕ) (first : Code) (us : Units) → depth_of (front i e d k first us) ≤ depth_of (followed_by first (flat_units us)) + 2
 
 -- it reads the state at most 4 times a unit more, and once;
 abbrev pub ReadsBound : Type 0
-ReadsBound = (i : GuardIndices) (d k : ℕ) (first : Code) (us : Units)
-    → reads i.state (front i d k first us) ≤ reads i.state (followed_by first (flat_units us)) + 4 * unit_count us + 1
+ReadsBound = (i : GuardIndices) (e : Exit) (d k : ℕ) (first : Code) (us : Units)
+    → reads i.state (front i e d k first us) ≤ reads i.state (followed_by first (flat_units us)) + 4 * unit_count us + 1
 
 -- and it is passed at a cost of at most 17 a unit, and 3.
 abbrev pub PassingBound : Type 0
@@ -117,6 +117,6 @@ GuardedReadsFew = (state : ℕ) (places : List ℕ) (f : FlatFunc) → reads sta
 -- So does a written body, the codes of which don't read it.
 abbrev pub WrittenReadsFew : Type 0
 WrittenReadsFew =
-    (i : GuardIndices) (restoring saving result : Code) (places : List ℕ) (s : Stmts)
+    (i : GuardIndices) (exits : Bool) (restoring saving result : Code) (places : List ℕ) (s : Stmts)
     → reads i.state (code_of s) ≡ 0 → reads i.state restoring ≡ 0 → reads i.state saving ≡ 0 → reads i.state result ≡ 0
-    → reads i.state (written_body i restoring saving result (first_piece places 0 s) (units places 0 s)) ≤ reads_bound places s
+    → reads i.state (written_body i exits restoring saving result (first_piece places 0 s) (units places 0 s)) ≤ reads_bound places s

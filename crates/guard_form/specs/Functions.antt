@@ -1,18 +1,19 @@
 -- Functions as both modules have them: in flat code, and written.
-use Rattle.std.specs.Prelude.{ℕ, List, [], ◌∷◌, Option, Some, None}
+use Rattle.std.specs.Prelude.{◌≡◌, ℕ, List, [], ◌∷◌, Option, Some, None, Bool, true}
 use Rattle.wa_types.specs.declared.values.ValType.{ValType}
 use Rattle.wa_types.specs.declared.values.ValType.TheVariants.{I32, I64}
 use Rattle.wa_types.specs.Syntax.{a_block, Code, done, plain, nest, branch}
 use Rattle.wa_types.specs.Pausing.{Callee, callee}
 use Rattle.wa_types.specs.Pruned.{pruned}
 use Rattle.wa_model.specs.Flat.{followed_by, result_got}
-use Rattle.guard_form.specs.Pieces.{Units, no_unit, call_unit, nest_unit, if_unit, flat_units}
+use Rattle.guard_form.specs.Pieces.{Units, no_unit, call_unit, nest_unit, if_unit, any_unit, flat_units}
 use Rattle.guard_form.specs.Guarded.{GuardIndices, written_body}
 
--- A function whose body is guarded: how many flat locals it has, what restores and what saves its frame, the local of its
--- result, and its flat statements in pieces and units.
+-- A function whose body is guarded: how many flat locals it has, whether runs leave its sequences by labels, what restores and what
+-- saves its frame, the local of its result, and its flat statements in pieces and units.
 pub record GuardedFunc : Type 0 where
   pub size : ℕ
+  pub exits : Bool
   pub restoring : Code
   pub saving : Code
   pub result : Option ℕ
@@ -46,7 +47,7 @@ flat_code (with_guards f) = nest a_block None (followed_by f.first (flat_units f
 -- the body as it is written
 abbrev pub written_code : (state : ℕ) → Role → Code
 written_code st (as_is n body) = body
-written_code st (with_guards f) = written_body (indices_of st f) f.restoring f.saving (result_got f.result) f.first f.body
+written_code st (with_guards f) = written_body (indices_of st f) f.exits f.restoring f.saving (result_got f.result) f.first f.body
 
 -- ---- what code calls
 
@@ -80,9 +81,9 @@ abbrev pub HasUnit : (a b : Units) → Type 0
 HasUnit no_unit no_unit = ⊥
 HasUnit _ _ = Unit {0}
 
--- each `if` among units has an arm with a unit
+-- each `if` among units has an arm with a unit, and each other construct has one inside
 abbrev pub ArmsHold : Units → Type 0
 ArmsHold no_unit = Unit {0}
 ArmsHold (call_unit slots x to behind rest) = ArmsHold rest
-ArmsHold (nest_unit s first body behind rest) = ArmsHold body × ArmsHold rest
+ArmsHold (nest_unit s first body behind rest) = (any_unit body ≡ true) × ArmsHold body × ArmsHold rest
 ArmsHold (if_unit c fa a fb b behind rest) = HasUnit a b × ArmsHold a × ArmsHold b × ArmsHold rest

@@ -1,12 +1,13 @@
--- The written body of a flat function: a piece runs in state 0 alone, and each numbered call has a block of its own, which a
--- rewinding run leaves where the saved index isn't the call's.
-use Rattle.std.specs.Prelude.{ℕ, suc, ◌+◌, List, length, map, Some, None, nat_lt, if◌then◌else◌}
+-- The written body of a flat function: a piece runs in state 0 alone. A rewinding run leaves a numbered call's block where the saved
+-- index isn't the call's; behind the last call of a sequence another label often serves, or none is needed.
+use Rattle.std.specs.Prelude.{ℕ, suc, ◌+◌, List, length, map, Option, Some, None, Bool, true, false, nat_lt, if◌then◌else◌}
+use Rattle.wa_types.specs.Pausing.{Callee}
 use Rattle.wa_types.specs.declared.values.ValType.TheVariants.{I32}
 use Rattle.wa_types.specs.declared.values.Value.TheVariants as V
 use Rattle.wa_types.specs.declared.operators.NumOp.TheVariants.{I32Ne, I32LtU}
-use Rattle.wa_types.specs.Syntax.{const, num, global_get, Plain, basic, local_get, local_set, br, br_if, br_table, a_block, Code, done, plain, nest, branch}
+use Rattle.wa_types.specs.Syntax.{const, num, global_get, Plain, basic, local_get, local_set, br, br_if, br_table, Shape, a_block, a_loop, Code, done, plain, nest, branch}
 use Rattle.wa_model.specs.Flat.{FlatFunc, followed_by, got, set_to, slots_got}
-use Rattle.guard_form.specs.Pieces.{Units, no_unit, call_unit, nest_unit, if_unit, numbers_in, call_to, first_piece, units}
+use Rattle.guard_form.specs.Pieces.{Units, no_unit, call_unit, nest_unit, if_unit, any_unit, numbers_in, call_to, first_piece, units}
 
 -- ---- labels raised
 
@@ -49,14 +50,13 @@ guarded i (plain p rest) next = by_state i.state done (raised 0 1 (plain p rest)
 guarded i (nest s r body rest) next = by_state i.state done (raised 0 1 (nest s r body rest)) next
 guarded i (branch r a b rest) next = by_state i.state done (raised 0 1 (branch r a b rest)) next
 
--- Before call k: in state 0 the piece in front of it, else out of the call's block where the index isn't k.
-abbrev pub sought : GuardIndices → (k : ℕ) → Code → (next : Code) → Code
-sought i k first next = by_state i.state (index_with i (basic (num I32Ne)) k (plain (br_if 1) done)) (raised 0 2 first) next
+-- Before call k: in state 0 the piece in front of it, raised by so much, else out by a label where the index isn't k.
+abbrev pub sought : GuardIndices → (label by k : ℕ) → Code → (next : Code) → Code
+sought i l n k first next = by_state i.state (index_with i (basic (num I32Ne)) k (plain (br_if l) done)) (raised 0 n first) next
 
--- Behind call k, which so many constructs stand around: the index is noted, and where the state isn't 0 the function's block
--- is left.
-abbrev pub noted : GuardIndices → (depth k : ℕ) → (next : Code) → Code
-noted i d k next = plain (basic (const (V.I32 k))) (plain (local_set i.index) (plain (basic (global_get i.state)) (plain (br_if (suc d)) next)))
+-- Behind call k: the index is noted, and where the state isn't 0 the function's block is left by this label.
+abbrev pub noted : GuardIndices → (label k : ℕ) → (next : Code) → Code
+noted i l k next = plain (basic (const (V.I32 k))) (plain (local_set i.index) (plain (basic (global_get i.state)) (plain (br_if l) next)))
 
 -- In a state that isn't 0, whether the call of the index stands in the then arm, where k is the first number in the arms.
 abbrev pub choice : GuardIndices → (k : ℕ) → (then_arm else_arm : Units) → Code
@@ -69,16 +69,86 @@ abbrev pub arm : Units → (first guarded_code : Code) → Code
 arm no_unit first code = first
 arm _ first code = code
 
--- The guarded code of a sequence inside so many constructs, the first numbered call of which has number k.
-abbrev pub front : GuardIndices → (depth k : ℕ) → (first : Code) → Units → Code
-front i d k first no_unit = guarded i first done
-front i d k first (call_unit slots x to behind rest) =
-    nest a_block None (sought i k first (slots_got slots (plain (call_to x) (noted i d k (set_to to (raised 0 1 behind)))))) (front i d (suc k) done rest)
-front i d k first (nest_unit s inner body behind rest) =
-    guarded i first (nest s None (front i (suc d) k inner body) (front i d (k + numbers_in body) behind rest))
-front i d k first (if_unit c fa a fb b behind rest) =
+-- ---- exits
+
+-- Where a run in a state that isn't 0 goes that has passed a sequence: to its end, and so in each sequence inside; to its end; out by
+-- a label that stands around it. Or no such run passes it: one that begins it finds the call of the index inside.
+pub data Exit : Type 0 where
+  each_end : Exit
+  its_end : Exit
+  by_label : (label : ℕ) → Exit
+  nowhere : Exit
+
+-- out of the sequence inside a construct, to what stands behind: a block and an arm have a label that leads there
+abbrev pub exit_behind : Shape → Exit
+exit_behind a_block = by_label 0
+exit_behind a_loop = its_end
+
+-- The exit of the sequence inside a construct, with more units behind it or none.
+abbrev pub exit_inside : Exit → Shape → (more : Bool) → Exit
+exit_inside each_end s more = each_end
+exit_inside its_end s more = exit_behind s
+exit_inside (by_label l) s true = exit_behind s
+exit_inside (by_label l) s false = by_label (suc l)
+exit_inside nowhere s true = exit_behind s
+exit_inside nowhere s false = nowhere
+
+-- a numbered call has a block of its own, unless none passes it, or a label serves that stands around it anyway
+abbrev pub own_block : Exit → (more : Bool) → Bool
+own_block each_end more = true
+own_block its_end more = true
+own_block (by_label l) more = more
+own_block nowhere more = more
+
+-- the piece behind the last unit: where runs in other states don't come to it, it stands as it is
+abbrev pub last_piece : GuardIndices → Exit → Code → Code
+last_piece i each_end c = guarded i c done
+last_piece i its_end c = guarded i c done
+last_piece i (by_label l) c = c
+last_piece i nowhere c = c
+
+-- ---- the guarded code of a sequence
+
+-- one more, inside a call's own block
+abbrev pub one_more : (own : Bool) → ℕ → ℕ
+one_more true n = suc n
+one_more false n = n
+
+-- Call k inside so many constructs, in a block of its own or not, with its arguments, what notes it, and the piece behind it.
+abbrev pub call_guarded : GuardIndices → (own : Bool) → (depth k : ℕ) → (slots : List ℕ) → Callee → (to : Option ℕ) → (behind : Code) → Code
+call_guarded i own d k slots x to behind = slots_got slots (plain (call_to x) (noted i (one_more own d) k (set_to to (raised 0 (one_more own 0) behind))))
+
+-- The call of a unit, behind the piece in front of it, with what comes next.
+abbrev pub call_front : GuardIndices → Exit → (more : Bool) → (k : ℕ) → (first : Code) → (call : (own : Bool) → Code) → (next : Code) → Code
+call_front i each_end more k first call next = nest a_block None (sought i 1 2 k first (call true)) next
+call_front i its_end more k first call next = nest a_block None (sought i 1 2 k first (call true)) next
+call_front i (by_label l) true k first call next = nest a_block None (sought i 1 2 k first (call true)) next
+call_front i (by_label l) false k first call next = sought i (suc l) 1 k first (call false)
+call_front i nowhere true k first call next = nest a_block None (sought i 1 2 k first (call true)) next
+call_front i nowhere false k first call next = guarded i first (call false)
+
+-- The guarded code of a sequence with this exit inside so many constructs, the first numbered call of which has number k.
+abbrev pub front : GuardIndices → Exit → (depth k : ℕ) → (first : Code) → Units → Code
+front i e d k first no_unit = last_piece i e first
+front i e d k first (call_unit slots x to behind rest) =
+    call_front i e (any_unit rest) k first (λ own. call_guarded i own d k slots x to behind) (front i e d (suc k) done rest)
+front i e d k first (nest_unit s inner body behind rest) =
+    guarded i first (nest s None (front i (exit_inside e s (any_unit rest)) (suc d) k inner body) (front i e d (k + numbers_in body) behind rest))
+front i e d k first (if_unit c fa a fb b behind rest) =
     plain (basic (global_get i.state)) (branch (Some I32) (choice i k a b) (raised 0 1 (followed_by first (got c done)))
-    (branch None (arm a fa (front i (suc d) k fa a)) (arm b fb (front i (suc d) (k + numbers_in a) fb b)) (front i d (k + numbers_in a + numbers_in b) behind rest)))
+    (branch None (arm a fa (front i (exit_inside e a_block (any_unit rest)) (suc d) k fa a))
+    (arm b fb (front i (exit_inside e a_block (any_unit rest)) (suc d) (k + numbers_in a) fb b)) (front i e d (k + numbers_in a + numbers_in b) behind rest)))
+
+-- ---- a function
+
+-- Each call may have a block of its own, or runs may leave by labels that stand around anyway.
+abbrev pub body_exit : (exits : Bool) → Exit
+body_exit true = nowhere
+body_exit false = each_end
+
+-- the guarded code of a function's sequence
+abbrev pub guarded_body : GuardIndices → (exits : Bool) → (first : Code) → Units → Code
+guarded_body i exits first us = front i (body_exit exits) 0 0 first us
 
 -- The body of a written function around its guarded code: the code that restores a frame, where the state isn't 0; the guarded
 -- code in a block, to the end of which each return, fall and unwinding exit goes; the code that saves a frame, where the state
@@ -86,9 +156,9 @@ front i d k first (if_unit c fa a fb b behind rest) =
 abbrev pub function_body : (state : ℕ) → (restoring saving result guarded_code : Code) → Code
 function_body st restoring saving result code = by_state st restoring done (nest a_block None code (by_state st saving done result))
 
-abbrev pub written_body : GuardIndices → (restoring saving result : Code) → (first : Code) → Units → Code
-written_body i restoring saving result first us = function_body i.state restoring saving result (front i 0 0 first us)
+abbrev pub written_body : GuardIndices → (exits : Bool) → (restoring saving result : Code) → (first : Code) → Units → Code
+written_body i exits restoring saving result first us = function_body i.state restoring saving result (guarded_body i exits first us)
 
--- The guarded code of a flat function, of which the calls at these places are numbered.
+-- The guarded code of a flat function, of which the calls at these places are numbered, each in a block of its own.
 abbrev pub guarded_code : (state : ℕ) → (places : List ℕ) → FlatFunc → Code
-guarded_code st places f = front (record { state = st; index = length f.locals }) 0 0 (first_piece places 0 f.body) (units places 0 f.body)
+guarded_code st places f = guarded_body (record { state = st; index = length f.locals }) false (first_piece places 0 f.body) (units places 0 f.body)

@@ -1,5 +1,5 @@
 -- A flat body in pieces and units: a unit holds a numbered call, a piece holds none.
-use Rattle.std.specs.Prelude.{ℕ, suc, ◌+◌, List, Option, Some, None, Bool, false, ◌||◌, nat_eq, if◌then◌else◌}
+use Rattle.std.specs.Prelude.{ℕ, suc, ◌+◌, List, Option, Some, None, Bool, true, false, ◌||◌, nat_eq, if◌then◌else◌}
 use Rattle.std.specs.List.{list_any}
 use Rattle.std.specs.Option.{is_some}
 use Rattle.wa_types.specs.Syntax.{Plain, local_set, br, br_if, br_table, unreachable, call, call_indirect, Shape, Code, done, plain, nest, branch}
@@ -14,6 +14,13 @@ pub data Units : Type 0 where
   call_unit : (slots : List ℕ) → (to_call : Callee) → (to : Option ℕ) → (behind : Code) → (rest : Units) → Units
   nest_unit : Shape → (first : Code) → (body : Units) → (behind : Code) → (rest : Units) → Units
   if_unit : (condition : Operand) → (first_then : Code) → (then_arm : Units) → (first_else : Code) → (else_arm : Units) → (behind : Code) → (rest : Units) → Units
+
+-- there is a unit
+abbrev pub any_unit : Units → Bool
+any_unit no_unit = false
+any_unit (call_unit slots x to behind rest) = true
+any_unit (nest_unit s first body behind rest) = true
+any_unit (if_unit c fa a fb b behind rest) = true
 
 -- how many numbered calls there are
 abbrev pub numbers_in : Units → ℕ

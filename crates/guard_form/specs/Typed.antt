@@ -1,5 +1,5 @@
 -- Guarded code has its type.
-use Rattle.std.specs.Prelude.{◌≡◌, ℕ, List, [], ◌∷◌, Option, Some, None, true, slice_get}
+use Rattle.std.specs.Prelude.{◌≡◌, ℕ, List, [], ◌∷◌, Option, Some, None, Bool, true, slice_get}
 use Rattle.wa_types.specs.declared.values.ValType.{ValType}
 use Rattle.wa_types.specs.declared.values.ValType.TheVariants.{I32}
 use Rattle.wa_types.specs.Syntax.{Code, done, plain}
@@ -7,7 +7,7 @@ use Rattle.wa_types.specs.Typing.{GlobalType, Around, listed, Types, Typed}
 use Rattle.wa_model.specs.Flat.{Stmts, got, set_to, slots_got, result_got}
 use Rattle.wa_model.specs.FlatTyped.{StmtsTyped}
 use Rattle.guard_form.specs.Pieces.{Units, no_unit, call_unit, nest_unit, if_unit, call_to, first_piece, units}
-use Rattle.guard_form.specs.Guarded.{GuardIndices, front, written_body}
+use Rattle.guard_form.specs.Guarded.{GuardIndices, Exit, each_end, its_end, by_label, nowhere, front, written_body}
 
 -- each piece takes no operands to none, and so does each call with its arguments and its result
 abbrev pub UnitsTyped : Around → List (Option ValType) → (first : Code) → Units → Type 0
@@ -27,6 +27,13 @@ UnitsTypedFrom c ls ins first (nest_unit s inner body behind rest) = Types c ls 
 UnitsTypedFrom c ls ins first (if_unit o fa a fb b behind rest) = Types c ls first [] ins × Types c ls (got o done) (I32 ∷ []) [] × UnitsTypedFrom c (None ∷ ls) [] fa a
     × UnitsTypedFrom c (None ∷ ls) [] fb b × UnitsTypedFrom c ls [] behind rest
 
+-- the label of an exit is one without a result
+abbrev pub ExitTyped : List (Option ValType) → Exit → Type 0
+ExitTyped ls each_end = Unit {0}
+ExitTyped ls its_end = Unit {0}
+ExitTyped ls (by_label l) = slice_get ls l ≡ Some None
+ExitTyped ls nowhere = Unit {0}
+
 -- the type of the state's global
 abbrev pub an_i32 : GlobalType
 an_i32 = record { ty = I32; mutable = true }
@@ -41,29 +48,29 @@ PiecesTyped = (c : Around) (ls : List (Option ValType)) (places : List ℕ) (n :
 -- constructs stand around it inside the function's block.
 abbrev pub FrontTyped : Type 0
 FrontTyped =
-    (c : Around) (i : GuardIndices) (d k : ℕ) (ls : List (Option ValType)) (first : Code) (us : Units)
-    → slice_get c.globals i.state ≡ Some an_i32 → slice_get c.locals i.index ≡ Some I32 → slice_get ls d ≡ Some None
-    → UnitsTyped c ls first us → Types c ls (front i d k first us) [] []
+    (c : Around) (i : GuardIndices) (e : Exit) (d k : ℕ) (ls : List (Option ValType)) (first : Code) (us : Units)
+    → slice_get c.globals i.state ≡ Some an_i32 → slice_get c.locals i.index ≡ Some I32 → slice_get ls d ≡ Some None → ExitTyped ls e
+    → UnitsTyped c ls first us → Types c ls (front i e d k first us) [] []
 
 -- And the written body has the function's type, where the codes that restore, save and get the result have theirs.
 abbrev pub BodyTyped : Type 0
 BodyTyped =
-    (c : Around) (i : GuardIndices) (restoring saving : Code) (result : Option ℕ) (first : Code) (us : Units)
+    (c : Around) (i : GuardIndices) (exits : Bool) (restoring saving : Code) (result : Option ℕ) (first : Code) (us : Units)
     → slice_get c.globals i.state ≡ Some an_i32 → slice_get c.locals i.index ≡ Some I32
     → Types c (None ∷ c.result ∷ []) restoring [] [] → Types c (None ∷ c.result ∷ []) saving [] [] → Types c (c.result ∷ []) (result_got result) (listed c.result) []
-    → UnitsTyped c (None ∷ c.result ∷ []) first us → Typed c (written_body i restoring saving (result_got result) first us)
+    → UnitsTyped c (None ∷ c.result ∷ []) first us → Typed c (written_body i exits restoring saving (result_got result) first us)
 
 -- ---- the same, where calls leave operands
 
 abbrev pub FrontTypedFrom : Type 0
 FrontTypedFrom =
-    (c : Around) (i : GuardIndices) (d k : ℕ) (ls : List (Option ValType)) (first : Code) (us : Units)
-    → slice_get c.globals i.state ≡ Some an_i32 → slice_get c.locals i.index ≡ Some I32 → slice_get ls d ≡ Some None
-    → UnitsTypedFrom c ls [] first us → Types c ls (front i d k first us) [] []
+    (c : Around) (i : GuardIndices) (e : Exit) (d k : ℕ) (ls : List (Option ValType)) (first : Code) (us : Units)
+    → slice_get c.globals i.state ≡ Some an_i32 → slice_get c.locals i.index ≡ Some I32 → slice_get ls d ≡ Some None → ExitTyped ls e
+    → UnitsTypedFrom c ls [] first us → Types c ls (front i e d k first us) [] []
 
 abbrev pub BodyTypedFrom : Type 0
 BodyTypedFrom =
-    (c : Around) (i : GuardIndices) (restoring saving : Code) (result : Option ℕ) (first : Code) (us : Units)
+    (c : Around) (i : GuardIndices) (exits : Bool) (restoring saving : Code) (result : Option ℕ) (first : Code) (us : Units)
     → slice_get c.globals i.state ≡ Some an_i32 → slice_get c.locals i.index ≡ Some I32
     → Types c (None ∷ c.result ∷ []) restoring [] [] → Types c (None ∷ c.result ∷ []) saving [] [] → Types c (c.result ∷ []) (result_got result) (listed c.result) []
-    → UnitsTypedFrom c (None ∷ c.result ∷ []) [] first us → Typed c (written_body i restoring saving (result_got result) first us)
+    → UnitsTypedFrom c (None ∷ c.result ∷ []) [] first us → Typed c (written_body i exits restoring saving (result_got result) first us)

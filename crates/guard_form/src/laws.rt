@@ -5,8 +5,9 @@ ghost use Rattle.guard_form.specs.Grouping.{PiecesAreFree, PiecesJoin, UnitsHold
 ghost use Rattle.guard_form.specs.Numbers.{NumbersArePlaces, PlacesCount, PlacesNumber, UnitsAreNumbered};
 ghost use Rattle.guard_form.specs.Typed.{BodyTyped, BodyTypedFrom, FrontTyped, FrontTypedFrom, PiecesTyped};
 
-/// Pieces and units together stand for the flat code. Each `if` among the units has an arm with a unit. Where the places of
-/// the numbered calls are those of the calls that pass a test, no call of a piece passes it, and each call of a unit does.
+/// Pieces and units together stand for the flat code. Each `if` among the units has an arm with a unit, each other construct has
+/// one inside. Where the places of the numbered calls are those of the calls that pass a test, no call of a piece passes it, and
+/// each call of a unit does.
 pub fn pieces_join()
     ensures join { PiecesJoin }
     ensures hold { UnitsHold }

@@ -12,6 +12,10 @@
 //!
 //! With the state 0 everything runs. A call that returns with the state 1 notes its number and leaves for the end of the
 //! function's block. With the state 2 pieces are stepped over, and only the call of the saved index is made again.
+//!
+//! A function's last call needs no block and no test of the index: a run with the state 2 that comes to it seeks it. Behind the last
+//! call of a sequence the label of a block around it often serves; and the piece behind the last unit needs no test of the state
+//! where such runs have left by then (`Exit` in `specs/Guarded.antt`). A function may also be written without any of this.
 //! This crate says nothing of runs: those laws stand above it.
 #![tactic(auto)]
 

@@ -17,7 +17,7 @@ use Rattle.frame_laws.specs.Layout.{save_code}
 use Rattle.frame_laws.specs.Stretches.{GoesKeeping}
 use Rattle.guard_form.specs.Functions.{indices_of}
 use Rattle.guard_form.specs.Guarded.{by_state, front}
-use Rattle.guard_form.specs.Places.{written_labels, call_code, noted_code, call_label}
+use Rattle.guard_form.specs.Places.{call_code, noted_code, call_labels}
 use Rattle.guard_frames.specs.Joined.{written_of, SameCode, BodyKeeps}
 use Rattle.wa_model.specs.Keeping.{keeps}
 use Rattle.wa_model.specs.Keeping.{silent}
@@ -61,7 +61,7 @@ body_keeps g area p st k h f l slots x to behind rest xs u arms place bottom =
     }
   where
     from : Store → ℕ → List Activation → List Value → List Value → Configuration
-    from s fn under ls ops = running s fn under ls ops (noted_code st f (length xs) k to behind) (call_label st f h (length xs) k rest ∷ written_labels st f xs)
+    from s fn under ls ops = running s fn under ls ops (noted_code st f xs k to behind rest) (call_labels st f h xs k rest)
 
     there : Store → ℕ → List Activation → List Value → Configuration
-    there s fn under ls = running s fn under ls [] (call_code st f (length xs) k slots x to behind) (call_label st f 0 (length xs) k rest ∷ written_labels st f xs)
+    there s fn under ls = running s fn under ls [] (call_code st f xs k slots x to behind rest) (call_labels st f 0 xs k rest)

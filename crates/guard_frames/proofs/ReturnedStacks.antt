@@ -11,7 +11,7 @@ use Rattle.frame_laws.specs.Layout.{FrameField, kept, gap}
 use Rattle.frame_laws.specs.Stack.{AllCameBack}
 use Rattle.guard_form.specs.Functions.{with_guards}
 use Rattle.guard_form.specs.Pieces.{flat_units}
-use Rattle.guard_form.specs.Places.{flat_labels, written_labels, noted_code, call_label}
+use Rattle.guard_form.specs.Places.{flat_labels, noted_code, call_labels}
 use Rattle.guard_frames.specs.Joined.{CallFrame}
 use Rattle.guard_frames.specs.Levels.{flat_waiting, levels_of, FlatFieldsFit, MayStand}
 use Rattle.guard_frames.specs.Returned.{FlatAgain, StacksReturn}
@@ -44,12 +44,12 @@ module _ (v : Setting) (lay : Activation → CallFrame) where
       let whole : ls2 ++ extra2 ≡ r.locals = take-append-drop (length ls) r.locals in
       let both2 : Locals (with_guards f) ls2 extra2 = record { size = n1 ∙ both.size; more = n2 ∙ both.more } in
       let count = ih.count in
-      let code : Code = noted_code v.globals f (length xs) k to behind in
+      let code : Code = noted_code v.globals f xs k to behind rest in
       let made : Stopped v callee (waiting fn ls2 [] taken (set_to to (followed_by behind (flat_units rest))) (flat_labels f xs) ∷ ih.new)
-      (waiting fn (ls2 ++ extra2) [] taken code (call_label v.globals f 0 (length xs) k rest ∷ written_labels v.globals f xs) ∷ new') =
+      (waiting fn (ls2 ++ extra2) [] taken code (call_labels v.globals f 0 xs k rest) ∷ new') =
       above {k = k} {slots = slots} {x = x} {to = to} {behind = behind} {rest = rest} {xs = xs} fn here is ls2 extra2 [] taken both2 0 pl gt (omega arith) ih.stopped in
-      let act : waiting fn (ls2 ++ extra2) [] taken code (call_label v.globals f 0 (length xs) k rest ∷ written_labels v.globals f xs) ≡ a =
-      ap (λ ys. waiting fn ys [] taken code (call_label v.globals f 0 (length xs) k rest ∷ written_labels v.globals f xs)) whole ∙ sym r.is in
+      let act : waiting fn (ls2 ++ extra2) [] taken code (call_labels v.globals f 0 xs k rest) ≡ a =
+      ap (λ ys. waiting fn ys [] taken code (call_labels v.globals f 0 xs k rest)) whole ∙ sym r.is in
       record {
         new = waiting fn ls2 [] taken (set_to to (followed_by behind (flat_units rest))) (flat_labels f xs) ∷ ih.new;
         stopped = subst (λ b. Stopped v callee (waiting fn ls2 [] taken (set_to to (followed_by behind (flat_units rest))) (flat_labels f xs) ∷ ih.new) (b ∷ new')) act made;

@@ -7,9 +7,9 @@ use Rattle.frame_laws.specs.Function.{WrittenFunc, function_code, CallSite, Body
 use Rattle.frame_laws.specs.Layout.{Layout, restore_cost, save_cost}
 use Rattle.guard_form.specs.Bounds.{passing}
 use Rattle.guard_form.specs.Functions.{GuardedFunc, with_guards, indices_of, written_code, ArmsHold}
-use Rattle.guard_form.specs.Guarded.{front}
+use Rattle.guard_form.specs.Guarded.{guarded_body}
 use Rattle.guard_form.specs.Pieces.{Units, call_unit, call_to}
-use Rattle.guard_form.specs.Places.{Enclosing, written_labels, BodyPlace, noted_code, call_label}
+use Rattle.guard_form.specs.Places.{Enclosing, BodyPlace, noted_code, call_labels}
 use Rattle.guard_runs.specs.Rewinding.{NoneBelow}
 
 -- The frame of a call: its layout, and what the function's codes that save and restore frames cost at most.
@@ -26,7 +26,7 @@ one_frame l = record { layout = l; save_most = save_cost l; restore_most = resto
 abbrev pub written_of : (state : ℕ) → GuardedFunc → CallFrame → WrittenFunc
 written_of st f l = record {
   layout = l.layout;
-  body = front (indices_of st f) 0 0 f.first f.body;
+  body = guarded_body (indices_of st f) f.exits f.first f.body;
   result = f.result;
   saving = f.saving;
   restoring = f.restoring;
@@ -40,9 +40,9 @@ site_of st f k h slots x to behind rest xs = record {
   number = k;
   slots = slots;
   instr = call_to x;
-  behind = noted_code st f (length xs) k to behind;
-  labels = call_label st f h (length xs) k rest ∷ written_labels st f xs;
-  again = call_label st f 0 (length xs) k rest ∷ written_labels st f xs;
+  behind = noted_code st f xs k to behind rest;
+  labels = call_labels st f h xs k rest;
+  again = call_labels st f 0 xs k rest;
 }
 
 -- At call k a function's codes save and restore this frame, and its index is behind its flat locals.

@@ -15,10 +15,10 @@ use Rattle.wa_model.specs.Configuration.{Label, block_label, Configuration, runn
 use Rattle.wa_model.specs.Step.{Next, steps, traps, jump, did, choose, arity_of, invoke, param_count, same_func_type, through, memory_max, step_plain, step_at, step}
 use Rattle.wa_model.specs.Flat.{followed_by, set_to, slots_got}
 use Rattle.guard_form.specs.Functions.{GuardedFunc, Role, with_guards, indices_of, MayCall, Calls, PiecesCall}
-use Rattle.guard_form.specs.Guarded.{raise, raised_plain, raised, GuardIndices, arm, front}
-use Rattle.guard_form.specs.Pieces.{Units, no_unit, call_unit, nest_unit, if_unit, numbers_in, call_to, flat_units}
-use Rattle.guard_form.specs.Places.{Enclosing, in_a_block, in_a_loop, flat_labels, written_labels, BodyPlace, at_start, in_block, in_loop, in_then, in_else, call_code, call_label}
-use Rattle.guard_runs.specs.Beside.{Sides, DidToo, Together, BehindPiece, arm_end, tail_at, InPiece, outside, block_in, loop_in, GoesOn, SamePoint, in_piece, at_args, at_block, at_loop, at_choice, at_end, at_body, at_return, GoesTo, directly, by_table, BothWait, in_a_piece, at_number, Aligned, aligned, Near, Matched, both_step, both_trap, flat_stuck, ProperPlain, ProperCode, Proper}
+use Rattle.guard_form.specs.Guarded.{raise, raised_plain, raised, GuardIndices, arm, exit_inside, front}
+use Rattle.guard_form.specs.Pieces.{Units, no_unit, call_unit, nest_unit, if_unit, any_unit, numbers_in, call_to, flat_units}
+use Rattle.guard_form.specs.Places.{Enclosing, in_a_block, in_a_loop, flat_labels, exit_at, written_labels, BodyPlace, at_start, in_block, in_loop, in_then, in_else, call_code, call_labels}
+use Rattle.guard_runs.specs.Beside.{Sides, DidToo, Together, BehindPiece, sequence_end, tail_at, InPiece, outside, block_in, loop_in, GoesOn, SamePoint, in_piece, at_args, at_block, at_loop, at_choice, at_end, at_body, at_return, GoesTo, directly, by_table, BothWait, in_a_piece, at_number, Aligned, aligned, Near, Matched, both_step, both_trap, flat_stuck, ProperPlain, ProperCode, Proper}
 use Rattle.guard_form.proofs.CodeLemmas.{calls_pruned, then_done, raised_none, picked, got_left, set_left}
 use Rattle.guard_runs.proofs.Settling.{Ctx, cq, cp, no_lag, wider, Arounds, calls_at, arounds, settle, settle_piece}
 use Rattle.guard_runs.proofs.Moving.{same_params, with_stores, resume}
@@ -200,23 +200,23 @@ module _ (w : Sides) (ok : Together w) where
     pcs = N.pieces w ok x f refl
 
     four : (y : Ctx w (with_guards f)) (ops : List Value) (k : ℕ) (us : Units) (xs : List Enclosing) (first : Code) → BodyPlace w.state f k us xs → Calls w.free first
-        → Near w 9 (cq w y ops (followed_by first (flat_units us)) (flat_labels f xs)) (cp w y ops (front i (length xs) k first us) (written_labels w.state f xs))
+        → Near w 9 (cq w y ops (followed_by first (flat_units us)) (flat_labels f xs)) (cp w y ops (front i (exit_at f xs) (length xs) k first us) (written_labels w.state f xs))
     four y ops k us xs first pl ca = wider w 4 9 _ _ (settle w ok f pcs y ops k us xs first pl ca) (omega arith)
 
     args_step : (ops : List Value) (h k : ℕ) (left slots : List ℕ) (c : Callee) (to : Option ℕ) (behind : Code) (rest : Units) (xs : List Enclosing)
         → BodyPlace w.state f k (call_unit slots c to behind rest) xs
         → ProperCode w x.s x.ls ops (slots_got left (plain (call_to c) (set_to to (followed_by behind (flat_units rest)))))
         → M (step_at q x.s x.fn x.under x.ls ops (flat_labels f xs) (slots_got left (plain (call_to c) (set_to to (followed_by behind (flat_units rest))))))
-        (step_at p x.s' x.fn x.under' (x.ls ++ x.extra) ops (call_label w.state f h (length xs) k rest ∷ written_labels w.state f xs) (call_code w.state f (length xs) k left c to behind))
+        (step_at p x.s' x.fn x.under' (x.ls ++ x.extra) ops (call_labels w.state f h xs k rest) (call_code w.state f xs k left c to behind rest))
     args_step ops h k [] slots c to behind rest xs pl pr = calls_too x _ _ _ _ ops c pr (λ g left taken gt. at_number x.fn x.here x.is x.ls x.extra left taken x.both h pl gt)
     args_step ops h k (y ∷ left) slots c to behind rest xs pl pr = local_got x _ _ _ _ ops y pr (wider w 0 9 _ _ (no_lag w x _ _ _ _ _ (at_args h left pl)) (omega arith))
 
     -- an arm begins
     arm_near : (ops : List Value) (k : ℕ) (us : Units) (xs : List Enclosing) (first : Code) → BodyPlace w.state f k us xs → Calls w.free first
-        → Near w 9 (cq w x ops (followed_by first (flat_units us)) (flat_labels f xs)) (cp w x ops (arm us first (front i (length xs) k first us)) (written_labels w.state f xs))
+        → Near w 9 (cq w x ops (followed_by first (flat_units us)) (flat_labels f xs)) (cp w x ops (arm us first (front i (exit_at f xs) (length xs) k first us)) (written_labels w.state f xs))
     arm_near ops k no_unit xs first pl ca =
         subst (λ c. Near w 9 (cq w x ops (followed_by first done) (flat_labels f xs)) (cp w x ops c (written_labels w.state f xs))) (raised_none 0 first)
-        (wider w 5 9 _ _ (settle_piece w ok x (N.pieces w ok x) (arm_end pl) ops 0 _ _ outside first (calls_pruned w.free first ca)) (omega arith))
+        (wider w 5 9 _ _ (settle_piece w ok x (N.pieces w ok x) (sequence_end pl) ops 0 _ _ outside first (calls_pruned w.free first ca)) (omega arith))
     arm_near ops k (call_unit slots c to behind rest) xs first pl ca = four x ops k (call_unit slots c to behind rest) xs first pl ca
     arm_near ops k (nest_unit s inner body behind rest) xs first pl ca = four x ops k (nest_unit s inner body behind rest) xs first pl ca
     arm_near ops k (if_unit c fa a fb b behind rest) xs first pl ca = four x ops k (if_unit c fa a fb b behind rest) xs first pl ca
@@ -225,8 +225,8 @@ module _ (w : Sides) (ok : Together w) where
         → BodyPlace w.state f k (if_unit c fa a fb b behind rest) xs
         → M (step_at q x.s x.fn x.under x.ls ops (flat_labels f xs) (branch None (followed_by fa (flat_units a)) (followed_by fb (flat_units b)) (followed_by behind (flat_units rest))))
         (step_at p x.s' x.fn x.under' (x.ls ++ x.extra) ops (written_labels w.state f xs)
-        (branch None (arm a fa (front i (suc (length xs)) k fa a)) (arm b fb (front i (suc (length xs)) (k + numbers_in a) fb b))
-        (front i (length xs) (k + numbers_in a + numbers_in b) behind rest)))
+        (branch None (arm a fa (front i (exit_inside (exit_at f xs) a_block (any_unit rest)) (suc (length xs)) k fa a)) (arm b fb (front i (exit_inside (exit_at f xs) a_block (any_unit rest)) (suc (length xs)) (k + numbers_in a) fb b))
+        (front i (exit_at f xs) (length xs) (k + numbers_in a + numbers_in b) behind rest)))
     choice_step ops k c fa a fb b behind rest xs pl = N.number_too w ops _ _ (λ v below e. by_arm v below (calls_at w f pcs k (if_unit c fa a fb b behind rest) xs pl))
       where
         lbq : Code → Label
@@ -236,15 +236,15 @@ module _ (w : Sides) (ok : Together w) where
             (steps 0 (choose v (cq w x below (followed_by fa (flat_units a))
             (block_label (length below) 0 (followed_by behind (flat_units rest)) (followed_by fb (flat_units b)) ∷ flat_labels f xs))
             (cq w x below (followed_by fb (flat_units b)) (block_label (length below) 0 (followed_by behind (flat_units rest)) done ∷ flat_labels f xs))))
-            (steps 0 (choose v (cp w x below (arm a fa (front (indices_of w.state f) (suc (length xs)) k fa a))
-            (block_label (length below) 0 (front (indices_of w.state f) (length xs) (k + numbers_in a + numbers_in b) behind rest)
-            (arm b fb (front (indices_of w.state f) (suc (length xs)) (k + numbers_in a) fb b)) ∷ written_labels w.state f xs))
-            (cp w x below (arm b fb (front (indices_of w.state f) (suc (length xs)) (k + numbers_in a) fb b))
-            (block_label (length below) 0 (front (indices_of w.state f) (length xs) (k + numbers_in a + numbers_in b) behind rest) done ∷ written_labels w.state f xs))))
+            (steps 0 (choose v (cp w x below (arm a fa (front (indices_of w.state f) (exit_inside (exit_at f xs) a_block (any_unit rest)) (suc (length xs)) k fa a))
+            (block_label (length below) 0 (front (indices_of w.state f) (exit_at f xs) (length xs) (k + numbers_in a + numbers_in b) behind rest)
+            (arm b fb (front (indices_of w.state f) (exit_inside (exit_at f xs) a_block (any_unit rest)) (suc (length xs)) (k + numbers_in a) fb b)) ∷ written_labels w.state f xs))
+            (cp w x below (arm b fb (front (indices_of w.state f) (exit_inside (exit_at f xs) a_block (any_unit rest)) (suc (length xs)) (k + numbers_in a) fb b))
+            (block_label (length below) 0 (front (indices_of w.state f) (exit_at f xs) (length xs) (k + numbers_in a + numbers_in b) behind rest) done ∷ written_labels w.state f xs))))
         by_arm zero below ca = both_step (arm_near below (k + numbers_in a) b (in_a_block (length below) (k + numbers_in a + numbers_in b) done done behind rest ∷ xs) fb
             (in_else (length below) pl) ca.2)
         by_arm (suc v) below ca = both_step (arm_near below k a (in_a_block (length below) (k + numbers_in a + numbers_in b) (followed_by fb (flat_units b))
-            (arm b fb (front (indices_of w.state f) (suc (length xs)) (k + numbers_in a) fb b)) behind rest ∷ xs) fa (in_then (length below) pl) ca.0)
+            (arm b fb (front (indices_of w.state f) (exit_inside (exit_at f xs) a_block (any_unit rest)) (suc (length xs)) (k + numbers_in a) fb b)) behind rest ∷ xs) fa (in_then (length below) pl) ca.0)
 
     end_step : (ops : List Value) (k : ℕ) (xs : List Enclosing) → Arounds w f xs
         → M (step_at q x.s x.fn x.under x.ls ops (flat_labels f xs) done) (step_at p x.s' x.fn x.under' (x.ls ++ x.extra) ops (written_labels w.state f xs) done)

@@ -4,7 +4,7 @@ use Rattle.std.specs.Prelude.{Bool, slice_get}
 use Rattle.wa_types.specs.Pruned.{pruned}
 use Rattle.wa_types.specs.Pausing.{Callee}
 use Rattle.guard_form.specs.Functions.{GuardedFunc, Role, as_is, with_guards, flat_code, RoleCalls}
-use Rattle.guard_form.specs.Guarded.{GuardIndices, front, written_body, by_state, noted}
+use Rattle.guard_form.specs.Guarded.{GuardIndices, each_end, front, guarded_body, written_body, by_state, noted}
 use Rattle.guard_form.specs.Pieces.{Units, no_unit, call_unit, first_piece, units}
 use Rattle.guard_runs.specs.Alike.{Setting, Alike, sides_of}
 use Rattle.guard_runs.specs.Beside.{Near}
@@ -50,7 +50,7 @@ call_it d behind k = plain (call 0) (plain (basic (const (V.I32 k))) (plain (loc
 abbrev passed : ℕ → Code
 passed k = plain (local_get 2) (plain (basic (const (V.I32 k))) (plain (basic (num I32Ne)) (plain (br_if 1) done)))
 
--- the form, spelled out
+-- the form, spelled out: the block's last call is left by the block's own label, and no run passes the loop's
 abbrev spelled : Code
 spelled =
     nest a_block None
@@ -59,19 +59,15 @@ spelled =
     (plain (basic (const (V.I32 1))) (plain (basic (num I32Add)) (plain (local_set 0) (plain (local_get 1) (plain (br_if 1) done)))))) 0)))
     (nest a_block None
     (plain (basic (global_get 0)) (branch None (passed 1) done (call_it 2 done 1)))
-    (nest a_block None
-    (plain (basic (global_get 0)) (branch None (passed 2) done (call_it 2 done 2)))
-    done)))
+    (plain (basic (global_get 0)) (branch None (passed 2) done (call_it 1 done 2)))))
     (nest a_loop None
     (plain (basic (global_get 0)) (branch (Some I32) (plain (basic (const (V.I32 0))) done) (plain (local_get 1) done)
     (branch None (plain (basic (const (V.I32 7))) (plain (local_set 0) (plain (br 2) done)))
-    (nest a_block None
-    (plain (basic (global_get 0)) (branch None (passed 3) done (call_it 3 done 3)))
-    done)
+    (call_it 2 done 3)
     done)))
     done)
 
-is_spelled : front i 0 0 (first_piece places 0 stmts) (units places 0 stmts) ≡ spelled
+is_spelled : guarded_body i true (first_piece places 0 stmts) (units places 0 stmts) ≡ spelled
 unfolding code_of followed_by
 is_spelled = refl
 
@@ -97,7 +93,7 @@ abbrev flat : Module
 flat = module_of (nest a_block None (code_of stmts) done)
 
 abbrev written : Module
-written = module_of (written_body i done done done (first_piece places 0 stmts) (units places 0 stmts))
+written = module_of (written_body i true done done done (first_piece places 0 stmts) (units places 0 stmts))
 
 -- what comes after reductions that cost 1 each: how many there are until an import is asked, a return or a trap
 pub data Stop : Type 0 where
@@ -129,7 +125,7 @@ flat_first : until flat 60 0 (start flat (nest a_block None (code_of stmts) done
 unfolding code_of followed_by
 flat_first = refl
 
-written_first : until written 60 0 (start written (written_body i done done done (first_piece places 0 stmts) (units places 0 stmts)) 0) ≡ asked_at 9 locals
+written_first : until written 60 0 (start written (written_body i true done done done (first_piece places 0 stmts) (units places 0 stmts)) 0) ≡ asked_at 9 locals
 unfolding code_of followed_by
 written_first = refl
 
@@ -138,7 +134,7 @@ abbrev with_index : ℕ → List Value
 with_index k = V.I32 9 ∷ V.I32 0 ∷ V.I32 k ∷ V.I32 0 ∷ V.I64 0 ∷ []
 
 abbrev sought : ℕ → Stop
-sought k = until written 90 0 (step written (running (store 2) 1 [] (with_index k) [] (written_body i done done done (first_piece places 0 stmts) (units places 0 stmts)) []))
+sought k = until written 90 0 (step written (running (store 2) 1 [] (with_index k) [] (written_body i true done done done (first_piece places 0 stmts) (units places 0 stmts)) []))
 
 seeks_first : sought 0 ≡ asked_at 13 (with_index 0)
 unfolding code_of followed_by
@@ -148,11 +144,11 @@ seeks_second : sought 1 ≡ asked_at 20 (with_index 1)
 unfolding code_of followed_by
 seeks_second = refl
 
-seeks_third : sought 2 ≡ asked_at 27 (with_index 2)
+seeks_third : sought 2 ≡ asked_at 26 (with_index 2)
 unfolding code_of followed_by
 seeks_third = refl
 
-seeks_fourth : sought 3 ≡ asked_at 41 (with_index 3)
+seeks_fourth : sought 3 ≡ asked_at 31 (with_index 3)
 unfolding code_of followed_by
 seeks_fourth = refl
 
@@ -161,17 +157,17 @@ abbrev behind_second : Code → List Label → Next
 behind_second code labels = step written (running (store 0) 1 [] locals [] code labels)
 
 abbrev second_block : Label
-second_block = block_label 0 0 (front i 1 2 done (call_unit [] (direct 0) None done no_unit)) done
+second_block = block_label 0 0 (front i each_end 1 2 done (call_unit [] (direct 0) None done no_unit)) done
 
 abbrev outer : List Label
-outer = block_label 0 0 (front i 0 3 done no_unit) done ∷ block_label 0 0 (by_state i.state done done done) done ∷ []
+outer = block_label 0 0 (front i each_end 0 3 done no_unit) done ∷ block_label 0 0 (by_state i.state done done done) done ∷ []
 
-worst : until written 60 0 (behind_second (noted i 1 1 done) (second_block ∷ outer)) ≡ asked_at 9 (with_index 1)
+worst : until written 60 0 (behind_second (noted i 2 1 done) (second_block ∷ outer)) ≡ asked_at 9 (with_index 1)
 unfolding code_of followed_by
 worst = refl
 
 -- In state 1 the function is left: 4 to its block's end, 2 and 2 around a frame that is empty here, 1 behind the body.
-unwinds : until written 60 0 (step written (running (store 1) 1 [] locals (V.I32 123 ∷ []) (noted i 1 1 done) (second_block ∷ outer))) ≡ returned_at 7
+unwinds : until written 60 0 (step written (running (store 1) 1 [] locals (V.I32 123 ∷ []) (noted i 2 1 done) (second_block ∷ outer))) ≡ returned_at 7
 unfolding code_of followed_by
 unwinds = refl
 
@@ -184,7 +180,7 @@ abbrev body : Units
 body = units places 0 stmts
 
 abbrev fn : GuardedFunc
-fn = record { size = 2; restoring = done; saving = done; result = None; first = first; body = body }
+fn = record { size = 2; exits = true; restoring = done; saving = done; result = None; first = first; body = body }
 
 abbrev flat_module : Module
 flat_module = record flat { funcs = record { sort = 0; locals = record { count = 2; ty = I32 } ∷ []; body = flat_code (with_guards fn) } ∷ [] }
@@ -204,7 +200,7 @@ abbrev flat_func : Func
 flat_func = record { sort = 0; locals = record { count = 2; ty = I32 } ∷ []; body = flat_code (with_guards fn) }
 
 abbrev written_func : Func
-written_func = record { sort = 0; locals = record { count = 2; ty = I32 } ∷ record { count = 2; ty = I32 } ∷ record { count = 1; ty = I64 } ∷ []; body = written_body i done done done first body }
+written_func = record { sort = 0; locals = record { count = 2; ty = I32 } ∷ record { count = 2; ty = I32 } ∷ record { count = 1; ty = I64 } ∷ []; body = written_body i true done done done first body }
 
 same_function : SameFunction setting 1 flat_func written_func
 unfolding code_of followed_by

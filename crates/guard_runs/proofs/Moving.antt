@@ -7,7 +7,7 @@ use Rattle.wa_types.specs.declared.values.Value.{Value}
 use Rattle.wa_types.specs.declared.values.Value.TheVariants as V
 use Rattle.wa_types.specs.declared.values.Trap.TheVariants.{StackExhausted}
 use Rattle.wa_types.specs.Encoding.{same_type}
-use Rattle.wa_types.specs.Syntax.{global_get, basic, local_get, local_set, br_if, Code, done, plain, branch, FuncType, Module}
+use Rattle.wa_types.specs.Syntax.{global_get, basic, local_get, local_set, br_if, a_block, Code, done, plain, branch, FuncType, Module}
 use Rattle.wa_types.specs.Modules.{func_imports, func_type_at, declared_locals, defined_at}
 use Rattle.wa_types.specs.Pausing.{Callee}
 use Rattle.wa_types.specs.Pruned.{pruned}
@@ -16,10 +16,10 @@ use Rattle.wa_model.specs.Configuration.{Label, block_label, loop_label, Activat
 use Rattle.wa_model.specs.Step.{Next, steps, asks, traps, stuck, keep, result_count, leave, jump, with_top, with_number, choose, zero_of, entered, invoke, param_count, same_types, same_func_type}
 use Rattle.wa_model.specs.Flat.{followed_by, set_to, result_got}
 use Rattle.guard_form.specs.Functions.{GuardedFunc, Role, as_is, with_guards, size_of, extra_types, indices_of, flat_code, written_code, Calls, PiecesCall, RoleCalls}
-use Rattle.guard_form.specs.Guarded.{raise, raised, by_state, noted, arm, front}
-use Rattle.guard_form.specs.Pieces.{Units, call_unit, flat_units, numbers_in}
-use Rattle.guard_form.specs.Places.{Enclosing, in_a_block, in_a_loop, flat_labels, written_labels, BodyPlace, past_call, call_code, call_label}
-use Rattle.guard_runs.specs.Beside.{Sides, Twin, both_import, both_defined, Together, BehindPiece, guard_end, before_call, before_if, arm_end, func_end, tail_at, InPiece, outside, block_in, loop_in, at_body, Locals, BothWait, in_a_piece, at_number, Callers, host, above, Near, Matched, both_step, both_ask, both_return, both_trap, flat_stuck}
+use Rattle.guard_form.specs.Guarded.{raise, raised, by_state, one_more, arm, Exit, each_end, its_end, by_label, nowhere, exit_inside, own_block, front}
+use Rattle.guard_form.specs.Pieces.{Units, no_unit, call_unit, nest_unit, if_unit, any_unit, flat_units, numbers_in}
+use Rattle.guard_form.specs.Places.{Enclosing, in_a_block, in_a_loop, flat_labels, exit_at, written_labels, has_block, label_more, BodyPlace, past_call, call_code, noted_code, call_labels}
+use Rattle.guard_runs.specs.Beside.{Sides, Twin, both_import, both_defined, Together, BehindPiece, guard_end, before_call, before_if, sequence_end, func_end, tail_at, InPiece, outside, block_in, loop_in, at_body, Locals, BothWait, in_a_piece, at_number, Callers, host, above, Near, Matched, both_step, both_ask, both_return, both_trap, flat_stuck}
 use Rattle.guard_runs.proofs.SilentStretches.{Comes, on, walks}
 use Rattle.guard_form.proofs.CodeLemmas.{calls_pruned, then_done, raised_none, raise_out, raise_in, raise_on, set_behind}
 use Rattle.guard_runs.proofs.Settling.{Ctx, cq, cp, no_lag, later, wider, Arounds, calls_at, arounds, reads, to_else, settle, settle_piece}
@@ -142,29 +142,71 @@ module _ (w : Sides) where
 
     -- ---- a function returns
 
+    -- with units behind it a call has its own block
+    own_true : (e : Exit) → own_block e true ≡ true
+    own_true each_end = refl
+    own_true its_end = refl
+    own_true (by_label l) = refl
+    own_true nowhere = refl
+
+    -- what comes behind the piece behind a call: in the call's own block the next unit, else the end of the sequence
+    behind_call : (f : GuardedFunc) (h k : ℕ) (slots : List ℕ) (c : Callee) (to : Option ℕ) (behind : Code) (rest : Units) (xs : List Enclosing)
+        → BodyPlace w.state f k (call_unit slots c to behind rest) xs
+        → BehindPiece w (with_guards f) (one_more (has_block f rest xs) 0) (flat_units rest) (flat_labels f xs) (call_labels w.state f h xs k rest)
+    behind_call f h k slots c to behind no_unit xs pl = by (has_block f no_unit xs)
+      where
+        by : (own : Bool) → BehindPiece w (with_guards f) (one_more own 0) done (flat_labels f xs)
+            (label_more own (block_label h 0 (front (indices_of w.state f) (exit_at f xs) (length xs) (suc k) done no_unit) done) (written_labels w.state f xs))
+        by true = guard_end h (past_call slots c to pl)
+        by false = sequence_end (past_call slots c to pl)
+    behind_call f h k slots c to behind (call_unit s2 c2 t2 b2 r2) xs pl =
+        by (has_block f (call_unit s2 c2 t2 b2 r2) xs) (own_true (exit_at f xs))
+      where
+        by : (own : Bool) → own ≡ true → BehindPiece w (with_guards f) (one_more own 0) (flat_units (call_unit s2 c2 t2 b2 r2)) (flat_labels f xs)
+            (label_more own (block_label h 0 (front (indices_of w.state f) (exit_at f xs) (length xs) (suc k) done (call_unit s2 c2 t2 b2 r2)) done) (written_labels w.state f xs))
+        by true q = guard_end h (past_call slots c to pl)
+        by false q = cc
+    behind_call f h k slots c to behind (nest_unit s2 f2 u2 b2 r2) xs pl = by (has_block f (nest_unit s2 f2 u2 b2 r2) xs) (own_true (exit_at f xs))
+      where
+        by : (own : Bool) → own ≡ true → BehindPiece w (with_guards f) (one_more own 0) (flat_units (nest_unit s2 f2 u2 b2 r2)) (flat_labels f xs)
+            (label_more own (block_label h 0 (front (indices_of w.state f) (exit_at f xs) (length xs) (suc k) done (nest_unit s2 f2 u2 b2 r2)) done) (written_labels w.state f xs))
+        by true q = guard_end h (past_call slots c to pl)
+        by false q = cc
+    behind_call f h k slots c to behind (if_unit o2 fa2 a2 fb2 u2 b2 r2) xs pl = by (has_block f (if_unit o2 fa2 a2 fb2 u2 b2 r2) xs) (own_true (exit_at f xs))
+      where
+        by : (own : Bool) → own ≡ true → BehindPiece w (with_guards f) (one_more own 0) (flat_units (if_unit o2 fa2 a2 fb2 u2 b2 r2)) (flat_labels f xs)
+            (label_more own (block_label h 0 (front (indices_of w.state f) (exit_at f xs) (length xs) (suc k) done (if_unit o2 fa2 a2 fb2 u2 b2 r2)) done) (written_labels w.state f xs))
+        by true q = guard_end h (past_call slots c to pl)
+        by false q = cc
+
     noted_near : (f : GuardedFunc) (x : Ctx w (with_guards f)) (ops : List Value) (k h : ℕ) (slots : List ℕ) (c : Callee) (to : Option ℕ) (behind : Code) (rest : Units)
         (xs : List Enclosing) → BodyPlace w.state f k (call_unit slots c to behind rest) xs
         → Near w 9 (cq w x ops (set_to to (followed_by behind (flat_units rest))) (flat_labels f xs))
-        (cp w x ops (noted (indices_of w.state f) (length xs) k (set_to to (raised 0 1 behind))) (call_label w.state f h (length xs) k rest ∷ written_labels w.state f xs))
+        (cp w x ops (noted_code w.state f xs k to behind rest) (call_labels w.state f h xs k rest))
     unfolding followed_by
     noted_near f x ops k h slots c to behind rest xs pl =
         let x2 = with_index x (V.I32 k) in
-        let lb' = call_label w.state f h (length xs) k rest ∷ written_labels w.state f xs in
-        let next : Code = set_to to (raised 0 1 behind) in
-        let from = cp w x ops (noted (indices_of w.state f) (length xs) k next) lb' in
-        let test : Code = plain (basic (global_get w.state)) (plain (br_if (suc (length xs))) next) in
+        let own = has_block f rest xs in
+        let lb' = call_labels w.state f h xs k rest in
+        let next : Code = set_to to (raised 0 (one_more own 0) behind) in
+        let l : ℕ = one_more own (length xs) in
+        let from = cp w x ops (noted_code w.state f xs k to behind rest) lb' in
+        let test : Code = plain (basic (global_get w.state)) (plain (br_if l) next) in
         let two : Comes p from 2 (cp w x2 ops test lb') = subst (λ ls. Comes p from 2 (running x.s' x.fn x.under' ls ops test lb'))
         (set_behind x.ls x.extra f.size (V.I32 k) x.both.size) (walks p 2 _ _ refl) in
         let four : Comes p from 4 (cp w x2 ops next lb') = on p 2 2 _ _ _ two
-        (on p 1 1 _ _ _ (reads w ok x2 ops (plain (br_if (suc (length xs))) next) lb') (walks p 1 (cp w x2 (V.I32 0 ∷ ops) (plain (br_if (suc (length xs))) next) lb') _ refl)) in
+        (on p 1 1 _ _ _ (reads w ok x2 ops (plain (br_if l) next) lb') (walks p 1 (cp w x2 (V.I32 0 ∷ ops) (plain (br_if l) next) lb') _ refl)) in
         let ca = (calls_at w f (pieces x f refl) k (call_unit slots c to behind rest) xs pl).0 in
         later w 4 5 9 _ _ _ four (by_to x2 ca to) (omega arith)
       where
+        co : BehindPiece w (with_guards f) (one_more (has_block f rest xs) 0) (flat_units rest) (flat_labels f xs) (call_labels w.state f h xs k rest)
+        co = behind_call f h k slots c to behind rest xs pl
+
         by_to : (y : Ctx w (with_guards f)) → Calls w.free behind → (to : Option ℕ)
             → Near w 5 (cq w y ops (set_to to (followed_by behind (flat_units rest))) (flat_labels f xs))
-            (cp w y ops (set_to to (raised 0 1 behind)) (call_label w.state f h (length xs) k rest ∷ written_labels w.state f xs))
-        by_to y ca None = settle_piece w ok y (pieces y) (guard_end h (past_call slots c to pl)) ops 0 _ _ outside behind (calls_pruned w.free behind ca)
-        by_to y ca (Some z) = settle_piece w ok y (pieces y) (guard_end h (past_call slots c to pl)) ops 0 _ _ outside (plain (local_set z) behind)
+            (cp w y ops (set_to to (raised 0 (one_more (has_block f rest xs) 0) behind)) (call_labels w.state f h xs k rest))
+        by_to y ca None = settle_piece w ok y (pieces y) co ops 0 _ _ outside behind (calls_pruned w.free behind ca)
+        by_to y ca (Some z) = settle_piece w ok y (pieces y) co ops 0 _ _ outside (plain (local_set z) behind)
             (calls_pruned w.free (plain (local_set z) behind) (tt, ca))
 
     pub resume : (s s' : Store) → w.like s s' → (g : ℕ) (a a' : Activation) (under under' : List Activation) (vs : List Value) → BothWait w g a a' → length under < 4096
@@ -229,20 +271,39 @@ module _ (w : Sides) where
     jumps_cont x (guard_end {f = f} {k = k} {us = us} {xs = xs} h pl) j ops l =
         let z : suc l ≡ l + 1 = omega arith in
         subst (λ n. M (jump j q x.s x.fn x.under x.ls ops (flat_labels f xs) l)
-        (jump j p x.s' x.fn x.under' (x.ls ++ x.extra) ops (block_label h 0 (front (indices_of w.state f) (length xs) k done us) done ∷ written_labels w.state f xs) n)) z
+        (jump j p x.s' x.fn x.under' (x.ls ++ x.extra) ops (block_label h 0 (front (indices_of w.state f) (exit_at f xs) (length xs) k done us) done ∷ written_labels w.state f xs) n)) z
         (jumps_out f x j ops xs l (arounds w f (pieces x f refl) k us xs pl))
     jumps_cont x (before_call {f = f} {k = k} {slots = slots} {x = c} {to = to} {behind = behind} {rest = rest} {xs = xs} h h2 pl) j ops l =
-        let z : suc (suc l) ≡ l + 2 = omega arith in
-        subst (λ n. M (jump j q x.s x.fn x.under x.ls ops (flat_labels f xs) l)
-        (jump j p x.s' x.fn x.under' (x.ls ++ x.extra) ops (block_label h 0 (call_code w.state f (length xs) k slots c to behind) done ∷ call_label w.state f h2
-        (length xs) k rest ∷ written_labels w.state f xs) n)) z (jumps_out f x j ops xs l (arounds w f (pieces x f refl) k _ xs pl))
+        jumps_call (has_block f rest xs) (block_label h2 0 (front (indices_of w.state f) (exit_at f xs) (length xs) (suc k) done rest) done)
+      where
+        jumps_call : (own : Bool) (label : Label) → M (jump j q x.s x.fn x.under x.ls ops (flat_labels f xs) l)
+            (jump j p x.s' x.fn x.under' (x.ls ++ x.extra) ops
+            (block_label h 0 (call_code w.state f xs k slots c to behind rest) done ∷ label_more own label (written_labels w.state f xs)) (l + suc (one_more own 0)))
+        jumps_call true (block_label h3 ar r sk) =
+            let z : suc (suc l) ≡ l + 2 = omega arith in
+            subst (λ n. M (jump j q x.s x.fn x.under x.ls ops (flat_labels f xs) l)
+            (jump j p x.s' x.fn x.under' (x.ls ++ x.extra) ops
+            (block_label h 0 (call_code w.state f xs k slots c to behind rest) done ∷ block_label h3 ar r sk ∷ written_labels w.state f xs) n)) z
+            (jumps_out f x j ops xs l (arounds w f (pieces x f refl) k _ xs pl))
+        jumps_call true (loop_label h3 y r) =
+            let z : suc (suc l) ≡ l + 2 = omega arith in
+            subst (λ n. M (jump j q x.s x.fn x.under x.ls ops (flat_labels f xs) l)
+            (jump j p x.s' x.fn x.under' (x.ls ++ x.extra) ops
+            (block_label h 0 (call_code w.state f xs k slots c to behind rest) done ∷ loop_label h3 y r ∷ written_labels w.state f xs) n)) z
+            (jumps_out f x j ops xs l (arounds w f (pieces x f refl) k _ xs pl))
+        jumps_call false label =
+            let z : suc l ≡ l + 1 = omega arith in
+            subst (λ n. M (jump j q x.s x.fn x.under x.ls ops (flat_labels f xs) l)
+            (jump j p x.s' x.fn x.under' (x.ls ++ x.extra) ops
+            (block_label h 0 (call_code w.state f xs k slots c to behind rest) done ∷ written_labels w.state f xs) n)) z
+            (jumps_out f x j ops xs l (arounds w f (pieces x f refl) k _ xs pl))
     jumps_cont x (before_if {f = f} {k = k} {c = c} {fa = fa} {a = a} {fb = fb} {b = b} {behind = behind} {rest = rest} {xs = xs} h pl) j ops l =
         let z : suc l ≡ l + 1 = omega arith in
-        let lb : Label = block_label h 1 (branch None (arm a fa (front (indices_of w.state f) (suc (length xs)) k fa a))
-        (arm b fb (front (indices_of w.state f) (suc (length xs)) (k + numbers_in a) fb b)) (front (indices_of w.state f) (length xs) (k + numbers_in a + numbers_in b) behind rest)) done in
+        let lb : Label = block_label h 1 (branch None (arm a fa (front (indices_of w.state f) (exit_inside (exit_at f xs) a_block (any_unit rest)) (suc (length xs)) k fa a))
+        (arm b fb (front (indices_of w.state f) (exit_inside (exit_at f xs) a_block (any_unit rest)) (suc (length xs)) (k + numbers_in a) fb b)) (front (indices_of w.state f) (exit_at f xs) (length xs) (k + numbers_in a + numbers_in b) behind rest)) done in
         subst (λ n. M (jump j q x.s x.fn x.under x.ls ops (flat_labels f xs) l) (jump j p x.s' x.fn x.under' (x.ls ++ x.extra) ops (lb ∷ written_labels w.state f xs) n)) z
         (jumps_out f x j ops xs l (arounds w f (pieces x f refl) k _ xs pl))
-    jumps_cont x (arm_end {f = f} {k = k} {xs = xs} pl) j ops l =
+    jumps_cont x (sequence_end {f = f} {k = k} {xs = xs} pl) j ops l =
         let z : l ≡ l + 0 = omega arith in
         subst (λ n. M (jump j q x.s x.fn x.under x.ls ops (flat_labels f xs) l) (jump j p x.s' x.fn x.under' (x.ls ++ x.extra) ops (written_labels w.state f xs) n)) z
         (jumps_out f x j ops xs l (arounds w f (pieces x f refl) k _ xs pl))

@@ -1,12 +1,11 @@
 -- Guarded code in a state that isn't 0.
-use Rattle.std.proofs.Common.{◌≡◌, ◌≢◌, ℕ, suc, ◌+◌, ◌≤◌, ◌<◌, List, [], ◌∷◌, Option, Some, None, refl, sym, ap, ◌∙◌, subst, ◌⊎◌, inl, inr, ⊎_elim, arith}
+use Rattle.std.proofs.Common.{◌≡◌, ◌≢◌, ℕ, suc, ◌+◌, ◌≤◌, ◌<◌, List, [], ◌∷◌, Some, None, Bool, true, false, refl, sym, ap, ◌∙◌, subst, ◌⊎◌, inl, inr, ⊎_elim, arith}
 use Rattle.std.proofs.lemmas.Bool.{cases_lt}
 use Rattle.wa_types.specs.declared.values.ValType.TheVariants.{I32}
 use Rattle.wa_types.specs.declared.values.Value.{Value}
 use Rattle.wa_types.specs.declared.values.Value.TheVariants as V
 use Rattle.wa_types.specs.declared.operators.NumOp.TheVariants.{I32Ne, I32LtU}
 use Rattle.wa_types.specs.Syntax.{const, num, global_get, basic, br_if, a_block, a_loop, Code, done, plain, nest, branch, Module}
-use Rattle.wa_types.specs.Pausing.{Callee}
 use Rattle.wa_model.specs.Integers.{ine, ilt_u}
 use Rattle.wa_model.specs.declared.flat.Operand.{Operand}
 use Rattle.wa_model.specs.Store.{Store, value_at}
@@ -14,12 +13,12 @@ use Rattle.wa_model.specs.Configuration.{Label, block_label, loop_label, Activat
 use Rattle.wa_model.specs.Flat.{followed_by, got}
 use Rattle.guard_form.specs.Bounds.{over, passing}
 use Rattle.guard_form.specs.Functions.{GuardedFunc, indices_of, HasUnit, ArmsHold}
-use Rattle.guard_form.specs.Guarded.{raised, GuardIndices, by_state, index_with, guarded, sought, choice, arm, front}
-use Rattle.guard_form.specs.Pieces.{Units, no_unit, call_unit, nest_unit, if_unit, numbers_in}
-use Rattle.guard_form.specs.Places.{call_code, call_label}
-use Rattle.guard_runs.specs.Rewinding.{Within, Passes}
-use Rattle.guard_form.proofs.UnitLemmas.{Some_unit, arm_is, choice_is, choice_one, choice_two, some_or_none}
-use Rattle.guard_runs.proofs.SilentStretches.{Comes, none, on, walks}
+use Rattle.guard_form.specs.Guarded.{raised, GuardIndices, by_state, index_with, guarded, sought, choice, arm, Exit, each_end, its_end, by_label, nowhere, exit_inside, own_block, call_guarded, call_front, front}
+use Rattle.guard_form.specs.Pieces.{Units, no_unit, call_unit, nest_unit, if_unit, any_unit, numbers_in}
+use Rattle.guard_form.specs.Places.{label_more}
+use Rattle.guard_runs.specs.Rewinding.{Within, ExitsTo, CanExit, Passes}
+use Rattle.guard_form.proofs.UnitLemmas.{Some_unit, any_is, arm_is, choice_is, choice_one, choice_two, some_or_none}
+use Rattle.guard_runs.proofs.SilentStretches.{Comes, none, one, on, walks}
 
 -- stretches within a bound
 pub gets : {p : Module} {c d : Configuration} {k : ℕ} → (n : ℕ) → Comes p c k d → k ≤ n → Within p c n d
@@ -41,6 +40,12 @@ lt_one t k h = grind arith
 
 pub lt_zero : (t k : ℕ) → k ≤ t → ilt_u t k ≡ 0
 lt_zero t k h = grind arith
+
+over_few : (c : Code) → over c ≤ 3
+over_few done = omega arith
+over_few (plain p r) = omega arith
+over_few (nest y z b r) = omega arith
+over_few (branch y a b r) = omega arith
 
 module _ (p : Module) (st : ℕ) (f : GuardedFunc) (s : Store) (fn : ℕ) (under : List Activation) (ls : List Value) (n : ℕ) (state : value_at s.globals st ≡ V.I32 (suc n)) where
   abbrev i : GuardIndices
@@ -81,33 +86,157 @@ module _ (p : Module) (st : ℕ) (f : GuardedFunc) (s : Store) (fn : ℕ) (under
         on p 1 2 _ _ _ read (walks p 2 (c (V.I32 t ∷ []) (plain (basic (const (V.I32 k))) (plain (basic (num I32LtU)) next)) labels) _ refl)
 
     -- to the test of call k
-    pub to_test : (d k : ℕ) (first : Code) (slots : List ℕ) (x : Callee) (to : Option ℕ) (behind : Code) (rest : Units) (labels : List Label) (b : ℕ) → ine t k ≡ b
-        → Comes p (c [] (front i d k first (call_unit slots x to behind rest)) labels) 6
-        (c (V.I32 b ∷ []) (plain (br_if 1) done) (block_label 0 0 (call_code st f d k slots x to behind) (raised 0 2 first) ∷ call_label st f 0 d k rest ∷ labels))
-    to_test d k first slots x to behind rest labels b e =
-        let code' = call_code st f d k slots x to behind in
-        let lb' = call_label st f 0 d k rest ∷ labels in
-        let test : Code = index_with i (basic (num I32Ne)) k (plain (br_if 1) done) in
-        let from = c [] (front i d k first (call_unit slots x to behind rest)) labels in
-        let one_ : Comes p from 1 (c [] (sought i k first code') lb') = walks p 1 _ _ refl in
-        let three : Comes p from 3 (c [] test (block_label 0 0 code' (raised 0 2 first) ∷ lb')) = on p 1 2 _ _ _ one_ (to_then test (raised 0 2 first) code' lb') in
-        subst (λ v. Comes p from 6 (c (V.I32 v ∷ []) (plain (br_if 1) done) (block_label 0 0 code' (raised 0 2 first) ∷ lb'))) e
-        (on p 3 3 _ _ _ three (asks_ne k (plain (br_if 1) done) (block_label 0 0 code' (raised 0 2 first) ∷ lb')))
+    to_test : (l m k : ℕ) (first code : Code) (labels : List Label) (b : ℕ) → ine t k ≡ b
+        → Comes p (c [] (sought i l m k first code) labels) 5 (c (V.I32 b ∷ []) (plain (br_if l) done) (block_label 0 0 code (raised 0 m first) ∷ labels))
+    to_test l m k first code labels b e =
+        let test : Code = index_with i (basic (num I32Ne)) k (plain (br_if l) done) in
+        let lb' = block_label 0 0 code (raised 0 m first) ∷ labels in
+        subst (λ v. Comes p (c [] (sought i l m k first code) labels) 5 (c (V.I32 v ∷ []) (plain (br_if l) done) lb')) e
+        (on p 2 3 _ _ _ (to_then test (raised 0 m first) code labels) (asks_ne k (plain (br_if l) done) lb'))
 
-    pub passes_call : (d k : ℕ) (first : Code) (slots : List ℕ) (x : Callee) (to : Option ℕ) (behind : Code) (rest : Units) (labels : List Label) → t ≢ k
-        → Comes p (c [] (front i d k first (call_unit slots x to behind rest)) labels) 7 (c [] (front i d (suc k) done rest) labels)
-    passes_call d k first slots x to behind rest labels ne = on p 6 1 _ _ _ (to_test d k first slots x to behind rest labels 1 (ne_one t k ne)) (walks p 1 _ _ refl)
+    -- a call of another number: its block is left
+    leaves_block : (k : ℕ) (first code next : Code) (labels : List Label) → t ≢ k → Comes p (c [] (nest a_block None (sought i 1 2 k first code) next) labels) 7 (c [] next labels)
+    leaves_block k first code next labels ne =
+        let lb' = block_label 0 0 next done ∷ labels in
+        on p 1 6 _ _ _ (walks p 1 _ (c [] (sought i 1 2 k first code) lb') refl)
+        (on p 5 1 _ _ _ (to_test 1 2 k first code lb' 1 (ne_one t k ne))
+        (walks p 1 (c (V.I32 1 ∷ []) (plain (br_if 1) done) (block_label 0 0 code (raised 0 2 first) ∷ lb')) (c [] next labels) refl))
+
+    -- with a unit behind
+    pub passes_own : (e : Exit) (more : Bool) (k : ℕ) (first : Code) (call_of : Bool → Code) (next : Code) (labels : List Label) → t ≢ k → more ≡ true
+        → Comes p (c [] (call_front i e more k first call_of next) labels) 7 (c [] next labels)
+    passes_own each_end true k first call_of next labels ne q = leaves_block k first (call_of true) next labels ne
+    passes_own its_end true k first call_of next labels ne q = leaves_block k first (call_of true) next labels ne
+    passes_own (by_label l) true k first call_of next labels ne q = leaves_block k first (call_of true) next labels ne
+    passes_own nowhere true k first call_of next labels ne q = leaves_block k first (call_of true) next labels ne
+    passes_own e false k first call_of next labels ne q = cc
+
+    -- or with none: then the sequence may be left at once
+    passes_call : (e : Exit) (more : Bool) (k : ℕ) (first : Code) (call_of : Bool → Code) (next : Code) (labels : List Label) (to : Configuration) → t ≢ k
+        → ExitsTo p s fn under ls labels e to
+        → (Comes p (c [] (call_front i e more k first call_of next) labels) 7 (c [] next labels) × CanExit e more) ⊎ Comes p (c [] (call_front i e more k first call_of next) labels) 6 to
+    passes_call each_end more k first call_of next labels to ne ex = inl (leaves_block k first (call_of true) next labels ne, tt)
+    passes_call its_end more k first call_of next labels to ne ex = inl (leaves_block k first (call_of true) next labels ne, tt)
+    passes_call (by_label l) true k first call_of next labels to ne ex = inl (leaves_block k first (call_of true) next labels ne, refl)
+    passes_call (by_label l) false k first call_of next labels to ne ex =
+        let at_jump = c (V.I32 1 ∷ []) (plain (br_if (suc l)) done) (block_label 0 0 (call_of false) (raised 0 1 first) ∷ labels) in
+        inr (on p 5 1 _ at_jump to (to_test (suc l) 1 k first (call_of false) labels 1 (ne_one t k ne)) (one p 0 at_jump to refl ex))
+    passes_call nowhere more k first call_of next labels to ne ex = absurd ex
+
+    -- the call of the index is reached
+    pub finds_call : (e : Exit) (more : Bool) (k : ℕ) (first : Code) (call_of : Bool → Code) (next : Code) (labels : List Label) → t ≡ k
+        → Within p (c [] (call_front i e more k first call_of next) labels) 8 (c [] (call_of (own_block e more)) (label_more (own_block e more) (block_label 0 0 next done) labels))
+    finds_call e more k first call_of next labels eq = by e more
+      where
+        zero_ : ine t k ≡ 0
+        zero_ = ap (λ z. ine z k) eq ∙ ne_zero k
+
+        in_block : Within p (c [] (nest a_block None (sought i 1 2 k first (call_of true)) next) labels) 8 (c [] (call_of true) (block_label 0 0 next done ∷ labels))
+        in_block =
+            let lb' = block_label 0 0 next done ∷ labels in
+            gets 8 (on p 1 7 _ _ _ (walks p 1 _ (c [] (sought i 1 2 k first (call_of true)) lb') refl)
+            (on p 5 2 _ _ _ (to_test 1 2 k first (call_of true) lb' 0 zero_)
+            (walks p 2 (c (V.I32 0 ∷ []) (plain (br_if 1) done) (block_label 0 0 (call_of true) (raised 0 2 first) ∷ lb')) (c [] (call_of true) lb') refl))) (omega arith)
+
+        by : (e : Exit) (more : Bool)
+            → Within p (c [] (call_front i e more k first call_of next) labels) 8 (c [] (call_of (own_block e more)) (label_more (own_block e more) (block_label 0 0 next done) labels))
+        by each_end more = in_block
+        by its_end more = in_block
+        by (by_label l) true = in_block
+        by (by_label l) false =
+            gets 8 (on p 5 2 _ _ _ (to_test (suc l) 1 k first (call_of false) labels 0 zero_)
+            (walks p 2 (c (V.I32 0 ∷ []) (plain (br_if (suc l)) done) (block_label 0 0 (call_of false) (raised 0 1 first) ∷ labels)) (c [] (call_of false) labels) refl)) (omega arith)
+        by nowhere true = in_block
+        by nowhere false = let w = over_piece first (call_of false) labels in let few = over_few first in gets_on 8 w (gets 0 (none p _) (omega arith)) (omega arith)
+
+    -- ---- out of a construct
+
+    -- with a unit behind: to what stands behind it
+    pub behind_block : (e : Exit) (more : Bool) (skipped next code : Code) (labels : List Label) (m : ℕ) → more ≡ true
+        → ((to : Configuration) → ExitsTo p s fn under ls (block_label 0 0 next skipped ∷ labels) (exit_inside e a_block more) to
+        → Within p (c [] code (block_label 0 0 next skipped ∷ labels)) m to)
+        → Within p (c [] code (block_label 0 0 next skipped ∷ labels)) (m + 1) (c [] next labels)
+    behind_block each_end true skipped next code labels m q inner =
+        gets_on (m + 1) (inner (c [] done (block_label 0 0 next skipped ∷ labels)) refl)
+        (gets 1 (walks p 1 (c [] done (block_label 0 0 next skipped ∷ labels)) (c [] next labels) refl) (omega arith)) (omega arith)
+    behind_block its_end true skipped next code labels m q inner = gets_on (m + 1) (inner (c [] next labels) refl) (gets 0 (none p _) (omega arith)) (omega arith)
+    behind_block (by_label l) true skipped next code labels m q inner = gets_on (m + 1) (inner (c [] next labels) refl) (gets 0 (none p _) (omega arith)) (omega arith)
+    behind_block nowhere true skipped next code labels m q inner = gets_on (m + 1) (inner (c [] next labels) refl) (gets 0 (none p _) (omega arith)) (omega arith)
+    behind_block e false skipped next code labels m q inner = cc
+
+    pub behind_loop : (e : Exit) (more : Bool) (head next code : Code) (labels : List Label) (m : ℕ) → more ≡ true
+        → ((to : Configuration) → ExitsTo p s fn under ls (loop_label 0 head next ∷ labels) (exit_inside e a_loop more) to
+        → Within p (c [] code (loop_label 0 head next ∷ labels)) m to)
+        → Within p (c [] code (loop_label 0 head next ∷ labels)) (m + 1) (c [] next labels)
+    behind_loop e false head next code labels m q inner = cc
+    behind_loop e true head next code labels m q inner =
+        gets_on (m + 1) (by e inner)
+        (gets 1 (walks p 1 (c [] done (loop_label 0 head next ∷ labels)) (c [] next labels) refl) (omega arith)) (omega arith)
+      where
+        at_done : Configuration
+        at_done = c [] done (loop_label 0 head next ∷ labels)
+
+        by : (e : Exit) → ((to : Configuration) → ExitsTo p s fn under ls (loop_label 0 head next ∷ labels) (exit_inside e a_loop true) to
+            → Within p (c [] code (loop_label 0 head next ∷ labels)) m to) → Within p (c [] code (loop_label 0 head next ∷ labels)) m at_done
+        by each_end inner = inner at_done refl
+        by its_end inner = inner at_done refl
+        by (by_label l) inner = inner at_done refl
+        by nowhere inner = inner at_done refl
+
+    -- or with none: on to where the sequence's exit leads
+    past_block : (e : Exit) (more : Bool) (skipped next code : Code) (labels : List Label) (to : Configuration) (m j : ℕ) → ExitsTo p s fn under ls labels e to
+        → ((to : Configuration) → ExitsTo p s fn under ls (block_label 0 0 next skipped ∷ labels) (exit_inside e a_block more) to
+        → Within p (c [] code (block_label 0 0 next skipped ∷ labels)) m to)
+        → (CanExit e more → Within p (c [] next labels) j to)
+        → Within p (c [] code (block_label 0 0 next skipped ∷ labels)) (m + 1 + j) to
+    past_block each_end more skipped next code labels to m j ex inner tail =
+        gets_on (m + 1 + j) (gets_on (m + 1) (inner (c [] done (block_label 0 0 next skipped ∷ labels)) refl)
+        (gets 1 (walks p 1 (c [] done (block_label 0 0 next skipped ∷ labels)) (c [] next labels) refl) (omega arith)) (omega arith)) (tail tt) (omega arith)
+    past_block its_end more skipped next code labels to m j ex inner tail = gets_on (m + 1 + j) (inner (c [] next labels) refl) (tail tt) (omega arith)
+    past_block (by_label l) true skipped next code labels to m j ex inner tail = gets_on (m + 1 + j) (inner (c [] next labels) refl) (tail refl) (omega arith)
+    past_block (by_label l) false skipped next code labels to m j ex inner tail = gets_on (m + 1 + j) (inner to ex) (gets 0 (none p _) (omega arith)) (omega arith)
+    past_block nowhere more skipped next code labels to m j ex inner tail = absurd ex
+
+    past_loop : (e : Exit) (more : Bool) (head next code : Code) (labels : List Label) (to : Configuration) (m j : ℕ) → ExitsTo p s fn under ls labels e to
+        → ((to : Configuration) → ExitsTo p s fn under ls (loop_label 0 head next ∷ labels) (exit_inside e a_loop more) to
+        → Within p (c [] code (loop_label 0 head next ∷ labels)) m to)
+        → (CanExit e more → Within p (c [] next labels) j to)
+        → Within p (c [] code (loop_label 0 head next ∷ labels)) (m + 1 + j) to
+    past_loop e more head next code labels to m j ex inner tail = by e more ex inner tail
+      where
+        at_done : Configuration
+        at_done = c [] done (loop_label 0 head next ∷ labels)
+
+        falls : Within p (c [] code (loop_label 0 head next ∷ labels)) m at_done → Within p (c [] next labels) j to → Within p (c [] code (loop_label 0 head next ∷ labels)) (m + 1 + j) to
+        falls w v = gets_on (m + 1 + j) (gets_on (m + 1) w (gets 1 (walks p 1 at_done (c [] next labels) refl) (omega arith)) (omega arith)) v (omega arith)
+
+        by : (e : Exit) (more : Bool) → ExitsTo p s fn under ls labels e to
+            → ((to : Configuration) → ExitsTo p s fn under ls (loop_label 0 head next ∷ labels) (exit_inside e a_loop more) to
+            → Within p (c [] code (loop_label 0 head next ∷ labels)) m to)
+            → (CanExit e more → Within p (c [] next labels) j to) → Within p (c [] code (loop_label 0 head next ∷ labels)) (m + 1 + j) to
+        by each_end more ex inner tail = falls (inner at_done refl) (tail tt)
+        by its_end more ex inner tail = falls (inner at_done refl) (tail tt)
+        by (by_label l) true ex inner tail = falls (inner at_done refl) (tail refl)
+        by (by_label l) false ex inner tail = gets_on (m + 1 + j) (inner to ex) (gets 0 (none p _) (omega arith)) (omega arith)
+        by nowhere more ex inner tail = absurd ex
+
+    -- what has a unit can be left by a label
+    pub can_exit : (e : Exit) (us : Units) → any_unit us ≡ true → CanExit e (any_unit us)
+    can_exit each_end us q = tt
+    can_exit its_end us q = tt
+    can_exit (by_label l) us q = q
+    can_exit nowhere us q = tt
 
     -- an `if`: its arms, what follows, and what decides
-    module _ (d k : ℕ) (first : Code) (x : Operand) (fa : Code) (a : Units) (fb : Code) (b : Units) (behind : Code) (rest : Units) (labels : List Label) where
+    module _ (e : Exit) (d k : ℕ) (first : Code) (x : Operand) (fa : Code) (a : Units) (fb : Code) (b : Units) (behind : Code) (rest : Units) (labels : List Label) where
       abbrev pub na : Code
-      na = front i (suc d) k fa a
+      na = front i (exit_inside e a_block (any_unit rest)) (suc d) k fa a
 
       abbrev pub nb : Code
-      nb = front i (suc d) (k + numbers_in a) fb b
+      nb = front i (exit_inside e a_block (any_unit rest)) (suc d) (k + numbers_in a) fb b
 
       abbrev pub next : Code
-      next = front i d (k + numbers_in a + numbers_in b) behind rest
+      next = front i e d (k + numbers_in a + numbers_in b) behind rest
 
       abbrev pub whole : Code
       whole = plain (basic (global_get st)) (branch (Some I32) (choice i k a b) (raised 0 1 (followed_by first (got x done))) (branch None (arm a fa na) (arm b fb nb) next))
@@ -174,53 +303,58 @@ module _ (p : Module) (st : ℕ) (f : GuardedFunc) (s : Store) (fn : ℕ) (under
           b_has e = ⊎_elim (λ eb. absurd (subst (λ y. HasUnit no_unit y) eb (subst (λ y. HasUnit y b) e h))) (λ g. g) (some_or_none b)
 
     -- a sequence is passed
-    pub passes : (us : Units) (d k : ℕ) (first : Code) (labels : List Label) → ArmsHold us → (t < k) ⊎ (k + numbers_in us ≤ t)
-        → Within p (c [] (front i d k first us) labels) (passing first us) (c [] done labels)
-    passes no_unit d k first labels ok out = over_piece first done labels
-    passes (call_unit slots x to behind rest) d k first labels ok out =
+    pub passes : (us : Units) (e : Exit) (d k : ℕ) (first : Code) (labels : List Label) (to : Configuration) → ArmsHold us → (t < k) ⊎ (k + numbers_in us ≤ t)
+        → ExitsTo p s fn under ls labels e to → CanExit e (any_unit us) → Within p (c [] (front i e d k first us) labels) (passing first us) to
+    passes no_unit each_end d k first labels to ok out ex can = subst (λ z. Within p (c [] (guarded i first done) labels) (over first) z) (sym ex) (over_piece first done labels)
+    passes no_unit its_end d k first labels to ok out ex can = subst (λ z. Within p (c [] (guarded i first done) labels) (over first) z) (sym ex) (over_piece first done labels)
+    passes no_unit (by_label l) d k first labels to ok out ex can = cc
+    passes no_unit nowhere d k first labels to ok out ex can = absurd ex
+    passes (call_unit slots x to_local behind rest) e d k first labels to ok out ex can =
         let ne : t ≢ k = ⊎_elim (λ lt. omega arith) (λ le. omega arith) out in
-        let tail : Within p (c [] (front i d (suc k) done rest) labels) (passing done rest) (c [] done labels) = passes rest d (suc k) done labels ok
-        (⊎_elim (λ lt. inl (omega arith)) (λ le. inr (omega arith)) out) in
-        gets_on (8 + passing done rest) (gets 7 (passes_call d k first slots x to behind rest labels ne) (omega arith)) tail (omega arith)
-    passes (nest_unit a_block inner body behind rest) d k first labels ok out =
-        let lb = block_label 0 0 (front i d (k + numbers_in body) behind rest) done ∷ labels in
-        let into : Comes p (c [] (nest a_block None (front i (suc d) k inner body) (front i d (k + numbers_in body) behind rest)) labels) 1
-        (c [] (front i (suc d) k inner body) lb) = walks p 1 _ _ refl in
-        let inside = passes body (suc d) k inner lb ok.0 (⊎_elim (λ lt. inl lt) (λ le. inr (omega arith)) out) in
-        let leaves : Comes p (c [] done lb) 1 (c [] (front i d (k + numbers_in body) behind rest) labels) = walks p 1 _ _ refl in
-        let tail = passes rest d (k + numbers_in body) behind labels ok.1 (⊎_elim (λ lt. inl (omega arith)) (λ le. inr (omega arith)) out) in
-        gets_on (over first + (2 + (passing inner body + passing behind rest)))
-        (over_piece first (nest a_block None (front i (suc d) k inner body) (front i d (k + numbers_in body) behind rest)) labels)
-        (gets_on (2 + (passing inner body + passing behind rest)) (gets 1 into (omega arith))
-        (gets_on (1 + (passing inner body + passing behind rest)) inside (gets_on (1 + passing behind rest) (gets 1 leaves (omega arith)) tail (omega arith)) (omega arith))
-        (omega arith)) (omega arith)
-    passes (nest_unit a_loop inner body behind rest) d k first labels ok out =
-        let lb = loop_label 0 (front i (suc d) k inner body) (front i d (k + numbers_in body) behind rest) ∷ labels in
-        let into : Comes p (c [] (nest a_loop None (front i (suc d) k inner body) (front i d (k + numbers_in body) behind rest)) labels) 1
-        (c [] (front i (suc d) k inner body) lb) = walks p 1 _ _ refl in
-        let inside = passes body (suc d) k inner lb ok.0 (⊎_elim (λ lt. inl lt) (λ le. inr (omega arith)) out) in
-        let leaves : Comes p (c [] done lb) 1 (c [] (front i d (k + numbers_in body) behind rest) labels) = walks p 1 _ _ refl in
-        let tail = passes rest d (k + numbers_in body) behind labels ok.1 (⊎_elim (λ lt. inl (omega arith)) (λ le. inr (omega arith)) out) in
-        gets_on (over first + (2 + (passing inner body + passing behind rest)))
-        (over_piece first (nest a_loop None (front i (suc d) k inner body) (front i d (k + numbers_in body) behind rest)) labels)
-        (gets_on (2 + (passing inner body + passing behind rest)) (gets 1 into (omega arith))
-        (gets_on (1 + (passing inner body + passing behind rest)) inside (gets_on (1 + passing behind rest) (gets 1 leaves (omega arith)) tail (omega arith)) (omega arith))
-        (omega arith)) (omega arith)
-    passes (if_unit x fa a fb b behind rest) d k first labels ok out =
-        let tail = passes rest d (k + numbers_in a + numbers_in b) behind labels ok.3 (⊎_elim (λ lt. inl (omega arith)) (λ le. inr (omega arith)) out) in
-        let in_a = passes a (suc d) k fa (block_label 0 0 (next d k first x fa a fb b behind rest labels) (arm b fb (nb d k first x fa a fb b behind rest labels)) ∷ labels) ok.1
-        (⊎_elim (λ lt. inl lt) (λ le. inr (omega arith)) out) in
-        let in_b = passes b (suc d) (k + numbers_in a) fb (block_label 0 0 (next d k first x fa a fb b behind rest labels) done ∷ labels) ok.2
-        (⊎_elim (λ lt. inl (omega arith)) (λ le. inr (omega arith)) out) in
+        let nx : Code = front i e d (suc k) done rest in
         ⊎_elim
-        (λ h. gets_on (8 + (passing fa a + passing fb b + passing behind rest)) h.1 (gets_on (1 + (passing fa a + passing fb b + passing behind rest)) in_a
-        (gets_on (1 + passing behind rest) (gets 1 (walks p 1 (c [] done (block_label 0 0 (next d k first x fa a fb b behind rest labels)
-        (arm b fb (nb d k first x fa a fb b behind rest labels)) ∷ labels)) (c [] (next d k first x fa a fb b behind rest labels) labels) refl) (omega arith)) tail (omega arith))
-        (omega arith)) (omega arith))
-        (λ h. gets_on (8 + (passing fa a + passing fb b + passing behind rest)) h.1 (gets_on (1 + (passing fa a + passing fb b + passing behind rest)) in_b
-        (gets_on (1 + passing behind rest) (gets 1 (walks p 1 (c [] done (block_label 0 0 (next d k first x fa a fb b behind rest labels) done ∷ labels))
-        (c [] (next d k first x fa a fb b behind rest labels) labels) refl) (omega arith)) tail (omega arith)) (omega arith)) (omega arith))
-        (picks d k first x fa a fb b behind rest labels ok.0)
+        (λ h. gets_on (8 + passing done rest) (gets 7 h.0 (omega arith))
+        (passes rest e d (suc k) done labels to ok (⊎_elim (λ lt. inl (omega arith)) (λ le. inr (omega arith)) out) ex h.1) (omega arith))
+        (λ h. gets (8 + passing done rest) h (omega arith))
+        (passes_call e (any_unit rest) k first (λ own. call_guarded i own d k slots x to_local behind) nx labels to ne ex)
+    passes (nest_unit a_block inner body behind rest) e d k first labels to ok out ex can =
+        let w = exit_inside e a_block (any_unit rest) in
+        let nx : Code = front i e d (k + numbers_in body) behind rest in
+        let code = front i w (suc d) k inner body in
+        let lb = block_label 0 0 nx done ∷ labels in
+        let into : Comes p (c [] (nest a_block None code nx) labels) 1 (c [] code lb) = walks p 1 _ _ refl in
+        gets_on (over first + (2 + (passing inner body + passing behind rest))) (over_piece first (nest a_block None code nx) labels)
+        (gets_on (2 + (passing inner body + passing behind rest)) (gets 1 into (omega arith))
+        (past_block e (any_unit rest) done nx code labels to (passing inner body) (passing behind rest) ex
+        (λ z h. passes body w (suc d) k inner lb z ok.1 (⊎_elim (λ lt. inl lt) (λ le. inr (omega arith)) out) h (can_exit w body ok.0))
+        (λ can. passes rest e d (k + numbers_in body) behind labels to ok.2 (⊎_elim (λ lt. inl (omega arith)) (λ le. inr (omega arith)) out) ex can)) (omega arith)) (omega arith)
+    passes (nest_unit a_loop inner body behind rest) e d k first labels to ok out ex can =
+        let w = exit_inside e a_loop (any_unit rest) in
+        let nx : Code = front i e d (k + numbers_in body) behind rest in
+        let code = front i w (suc d) k inner body in
+        let lb = loop_label 0 code nx ∷ labels in
+        let into : Comes p (c [] (nest a_loop None code nx) labels) 1 (c [] code lb) = walks p 1 _ _ refl in
+        gets_on (over first + (2 + (passing inner body + passing behind rest))) (over_piece first (nest a_loop None code nx) labels)
+        (gets_on (2 + (passing inner body + passing behind rest)) (gets 1 into (omega arith))
+        (past_loop e (any_unit rest) code nx code labels to (passing inner body) (passing behind rest) ex
+        (λ z h. passes body w (suc d) k inner lb z ok.1 (⊎_elim (λ lt. inl lt) (λ le. inr (omega arith)) out) h (can_exit w body ok.0))
+        (λ can. passes rest e d (k + numbers_in body) behind labels to ok.2 (⊎_elim (λ lt. inl (omega arith)) (λ le. inr (omega arith)) out) ex can)) (omega arith)) (omega arith)
+    passes (if_unit x fa a fb b behind rest) e d k first labels to ok out ex can =
+        let w = exit_inside e a_block (any_unit rest) in
+        let nx = next e d k first x fa a fb b behind rest labels in
+        let bb = nb e d k first x fa a fb b behind rest labels in
+        let tail : CanExit e (any_unit rest) → Within p (c [] nx labels) (passing behind rest) to =
+        λ can. passes rest e d (k + numbers_in a + numbers_in b) behind labels to ok.3 (⊎_elim (λ lt. inl (omega arith)) (λ le. inr (omega arith)) out) ex can in
+        ⊎_elim
+        (λ h. gets_on (8 + (passing fa a + passing fb b + passing behind rest)) h.1
+        (past_block e (any_unit rest) (arm b fb bb) nx (na e d k first x fa a fb b behind rest labels) labels to (passing fa a) (passing behind rest) ex
+        (λ z g. passes a w (suc d) k fa (block_label 0 0 nx (arm b fb bb) ∷ labels) z ok.1 (⊎_elim (λ lt. inl lt) (λ le. inr (omega arith)) out) g (can_exit w a (any_is a h.0))) tail)
+        (omega arith))
+        (λ h. gets_on (8 + (passing fa a + passing fb b + passing behind rest)) h.1
+        (past_block e (any_unit rest) done nx bb labels to (passing fb b) (passing behind rest) ex
+        (λ z g. passes b w (suc d) (k + numbers_in a) fb (block_label 0 0 nx done ∷ labels) z ok.2 (⊎_elim (λ lt. inl (omega arith)) (λ le. inr (omega arith)) out) g
+        (can_exit w b (any_is b h.0))) tail) (omega arith))
+        (picks e d k first x fa a fb b behind rest labels ok.0)
 
 pub passes_law : Passes
-passes_law p st n t f s fn under ls d k first us labels state index ok out = passes p st f s fn under ls n state t index us d k first labels ok out
+passes_law p st n t f s fn under ls e d k first us labels to state index ok out ex can = passes p st f s fn under ls n state t index us e d k first labels to ok out ex can

@@ -1,5 +1,5 @@
 -- In state 0 the written side comes, within a few reductions, to the instruction that stands next on the flat side.
-use Rattle.std.proofs.Common.{◌≡◌, ℕ, zero, suc, ◌+◌, ◌≤◌, ◌<◌, List, [], ◌∷◌, ◌++◌, length, Option, Some, None, refl, ap, ◌∙◌, subst, arith}
+use Rattle.std.proofs.Common.{◌≡◌, ℕ, zero, suc, ◌+◌, ◌≤◌, ◌<◌, List, [], ◌∷◌, ◌++◌, length, Option, Some, None, Bool, true, false, refl, sym, ap, ◌∙◌, subst, arith}
 use Rattle.wa_types.specs.declared.values.ValType.{ValType}
 use Rattle.wa_types.specs.declared.values.ValType.TheVariants.{I32}
 use Rattle.wa_types.specs.declared.values.Value.{Value}
@@ -13,11 +13,12 @@ use Rattle.wa_model.specs.declared.flat.Operand.{Operand}
 use Rattle.wa_model.specs.declared.flat.Operand.TheVariants.{Local, Const}
 use Rattle.wa_model.specs.Flat.{followed_by, got}
 use Rattle.guard_form.specs.Functions.{GuardedFunc, Role, with_guards, indices_of, Calls, PiecesCall}
-use Rattle.guard_form.specs.Guarded.{raised, GuardIndices, by_state, sought, choice, arm, front}
-use Rattle.guard_form.specs.Pieces.{Units, no_unit, call_unit, nest_unit, if_unit, numbers_in, flat_units}
-use Rattle.guard_form.specs.Places.{Enclosing, in_a_block, in_a_loop, flat_labels, written_labels, BodyPlace, at_start, past_call, past_block, past_loop, past_if, in_block, in_loop, in_then, in_else, call_code, call_label}
-use Rattle.guard_runs.specs.Beside.{Sides, Together, BehindPiece, guard_end, before_call, before_if, arm_end, func_end, tail_at, InPiece, outside, GoesOn, SamePoint, in_piece, at_args, at_block, at_loop, at_choice, at_end, at_return, Locals, Callers, Aligned, aligned, Near}
-use Rattle.guard_form.proofs.CodeLemmas.{calls_pruned}
+use Rattle.guard_form.specs.Guarded.{raised, GuardIndices, by_state, guarded, sought, one_more, choice, arm, Exit, each_end, its_end, by_label, nowhere, exit_inside, own_block, last_piece, call_guarded, call_front, front}
+use Rattle.guard_form.specs.Pieces.{Units, no_unit, call_unit, nest_unit, if_unit, any_unit, numbers_in, flat_units}
+use Rattle.guard_form.specs.Places.{Enclosing, in_a_block, in_a_loop, flat_labels, exit_at, written_labels, label_more, BodyPlace, at_start, past_call, past_block, past_loop, past_if, in_block, in_loop, in_then, in_else}
+use Rattle.guard_runs.specs.Beside.{Sides, Together, BehindPiece, guard_end, before_call, before_if, sequence_end, func_end, tail_at, InPiece, outside, GoesOn, SamePoint, in_piece, at_args, at_block, at_loop, at_choice, at_end, at_return, Locals, Callers, Aligned, aligned, Near}
+use Rattle.guard_form.proofs.CodeLemmas.{calls_pruned, raised_none}
+use Rattle.guard_form.proofs.UnitLemmas.{last_none}
 use Rattle.guard_form.proofs.Grouped.{then_then, then_got, calls_then, calls_got}
 use Rattle.guard_runs.proofs.SilentStretches.{Comes, none, on, walks}
 
@@ -64,6 +65,12 @@ none_then tail = refl
 
 joined_got : (first : Code) (c : Operand) (tail : Code) → followed_by (followed_by first (got c done)) tail ≡ followed_by first (got c tail)
 joined_got first c tail = then_then first (got c done) tail ∙ ap (followed_by first) (then_got c done tail ∙ ap (got c) (none_then tail))
+
+guarded_is : (i : GuardIndices) (first next : Code) → GoesOn 0 first → guarded i first next ≡ by_state i.state done (raised 0 1 first) next
+guarded_is i done next go = absurd go
+guarded_is i (plain p n) next go = refl
+guarded_is i (nest s r y n) next go = refl
+guarded_is i (branch r y z n) next go = refl
 
 module _ (w : Sides) where
   abbrev pub cq : {r : Role} → Ctx w r → List Value → Code → List Label → Configuration
@@ -144,6 +151,69 @@ module _ (w : Sides) where
         → Comes w.written (cp x ops (by_state w.state a b next) labels) 2 (cp x ops b (block_label (length ops) 0 next done ∷ labels))
     to_else x ops f a b next labels = on w.written 1 1 _ _ _ (reads x ops (branch None a b next) labels) (walks w.written 1 (cp x (V.I32 0 ∷ ops) (branch None a b next) labels) _ refl)
 
+    -- to the arguments of a call with nothing in front, or to the piece in front of it
+    record Lag (c d : Configuration) : Type 0 where
+      cost : ℕ
+      short : cost ≤ 4
+      comes : Comes w.written c cost d
+
+    to_call : {r : Role} (x : Ctx w r) (ops : List Value) (f : GuardedFunc) (e : Exit) (more : Bool) (k : ℕ) (call_of : Bool → Code) (next : Code) (labels : List Label)
+        → Lag (cp x ops (call_front (indices_of w.state f) e more k done call_of next) labels)
+        (cp x ops (call_of (own_block e more)) (label_more (own_block e more) (block_label (length ops) 0 next done) labels))
+    to_call x ops f e more k call_of next labels = by e more
+      where
+        after_test : (l n : ℕ) (code : Code) (lbs : List Label) → Comes w.written (cp x ops (sought (indices_of w.state f) l n k done code) lbs) 3 (cp x ops code lbs)
+        after_test l n code lbs = on w.written 2 1 _ _ _ (to_else x ops f _ done code lbs) (walks w.written 1 _ _ refl)
+
+        in_block : Lag (cp x ops (nest a_block None (sought (indices_of w.state f) 1 2 k done (call_of true)) next) labels)
+            (cp x ops (call_of true) (block_label (length ops) 0 next done ∷ labels))
+        in_block = record {
+          cost = 4;
+          short = omega arith;
+          comes = on w.written 1 3 _ _ _ (walks w.written 1 _ (cp x ops (sought (indices_of w.state f) 1 2 k done (call_of true)) (block_label (length ops) 0 next done ∷ labels)) refl)
+              (after_test 1 2 (call_of true) (block_label (length ops) 0 next done ∷ labels));
+        }
+
+        by : (e : Exit) (more : Bool) → Lag (cp x ops (call_front (indices_of w.state f) e more k done call_of next) labels)
+            (cp x ops (call_of (own_block e more)) (label_more (own_block e more) (block_label (length ops) 0 next done) labels))
+        by each_end more = in_block
+        by its_end more = in_block
+        by (by_label l) true = in_block
+        by (by_label l) false = record { cost = 3; short = omega arith; comes = after_test (suc l) 1 (call_of false) labels }
+        by nowhere true = in_block
+        by nowhere false = record { cost = 0; short = omega arith; comes = none w.written _ }
+
+    to_piece : {r : Role} (x : Ctx w r) (ops : List Value) (f : GuardedFunc) (e : Exit) (more : Bool) (k : ℕ) (first : Code) (call_of : Bool → Code) (next : Code) (labels : List Label)
+        → GoesOn 0 first
+        → Lag (cp x ops (call_front (indices_of w.state f) e more k first call_of next) labels)
+        (cp x ops (raised 0 (suc (one_more (own_block e more) 0)) first)
+        (block_label (length ops) 0 (call_of (own_block e more)) done ∷ label_more (own_block e more) (block_label (length ops) 0 next done) labels))
+    to_piece x ops f e more k first call_of next labels go = by e more
+      where
+        in_block : Lag (cp x ops (nest a_block None (sought (indices_of w.state f) 1 2 k first (call_of true)) next) labels)
+            (cp x ops (raised 0 2 first) (block_label (length ops) 0 (call_of true) done ∷ block_label (length ops) 0 next done ∷ labels))
+        in_block = record {
+          cost = 3;
+          short = omega arith;
+          comes = on w.written 1 2 _ _ _ (walks w.written 1 _ (cp x ops (sought (indices_of w.state f) 1 2 k first (call_of true)) (block_label (length ops) 0 next done ∷ labels)) refl)
+              (to_else x ops f _ (raised 0 2 first) (call_of true) (block_label (length ops) 0 next done ∷ labels));
+        }
+
+        by : (e : Exit) (more : Bool) → Lag (cp x ops (call_front (indices_of w.state f) e more k first call_of next) labels)
+            (cp x ops (raised 0 (suc (one_more (own_block e more) 0)) first)
+            (block_label (length ops) 0 (call_of (own_block e more)) done ∷ label_more (own_block e more) (block_label (length ops) 0 next done) labels))
+        by each_end more = in_block
+        by its_end more = in_block
+        by (by_label l) true = in_block
+        by (by_label l) false = record { cost = 2; short = omega arith; comes = to_else x ops f _ (raised 0 1 first) (call_of false) labels }
+        by nowhere true = in_block
+        by nowhere false = record {
+          cost = 2;
+          short = omega arith;
+          comes = subst (λ z. Comes w.written (cp x ops z labels) 2 (cp x ops (raised 0 1 first) (block_label (length ops) 0 (call_of false) done ∷ labels)))
+              (sym (guarded_is (indices_of w.state f) first (call_of false) go)) (to_else x ops f done (raised 0 1 first) (call_of false) labels);
+        }
+
     module _ (f : GuardedFunc) (pc : PiecesCall w.free f.body) (x : Ctx w (with_guards f)) where
       abbrev i : GuardIndices
       i = indices_of w.state f
@@ -152,12 +222,12 @@ module _ (w : Sides) where
       begins_if : (ops : List Value) (k : ℕ) (c : Operand) (fa : Code) (a : Units) (fb : Code) (b : Units) (behind : Code) (rest : Units) (xs : List Enclosing) (first : Code)
           → BodyPlace w.state f k (if_unit c fa a fb b behind rest) xs → Calls w.free first
           → Near w 4 (cq x ops (followed_by first (flat_units (if_unit c fa a fb b behind rest))) (flat_labels f xs))
-          (cp x ops (front i (length xs) k first (if_unit c fa a fb b behind rest)) (written_labels w.state f xs))
+          (cp x ops (front i (exit_at f xs) (length xs) k first (if_unit c fa a fb b behind rest)) (written_labels w.state f xs))
       begins_if ops k c fa a fb b behind rest xs first pl ca =
-          let next : Code = branch None (arm a fa (front i (suc (length xs)) k fa a)) (arm b fb (front i (suc (length xs)) (k + numbers_in a) fb b))
-          (front i (length xs) (k + numbers_in a + numbers_in b) behind rest) in
+          let next : Code = branch None (arm a fa (front i (exit_inside (exit_at f xs) a_block (any_unit rest)) (suc (length xs)) k fa a)) (arm b fb (front i (exit_inside (exit_at f xs) a_block (any_unit rest)) (suc (length xs)) (k + numbers_in a) fb b))
+          (front i (exit_at f xs) (length xs) (k + numbers_in a + numbers_in b) behind rest) in
           let piece : Code = followed_by first (got c done) in
-          let from = cp x ops (front i (length xs) k first (if_unit c fa a fb b behind rest)) (written_labels w.state f xs) in
+          let from = cp x ops (front i (exit_at f xs) (length xs) k first (if_unit c fa a fb b behind rest)) (written_labels w.state f xs) in
           let two : Comes w.written from 2 (cp x ops (raised 0 1 piece) (block_label (length ops) 1 next done ∷ written_labels w.state f xs)) =
           on w.written 1 1 _ _ _ (reads x ops (branch (Some I32) (choice i k a b) (raised 0 1 piece) next) (written_labels w.state f xs)) (walks w.written 1 _ _ refl) in
           let at_piece = no_lag x ops _ _ _ _ (in_piece (before_if (length ops) pl) outside piece
@@ -168,55 +238,70 @@ module _ (w : Sides) where
 
       -- at a unit, with nothing in front of it
       pub settle_units : (ops : List Value) (k : ℕ) (us : Units) (xs : List Enclosing) → BodyPlace w.state f k us xs
-          → Near w 4 (cq x ops (flat_units us) (flat_labels f xs)) (cp x ops (front i (length xs) k done us) (written_labels w.state f xs))
-      settle_units ops k no_unit xs pl = wider 0 4 _ _ (no_lag x ops _ _ _ _ (at_end pl)) (omega arith)
+          → Near w 4 (cq x ops (flat_units us) (flat_labels f xs)) (cp x ops (front i (exit_at f xs) (length xs) k done us) (written_labels w.state f xs))
+      settle_units ops k no_unit xs pl =
+          subst (λ z. Near w 4 (cq x ops done (flat_labels f xs)) (cp x ops z (written_labels w.state f xs))) (sym (last_none i (exit_at f xs)))
+          (wider 0 4 _ _ (no_lag x ops _ _ _ _ (at_end pl)) (omega arith))
       settle_units ops k (call_unit slots c to behind rest) xs pl =
-          let lb' = call_label w.state f (length ops) (length xs) k rest ∷ written_labels w.state f xs in
-          let code' = call_code w.state f (length xs) k slots c to behind in
-          let from = cp x ops (front i (length xs) k done (call_unit slots c to behind rest)) (written_labels w.state f xs) in
-          let one_ : Comes w.written from 1 (cp x ops (sought i k done code') lb') = walks w.written 1 _ _ refl in
-          let three : Comes w.written from 3 (cp x ops done (block_label (length ops) 0 code' done ∷ lb')) = on w.written 1 2 _ _ _ one_ (to_else x ops f _ done code' lb') in
-          let four : Comes w.written from 4 (cp x ops code' lb') = on w.written 3 1 _ _ _ three (walks w.written 1 _ _ refl) in
-          later 4 0 4 _ _ _ four (no_lag x ops _ _ _ _ (at_args (length ops) slots pl)) (omega arith)
+          let r = to_call x ops f (exit_at f xs) (any_unit rest) k (λ own. call_guarded i own (length xs) k slots c to behind) (front i (exit_at f xs) (length xs) (suc k) done rest)
+          (written_labels w.state f xs) in
+          later r.cost 0 4 _ _ _ r.comes (no_lag x ops _ _ _ _ (at_args (length ops) slots pl)) (let s = r.short in omega arith)
       settle_units ops k (nest_unit a_block first body behind rest) xs pl = wider 0 4 _ _ (no_lag x ops _ _ _ _ (at_block pl)) (omega arith)
       settle_units ops k (nest_unit a_loop first body behind rest) xs pl = wider 0 4 _ _ (no_lag x ops _ _ _ _ (at_loop pl)) (omega arith)
       settle_units ops k (if_unit c fa a fb b behind rest) xs pl =
-          subst (λ z. Near w 4 (cq x ops z (flat_labels f xs)) (cp x ops (front i (length xs) k done (if_unit c fa a fb b behind rest)) (written_labels w.state f xs)))
+          subst (λ z. Near w 4 (cq x ops z (flat_labels f xs)) (cp x ops (front i (exit_at f xs) (length xs) k done (if_unit c fa a fb b behind rest)) (written_labels w.state f xs)))
           (none_then (flat_units (if_unit c fa a fb b behind rest)))
           (begins_if ops k c fa a fb b behind rest xs done pl tt)
 
       -- a piece that isn't empty begins
       begins_guard : (ops : List Value) (k : ℕ) (us : Units) (xs : List Enclosing) (first : Code) → BodyPlace w.state f k us xs → Calls w.free first → GoesOn 0 first
           → Near w 4 (cq x ops (followed_by first (flat_units us)) (flat_labels f xs))
-          (cp x ops (by_state i.state done (raised 0 1 first) (front i (length xs) k done us)) (written_labels w.state f xs))
+          (cp x ops (by_state i.state done (raised 0 1 first) (front i (exit_at f xs) (length xs) k done us)) (written_labels w.state f xs))
       begins_guard ops k us xs first pl ca go =
-          later 2 0 4 _ _ _ (to_else x ops f done (raised 0 1 first) (front i (length xs) k done us) (written_labels w.state f xs))
+          later 2 0 4 _ _ _ (to_else x ops f done (raised 0 1 first) (front i (exit_at f xs) (length xs) k done us) (written_labels w.state f xs))
           (no_lag x ops _ _ _ _ (in_piece (guard_end (length ops) pl) outside first (calls_pruned w.free first ca) go)) (omega arith)
 
       begins_call : (ops : List Value) (k : ℕ) (slots : List ℕ) (c : Callee) (to : Option ℕ) (behind : Code) (rest : Units) (xs : List Enclosing) (first : Code)
           → BodyPlace w.state f k (call_unit slots c to behind rest) xs → Calls w.free first → GoesOn 0 first
           → Near w 4 (cq x ops (followed_by first (flat_units (call_unit slots c to behind rest))) (flat_labels f xs))
-          (cp x ops (front i (length xs) k first (call_unit slots c to behind rest)) (written_labels w.state f xs))
+          (cp x ops (front i (exit_at f xs) (length xs) k first (call_unit slots c to behind rest)) (written_labels w.state f xs))
       begins_call ops k slots c to behind rest xs first pl ca go =
-          let lb' = call_label w.state f (length ops) (length xs) k rest ∷ written_labels w.state f xs in
-          let code' = call_code w.state f (length xs) k slots c to behind in
-          let from = cp x ops (front i (length xs) k first (call_unit slots c to behind rest)) (written_labels w.state f xs) in
-          let one_ : Comes w.written from 1 (cp x ops (sought i k first code') lb') = walks w.written 1 _ _ refl in
-          let three : Comes w.written from 3 (cp x ops (raised 0 2 first) (block_label (length ops) 0 code' done ∷ lb')) = on w.written 1 2 _ _ _ one_
-          (to_else x ops f _ (raised 0 2 first) code' lb') in
-          later 3 0 4 _ _ _ three (no_lag x ops _ _ _ _ (in_piece (before_call (length ops) (length ops) pl) outside first (calls_pruned w.free first ca) go)) (omega arith)
+          let r = to_piece x ops f (exit_at f xs) (any_unit rest) k first (λ own. call_guarded i own (length xs) k slots c to behind) (front i (exit_at f xs) (length xs) (suc k) done rest)
+          (written_labels w.state f xs) go in
+          later r.cost 0 4 _ _ _ r.comes (no_lag x ops _ _ _ _ (in_piece (before_call (length ops) (length ops) pl) outside first (calls_pruned w.free first ca) go))
+          (let s = r.short in omega arith)
+
+      -- the last piece
+      begins_last : (ops : List Value) (k : ℕ) (xs : List Enclosing) (first : Code) → BodyPlace w.state f k no_unit xs → Calls w.free first → GoesOn 0 first
+          → Near w 4 (cq x ops (followed_by first done) (flat_labels f xs)) (cp x ops (last_piece i (exit_at f xs) first) (written_labels w.state f xs))
+      begins_last ops k xs first pl ca go = by (exit_at f xs) refl
+        where
+          stands : Near w 4 (cq x ops (followed_by first done) (flat_labels f xs)) (cp x ops first (written_labels w.state f xs))
+          stands = subst (λ z. Near w 4 (cq x ops (followed_by first done) (flat_labels f xs)) (cp x ops z (written_labels w.state f xs))) (raised_none 0 first)
+              (wider 0 4 _ _ (no_lag x ops _ _ _ _ (in_piece (sequence_end pl) outside first (calls_pruned w.free first ca) go)) (omega arith))
+
+          guards : Near w 4 (cq x ops (followed_by first done) (flat_labels f xs)) (cp x ops (guarded i first done) (written_labels w.state f xs))
+          guards = subst (λ z. Near w 4 (cq x ops (followed_by first done) (flat_labels f xs)) (cp x ops z (written_labels w.state f xs))) (sym (guarded_is i first done go))
+              (subst (λ z. Near w 4 (cq x ops (followed_by first done) (flat_labels f xs)) (cp x ops (by_state i.state done (raised 0 1 first) z) (written_labels w.state f xs)))
+              (last_none i (exit_at f xs)) (begins_guard ops k no_unit xs first pl ca go))
+
+          by : (e : Exit) → exit_at f xs ≡ e → Near w 4 (cq x ops (followed_by first done) (flat_labels f xs)) (cp x ops (last_piece i e first) (written_labels w.state f xs))
+          by each_end q = guards
+          by its_end q = guards
+          by (by_label l) q = stands
+          by nowhere q = stands
 
       -- a sequence begins
       pub settle : (ops : List Value) (k : ℕ) (us : Units) (xs : List Enclosing) (first : Code) → BodyPlace w.state f k us xs → Calls w.free first
-          → Near w 4 (cq x ops (followed_by first (flat_units us)) (flat_labels f xs)) (cp x ops (front i (length xs) k first us) (written_labels w.state f xs))
+          → Near w 4 (cq x ops (followed_by first (flat_units us)) (flat_labels f xs)) (cp x ops (front i (exit_at f xs) (length xs) k first us) (written_labels w.state f xs))
       unfolding followed_by
       settle ops k us xs done pl ca = settle_units ops k us xs pl
       settle ops k (call_unit slots c to behind rest) xs (plain p n) pl ca = begins_call ops k slots c to behind rest xs (plain p n) pl ca tt
       settle ops k (call_unit slots c to behind rest) xs (nest s r y n) pl ca = begins_call ops k slots c to behind rest xs (nest s r y n) pl ca tt
       settle ops k (call_unit slots c to behind rest) xs (branch r y z n) pl ca = begins_call ops k slots c to behind rest xs (branch r y z n) pl ca tt
-      settle ops k no_unit xs (plain p n) pl ca = begins_guard ops k no_unit xs (plain p n) pl ca tt
-      settle ops k no_unit xs (nest s r y n) pl ca = begins_guard ops k no_unit xs (nest s r y n) pl ca tt
-      settle ops k no_unit xs (branch r y z n) pl ca = begins_guard ops k no_unit xs (branch r y z n) pl ca tt
+      settle ops k no_unit xs (plain p n) pl ca = begins_last ops k xs (plain p n) pl ca tt
+      settle ops k no_unit xs (nest s r y n) pl ca = begins_last ops k xs (nest s r y n) pl ca tt
+      settle ops k no_unit xs (branch r y z n) pl ca = begins_last ops k xs (branch r y z n) pl ca tt
       settle ops k (nest_unit sh first body behind rest) xs (plain p n) pl ca = begins_guard ops k (nest_unit sh first body behind rest) xs (plain p n) pl ca tt
       settle ops k (nest_unit sh first body behind rest) xs (nest s r y n) pl ca = begins_guard ops k (nest_unit sh first body behind rest) xs (nest s r y n) pl ca tt
       settle ops k (nest_unit sh first body behind rest) xs (branch r y z n) pl ca = begins_guard ops k (nest_unit sh first body behind rest) xs (branch r y z n) pl ca tt
@@ -241,5 +326,5 @@ module _ (w : Sides) where
         at_tail x pc (guard_end {f = f} {k = k} {us = us} {xs = xs} h pl) = later 1 4 5 _ _ _ (walks w.written 1 _ _ refl) (settle_units f (pc f refl) x ops k us xs pl) (omega arith)
         at_tail x pc (before_call {f = f} {k = k} {slots = slots} h h2 pl) = later 1 0 5 _ _ _ (walks w.written 1 _ _ refl) (no_lag x ops _ _ _ _ (at_args h2 slots pl)) (omega arith)
         at_tail x pc (before_if h pl) = later 1 0 5 _ _ _ (walks w.written 1 _ _ refl) (no_lag x ops _ _ _ _ (at_choice pl)) (omega arith)
-        at_tail x pc (arm_end pl) = wider 0 5 _ _ (no_lag x ops _ _ _ _ (at_end pl)) (omega arith)
+        at_tail x pc (sequence_end pl) = wider 0 5 _ _ (no_lag x ops _ _ _ _ (at_end pl)) (omega arith)
         at_tail x pc func_end = wider 0 5 _ _ (no_lag x ops _ _ _ _ at_return) (omega arith)

@@ -13,9 +13,9 @@ use Rattle.wa_model.specs.Step.{Next, steps, asks, returns, traps, stuck, param_
 use Rattle.wa_model.specs.Store.{Store, value_at, Did, works, fails, lacks, takes, act}
 use Rattle.wa_model.specs.declared.flat.Operand.{Operand}
 use Rattle.guard_form.specs.Functions.{GuardedFunc, Role, with_guards, size_of, extra_types, indices_of, flat_code, written_code, Calls, RoleCalls}
-use Rattle.guard_form.specs.Guarded.{raised, by_state, arm, front}
-use Rattle.guard_form.specs.Pieces.{Units, no_unit, call_unit, nest_unit, if_unit, numbers_in, call_to, flat_units}
-use Rattle.guard_form.specs.Places.{Enclosing, flat_labels, written_labels, BodyPlace, call_code, noted_code, call_label}
+use Rattle.guard_form.specs.Guarded.{raised, by_state, one_more, arm, exit_inside, guarded_body, front}
+use Rattle.guard_form.specs.Pieces.{Units, no_unit, call_unit, nest_unit, if_unit, any_unit, numbers_in, call_to, flat_units}
+use Rattle.guard_form.specs.Places.{Enclosing, flat_labels, exit_at, written_labels, BodyPlace, has_block, call_code, noted_code, call_labels}
 use Rattle.guard_runs.specs.Silent.{Silently}
 
 -- ---- both modules
@@ -66,21 +66,21 @@ pub record Together (w : Sides) : Type 0 where
 -- ---- positions where both sides have the same instruction next
 
 -- What both sides go on with behind a piece that is run in lockstep, and by how much its labels are raised. The condition of an
--- `if` belongs to the piece in front of it.
+-- `if` belongs to the piece in front of it; a sequence's last piece may stand as it is.
 pub data BehindPiece (w : Sides) : Role → (by : ℕ) → (tail : Code) → (outer outer' : List Label) → Type 0 where
   guard_end : {f : GuardedFunc} {k : ℕ} {us : Units} {xs : List Enclosing} → (h : ℕ) → BodyPlace w.state f k us xs
-      → BehindPiece w (with_guards f) 1 (flat_units us) (flat_labels f xs) (block_label h 0 (front (indices_of w.state f) (length xs) k done us) done ∷ written_labels w.state f xs)
+      → BehindPiece w (with_guards f) 1 (flat_units us) (flat_labels f xs) (block_label h 0 (front (indices_of w.state f) (exit_at f xs) (length xs) k done us) done ∷ written_labels w.state f xs)
   before_call : {f : GuardedFunc} {k : ℕ} {slots : List ℕ} {x : Callee} {to : Option ℕ} {behind : Code} {rest : Units} {xs : List Enclosing} → (h h2 : ℕ)
       → BodyPlace w.state f k (call_unit slots x to behind rest) xs
-      → BehindPiece w (with_guards f) 2 (flat_units (call_unit slots x to behind rest)) (flat_labels f xs)
-      (block_label h 0 (call_code w.state f (length xs) k slots x to behind) done ∷ call_label w.state f h2 (length xs) k rest ∷ written_labels w.state f xs)
+      → BehindPiece w (with_guards f) (suc (one_more (has_block f rest xs) 0)) (flat_units (call_unit slots x to behind rest)) (flat_labels f xs)
+      (block_label h 0 (call_code w.state f xs k slots x to behind rest) done ∷ call_labels w.state f h2 xs k rest)
   before_if : {f : GuardedFunc} {k : ℕ} {c : Operand} {fa : Code} {a : Units} {fb : Code} {b : Units} {behind : Code} {rest : Units} {xs : List Enclosing} → (h : ℕ)
       → BodyPlace w.state f k (if_unit c fa a fb b behind rest) xs
       → BehindPiece w (with_guards f) 1 (branch None (followed_by fa (flat_units a)) (followed_by fb (flat_units b)) (followed_by behind (flat_units rest))) (flat_labels f xs)
-      (block_label h 1 (branch None (arm a fa (front (indices_of w.state f) (suc (length xs)) k fa a))
-      (arm b fb (front (indices_of w.state f) (suc (length xs)) (k + numbers_in a) fb b)) (front (indices_of w.state f) (length xs) (k + numbers_in a + numbers_in b) behind rest))
+      (block_label h 1 (branch None (arm a fa (front (indices_of w.state f) (exit_inside (exit_at f xs) a_block (any_unit rest)) (suc (length xs)) k fa a))
+      (arm b fb (front (indices_of w.state f) (exit_inside (exit_at f xs) a_block (any_unit rest)) (suc (length xs)) (k + numbers_in a) fb b)) (front (indices_of w.state f) (exit_at f xs) (length xs) (k + numbers_in a + numbers_in b) behind rest))
       done ∷ written_labels w.state f xs)
-  arm_end : {f : GuardedFunc} {k : ℕ} {xs : List Enclosing} → BodyPlace w.state f k no_unit xs
+  sequence_end : {f : GuardedFunc} {k : ℕ} {xs : List Enclosing} → BodyPlace w.state f k no_unit xs
       → BehindPiece w (with_guards f) 0 done (flat_labels f xs) (written_labels w.state f xs)
   func_end : {r : Role} → BehindPiece w r 0 done [] []
 
@@ -109,24 +109,24 @@ pub data SamePoint (w : Sides) : Role → (ops : List Value) → (code : Code) �
   at_args : {ops : List Value} {f : GuardedFunc} {k : ℕ} {slots : List ℕ} {x : Callee} {to : Option ℕ} {behind : Code} {rest : Units} {xs : List Enclosing} → (h : ℕ)
       → (left : List ℕ) → BodyPlace w.state f k (call_unit slots x to behind rest) xs
       → SamePoint w (with_guards f) ops (slots_got left (plain (call_to x) (set_to to (followed_by behind (flat_units rest))))) (flat_labels f xs)
-      (call_code w.state f (length xs) k left x to behind) (call_label w.state f h (length xs) k rest ∷ written_labels w.state f xs)
+      (call_code w.state f xs k left x to behind rest) (call_labels w.state f h xs k rest)
   at_block : {ops : List Value} {f : GuardedFunc} {k : ℕ} {first : Code} {body : Units} {behind : Code} {rest : Units} {xs : List Enclosing}
       → BodyPlace w.state f k (nest_unit a_block first body behind rest) xs
       → SamePoint w (with_guards f) ops (flat_units (nest_unit a_block first body behind rest)) (flat_labels f xs)
-      (front (indices_of w.state f) (length xs) k done (nest_unit a_block first body behind rest)) (written_labels w.state f xs)
+      (front (indices_of w.state f) (exit_at f xs) (length xs) k done (nest_unit a_block first body behind rest)) (written_labels w.state f xs)
   at_loop : {ops : List Value} {f : GuardedFunc} {k : ℕ} {first : Code} {body : Units} {behind : Code} {rest : Units} {xs : List Enclosing}
       → BodyPlace w.state f k (nest_unit a_loop first body behind rest) xs
       → SamePoint w (with_guards f) ops (flat_units (nest_unit a_loop first body behind rest)) (flat_labels f xs)
-      (front (indices_of w.state f) (length xs) k done (nest_unit a_loop first body behind rest)) (written_labels w.state f xs)
+      (front (indices_of w.state f) (exit_at f xs) (length xs) k done (nest_unit a_loop first body behind rest)) (written_labels w.state f xs)
   at_choice : {ops : List Value} {f : GuardedFunc} {k : ℕ} {c : Operand} {fa : Code} {a : Units} {fb : Code} {b : Units} {behind : Code} {rest : Units} {xs : List Enclosing}
       → BodyPlace w.state f k (if_unit c fa a fb b behind rest) xs
       → SamePoint w (with_guards f) ops (branch None (followed_by fa (flat_units a)) (followed_by fb (flat_units b)) (followed_by behind (flat_units rest))) (flat_labels f xs)
-      (branch None (arm a fa (front (indices_of w.state f) (suc (length xs)) k fa a)) (arm b fb (front (indices_of w.state f) (suc (length xs)) (k + numbers_in a) fb b))
-      (front (indices_of w.state f) (length xs) (k + numbers_in a + numbers_in b) behind rest)) (written_labels w.state f xs)
+      (branch None (arm a fa (front (indices_of w.state f) (exit_inside (exit_at f xs) a_block (any_unit rest)) (suc (length xs)) k fa a)) (arm b fb (front (indices_of w.state f) (exit_inside (exit_at f xs) a_block (any_unit rest)) (suc (length xs)) (k + numbers_in a) fb b))
+      (front (indices_of w.state f) (exit_at f xs) (length xs) (k + numbers_in a + numbers_in b) behind rest)) (written_labels w.state f xs)
   at_end : {ops : List Value} {f : GuardedFunc} {k : ℕ} {xs : List Enclosing} → BodyPlace w.state f k no_unit xs
       → SamePoint w (with_guards f) ops done (flat_labels f xs) done (written_labels w.state f xs)
   at_body : {f : GuardedFunc} → SamePoint w (with_guards f) [] (flat_code (with_guards f)) []
-      (nest a_block None (front (indices_of w.state f) 0 0 f.first f.body) (by_state w.state f.saving done (result_got f.result))) []
+      (nest a_block None (guarded_body (indices_of w.state f) f.exits f.first f.body) (by_state w.state f.saving done (result_got f.result))) []
   at_return : {ops : List Value} {r : Role} → SamePoint w r ops done [] done []
 
 -- ---- whole configurations
@@ -152,7 +152,7 @@ pub data BothWait (w : Sides) (g : ℕ) : Activation → Activation → Type 0 w
       → w.role fn ≡ with_guards f → (ls extra ops taken : List Value) → Locals (with_guards f) ls extra
       → (h : ℕ) → BodyPlace w.state f k (call_unit slots x to behind rest) xs → GoesTo w g taken x
       → BothWait w g (waiting fn ls ops taken (set_to to (followed_by behind (flat_units rest))) (flat_labels f xs))
-      (waiting fn (ls ++ extra) ops taken (noted_code w.state f (length xs) k to behind) (call_label w.state f h (length xs) k rest ∷ written_labels w.state f xs))
+      (waiting fn (ls ++ extra) ops taken (noted_code w.state f xs k to behind rest) (call_labels w.state f h xs k rest))
 
 -- The activations below function g on both sides, the outermost being the host's.
 pub data Callers (w : Sides) : ℕ → List Activation → List Activation → Type 0 where

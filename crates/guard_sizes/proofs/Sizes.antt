@@ -8,7 +8,7 @@ use Rattle.wa_types.specs.Syntax.{Plain, basic, local_get, local_set, local_tee,
 use Rattle.wa_model.specs.Flat.{FlatFunc, code_of, body_of}
 use Rattle.wa_model.specs.Rewrites.{instructions_and_labels}
 use Rattle.flat_laws.specs.Flatten.{flattened}
-use Rattle.guard_form.specs.Guarded.{GuardIndices, guarded_code}
+use Rattle.guard_form.specs.Guarded.{each_end, GuardIndices, guarded_code}
 use Rattle.guard_form.specs.Pieces.{first_piece, units}
 use Rattle.frame_laws.specs.Sizes.{result_size}
 use Rattle.guard_sizes.specs.Rewritten.{rewritten, RewrittenIsSmall}
@@ -83,13 +83,13 @@ small_law m i x f st places l valid at keeps =
     let joins_depth = ap depth_of (joins_law places 0 g.body) in
     let flat = flat_size m x f in
     let few = (counted_law places 0 g.body).few in
-    let guarded = size_law ids 0 0 first us in
+    let guarded = size_law ids each_end 0 0 first us in
     let whole = function_size st l (rewritten m x f st places l).body (rewritten m x f st places l).result in
     let res = result_small g.result in
     let slots = slots_are_few m i f valid at in
     let count = counts m (pruned f.body) in
     let pass = passing_small first us in
-    let deep = depth_law ids 0 0 first us in
+    let deep = depth_law ids each_end 0 0 first us in
     let shallow = flat_is_flat m x f in
     let whole_depth = function_depth st l (rewritten m x f st places l).body (rewritten m x f st places l).result in
     let mx = small_max (1 + depth_of (guarded_code st places g)) (3 * depth_of (pruned f.body) + 8) (omega arith) (omega arith) in

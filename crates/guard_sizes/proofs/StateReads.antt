@@ -1,5 +1,5 @@
 -- How often rewritten functions read the state.
-use Rattle.std.proofs.Common.{◌≡◌, ℕ, ◌+◌, ◌≤◌, List, [], ◌∷◌, length, Option, Some, None, refl, ap, arith}
+use Rattle.std.proofs.Common.{◌≡◌, ℕ, ◌+◌, ◌≤◌, List, [], ◌∷◌, length, Option, Some, None, false, refl, ap, arith}
 use Rattle.std.specs.Prelude.{◌≢◌, if◌then◌else◌}
 use Rattle.std.proofs.lemmas.Bool.{ne_eqb}
 use Rattle.wa_types.specs.declared.values.ValType.{ValType}
@@ -77,5 +77,5 @@ reads_law m x f st places l valid at below apart =
     let ids : GuardIndices = record { state = st; index = length g.locals } in
     let c = around (flat_module m []) (flat_func m x f) in
     let named = typed_named c _ (flat_func m x f).body _ _ (flat_is_typed m [] x f valid at) in
-    written_reads ids (restore_code l done) (save_code l done) (result_got g.result) places g.body (unread st _ (code_of g.body) below named.0) (restore_unread st l apart)
+    written_reads ids false (restore_code l done) (save_code l done) (result_got g.result) places g.body (unread st _ (code_of g.body) below named.0) (restore_unread st l apart)
     (save_unread st l apart) (result_unread st g.result)

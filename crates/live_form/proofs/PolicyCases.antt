@@ -128,7 +128,7 @@ module _ (m : Module) (s : Settings) (which : List Bool) (W : Type 0) (none : W)
 -- ---- policy by policy
 
 abbrev no_pieces : Pieces
-no_pieces = record { first = done; units = no_unit }
+no_pieces = record { exits = false; first = done; units = no_unit }
 
 module _ (m : Module) (s : Settings) (which : List Bool) (gs : List Func) (h : AreEmitted m s which (func_imports m) m.funcs gs) where
   -- under `all` by their pieces

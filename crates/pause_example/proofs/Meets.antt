@@ -13,7 +13,7 @@ use Rattle.wa_model.specs.Protocol.{exports_of}
 use Rattle.wa_model.specs.Step.{entered, param_count}
 use Rattle.guard_form.specs.Functions.{RoleCalls}
 use Rattle.guard_form.specs.Pieces.{flat_units, no_unit, first_piece}
-use Rattle.guard_form.specs.Places.{at_start, call_label, flat_labels, noted_code, written_labels}
+use Rattle.guard_form.specs.Places.{at_start, call_labels, flat_labels, noted_code}
 use Rattle.guard_runs.specs.Alike.{Alike, Paired, sides_of}
 use Rattle.guard_runs.specs.Beside.{Near, directly}
 use Rattle.guard_runs.specs.Modules.{SameFunction, DifferInFunctions}
@@ -23,7 +23,7 @@ use Rattle.frame_laws.specs.Stack.{directly as to_import}
 use Rattle.guard_frames.specs.Joined.{one_frame}
 use Rattle.guard_frames.specs.Levels.{MayStand}
 use Rattle.guard_form.specs.Functions.{indices_of}
-use Rattle.guard_form.specs.Guarded.{front}
+use Rattle.guard_form.specs.Guarded.{guarded_body}
 use Rattle.frame_laws.proofs.OneFunction.{layout_codes}
 use Rattle.pause_laws.specs.Pause.{AreaReady, EntersEntry, PausesAt, RuntimeAt}
 use Rattle.pause_example.specs.SmallModule.{ComesBack, after_call, answer, entry, flat_function, guarded, is_sleep, layout, left, level, numbered_places, plan, role, setting, store, written_function}
@@ -112,14 +112,14 @@ abbrev flat_stack : List Activation
 flat_stack = waiting 1 own [] [] (set_to (Some 1) (followed_by behind (flat_units no_unit))) (flat_labels guarded []) ∷ []
 
 abbrev written_stack : List Activation
-written_stack = waiting 1 (own ++ extra) [] [] (noted_code 0 guarded 0 0 (Some 1) behind) (call_label 0 guarded 0 0 0 no_unit ∷ written_labels 0 guarded []) ∷ []
+written_stack = waiting 1 (own ++ extra) [] [] (noted_code 0 guarded [] 0 (Some 1) behind no_unit) (call_labels 0 guarded 0 [] 0 no_unit) ∷ []
 
 abbrev stopped : Stopped setting 0 flat_stack written_stack
 stopped = above 1 (omega arith) refl own extra [] [] (record { size = refl; more = refl }) 0 at_start (directly no_params) (omega arith) (host refl)
 
 stands : MayStand setting (λ a. one_frame layout) stopped
 unfolding with_runtime
-stands = ((written_function, refl), record { index = refl; codes = layout_codes layout (front (indices_of 0 guarded) 0 0 guarded.first guarded.body) (Some 1) 0 (λ e. cc) }, refl, refl, tt, tt, (omega arith, refl, lit< tt, tt), lit< tt, tt, refl, tt)
+stands = ((written_function, refl), record { index = refl; codes = layout_codes layout (guarded_body (indices_of 0 guarded) guarded.exits guarded.first guarded.body) (Some 1) 0 (λ e. cc) }, refl, refl, tt, tt, (omega arith, refl, lit< tt, tt), lit< tt, tt, refl, tt)
 
 pub fits : AllFit 0 plan.area setting.written 0 1 (level ∷ [])
 fits = (stopped_are_levels 0 plan.area setting (λ a. one_frame layout) 0 flat_stack written_stack stopped paired stands).fit

@@ -43,6 +43,7 @@ layout = record { address = 1; index = 2; scratch = 3; fields = kept 0 I32 ∷ g
 abbrev pub guarded : GuardedFunc
 guarded = record {
   size = 2;
+  exits = true;
   restoring = restore_code layout done;
   saving = save_code layout done;
   result = Some 1;

@@ -194,7 +194,7 @@ module _ (m : Module) (s : Settings) (which : List Bool) (codes : (index : ℕ) 
     no_marks : {X : Type 0} (k : Marking X) → marks_of k (codes x f).restoring ≡ [] → marks_of k (codes x f).saving ≡ [] → marks_of k g.body ≡ marks_of k (code_of (flattened m x f).body)
     no_marks k er es =
         let gf = guarded_by m s which codes x f in
-        marks_written k (indices_of (global_space m) gf) gf.restoring gf.saving gf.result gf.first gf.body er es
+        marks_written k (indices_of (global_space m) gf) gf.restoring gf.saving gf.result gf.exits gf.first gf.body er es
         ∙ marks_slim k (flat_terms m (Numbered m s which f) x f) 0 (owed.slim.out ∷ []) owed.slim.out owed.slim.here []
         (followed_by (first_piece (Numbered m s which f) 0 (flattened m x f).body) (flat_units (units (Numbered m s which f) 0 (flattened m x f).body)))
         (followed_by gf.first (flat_units gf.body))

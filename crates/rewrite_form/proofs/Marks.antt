@@ -1,5 +1,5 @@
 -- What written code has of flat code: its calls, in order, and the lists of its branch tables.
-use Rattle.std.proofs.Common.{◌≡◌, ◌∙◌, ℕ, suc, ◌+◌, ◌<◌, List, [], ◌∷◌, ◌++◌, length, Option, Some, None, refl, sym, ap, append_assoc}
+use Rattle.std.proofs.Common.{◌≡◌, ◌∙◌, ℕ, suc, ◌+◌, ◌<◌, List, [], ◌∷◌, ◌++◌, length, Option, Some, None, Bool, true, false, refl, sym, ap, append_assoc}
 use Rattle.std.proofs.lemmas.List.{append-nil, length-map}
 use Rattle.wa_types.specs.declared.values.ValType.{ValType}
 use Rattle.wa_types.specs.declared.values.ValType.TheVariants.{I32, I64}
@@ -17,8 +17,8 @@ use Rattle.local_spill.specs.Spilling.{SpillIndices, location_of, room_tested, s
 use Rattle.wa_model.specs.Store.{gives}
 use Rattle.slim_modules.specs.Slim as S
 use Rattle.slim_modules.specs.Slim.{Free, Slims, Terms}
-use Rattle.slim_modules.specs.Pieces.{Units, no_unit, call_unit, nest_unit, if_unit, numbers_in, call_to, flat_units}
-use Rattle.slim_modules.specs.Guarded.{raise, raised_plain, raised, GuardIndices, by_state, index_with, guarded, sought, noted, choice, arm, front, written_body}
+use Rattle.slim_modules.specs.Pieces.{Units, no_unit, call_unit, nest_unit, if_unit, any_unit, numbers_in, call_to, flat_units}
+use Rattle.slim_modules.specs.Guarded.{raise, raised_plain, raised, GuardIndices, by_state, index_with, guarded, sought, one_more, noted, call_guarded, choice, arm, Exit, each_end, its_end, by_label, nowhere, exit_inside, last_piece, call_front, body_exit, guarded_body, front, written_body}
 
 -- ---- marks
 
@@ -82,6 +82,9 @@ module _ {X : Type 0} (k : Marking X) where
   marks_slim t n ts out f sh _ code' (S.keeps {sh2 = sh2} {rest = rest} x g is lt co gx ta la sl) =
       marks_slim t n ts out g (Some x ∷ sh2) rest code' sl ∙ sym (unmarked (local_set x) rest (k.on_set x))
   marks_slim t n ts out f sh _ code' (S.uses {sh2 = sh2} {rest = rest} x is ri sl) = marks_slim t n ts out f sh2 rest code' sl ∙ sym (unmarked (local_get x) rest (k.on_get x))
+  marks_slim t n ts out f _ _ _ (S.copies {sh = sh} {rest = rest} {rest' = rest'} x y g is co la sl) =
+      unmarked (local_tee y) rest' (k.on_tee y) ∙ marks_slim t n ts out g (Some x ∷ sh) rest rest' sl ∙ sym (unmarked (local_set y) rest (k.on_set y))
+      ∙ sym (unmarked (local_get x) (plain (local_set y) rest) (k.on_get x))
   marks_slim t n ts out f _ code _ (S.saves {sh = sh} {code' = code'} x g lt co sl) = unmarked (local_set x) code' (k.on_set x) ∙ marks_slim t n ts out g sh code code' sl
   marks_slim t n ts out f sh code code' (S.narrows g co sl) = marks_slim t n ts out g sh code code' sl
   marks_slim t n ts out f sh code code' (S.forgets pl sl) = marks_slim t n ts out f [] code code' sl
@@ -118,18 +121,49 @@ module _ {X : Type 0} (k : Marking X) where
         ∙ unmarked (basic (const (V.I32 n))) (plain (basic b) c) (k.on_basic (const (V.I32 n)))
         ∙ unmarked (basic b) c (k.on_basic b)
 
-    marks_sought : (n : ℕ) (a c : Code) → marks_of (sought i n a c) ≡ marks_of a ++ marks_of c
-    marks_sought n a c =
-        marks_state (index_with i (basic (num I32Ne)) n (plain (br_if 1) done)) (raised 0 2 a) c
-        ∙ ap (λ xs. xs ++ marks_of (raised 0 2 a) ++ marks_of c) (marks_index n (num I32Ne) (plain (br_if 1) done) ∙ unmarked (br_if 1) done (k.on_br_if 1))
-        ∙ ap (λ xs. xs ++ marks_of c) (marks_raised 0 2 a)
+    marks_sought : (l m n : ℕ) (a c : Code) → marks_of (sought i l m n a c) ≡ marks_of a ++ marks_of c
+    marks_sought l m n a c =
+        marks_state (index_with i (basic (num I32Ne)) n (plain (br_if l) done)) (raised 0 m a) c
+        ∙ ap (λ xs. xs ++ marks_of (raised 0 m a) ++ marks_of c) (marks_index n (num I32Ne) (plain (br_if l) done) ∙ unmarked (br_if l) done (k.on_br_if l))
+        ∙ ap (λ xs. xs ++ marks_of c) (marks_raised 0 m a)
 
-    marks_noted : (d n : ℕ) (c : Code) → marks_of (noted i d n c) ≡ marks_of c
-    marks_noted d n c =
-        unmarked (basic (const (V.I32 n))) (plain (local_set i.index) (plain (basic (global_get i.state)) (plain (br_if (suc d)) c))) (k.on_basic (const (V.I32 n)))
-        ∙ unmarked (local_set i.index) (plain (basic (global_get i.state)) (plain (br_if (suc d)) c)) (k.on_set i.index)
-        ∙ unmarked (basic (global_get i.state)) (plain (br_if (suc d)) c) (k.on_basic (global_get i.state))
-        ∙ unmarked (br_if (suc d)) c (k.on_br_if (suc d))
+    marks_noted : (l n : ℕ) (c : Code) → marks_of (noted i l n c) ≡ marks_of c
+    marks_noted l n c =
+        unmarked (basic (const (V.I32 n))) (plain (local_set i.index) (plain (basic (global_get i.state)) (plain (br_if l) c))) (k.on_basic (const (V.I32 n)))
+        ∙ unmarked (local_set i.index) (plain (basic (global_get i.state)) (plain (br_if l) c)) (k.on_set i.index)
+        ∙ unmarked (basic (global_get i.state)) (plain (br_if l) c) (k.on_basic (global_get i.state))
+        ∙ unmarked (br_if l) c (k.on_br_if l)
+
+    marks_last : (e : Exit) (c : Code) → marks_of (last_piece i e c) ≡ marks_of c ++ []
+    marks_last each_end c = marks_guarded c done
+    marks_last its_end c = marks_guarded c done
+    marks_last (by_label l) c = sym (append-nil (marks_of c))
+    marks_last nowhere c = sym (append-nil (marks_of c))
+
+    -- a call, in a block of its own or not
+    marks_call : (e : Exit) (any : Bool) (n : ℕ) (first : Code) (call_of : Bool → Code) (next : Code) (called behind : List X) → ((own : Bool) → marks_of (call_of own) ≡ called)
+        → marks_of next ≡ behind → (any ≡ false → behind ≡ []) → marks_of (call_front i e any n first call_of next) ≡ (marks_of first ++ called) ++ behind
+    marks_call e any n first call_of next called behind same next_is none = by e any none
+      where
+        in_block : marks_of (nest a_block None (sought i 1 2 n first (call_of true)) next) ≡ (marks_of first ++ called) ++ behind
+        in_block = ap (λ z. z ++ marks_of next) (marks_sought 1 2 n first (call_of true) ∙ ap (λ z. marks_of first ++ z) (same true)) ∙ ap (λ z. (marks_of first ++ called) ++ z) next_is
+
+        ends : behind ≡ [] → marks_of first ++ called ≡ (marks_of first ++ called) ++ behind
+        ends e = sym (ap (λ z. (marks_of first ++ called) ++ z) e ∙ append-nil (marks_of first ++ called))
+
+        by : (e : Exit) (any : Bool) → (any ≡ false → behind ≡ []) → marks_of (call_front i e any n first call_of next) ≡ (marks_of first ++ called) ++ behind
+        by each_end any none = in_block
+        by its_end any none = in_block
+        by (by_label l) true none = in_block
+        by (by_label l) false none = marks_sought (suc l) 1 n first (call_of false) ∙ ap (λ z. marks_of first ++ z) (same false) ∙ ends (none refl)
+        by nowhere true none = in_block
+        by nowhere false none = marks_guarded first (call_of false) ∙ ap (λ z. marks_of first ++ z) (same false) ∙ ends (none refl)
+
+    none_behind : (us : Units) → any_unit us ≡ false → marks_of (flat_units us) ≡ []
+    none_behind no_unit q = refl
+    none_behind (call_unit _ _ _ _ _) q = cc
+    none_behind (nest_unit _ _ _ _ _) q = cc
+    none_behind (if_unit _ _ _ _ _ _ _) q = cc
 
     one : (n : ℕ) → marks_of (plain (basic (const (V.I32 n))) done) ≡ []
     one n = unmarked (basic (const (V.I32 n))) done (k.on_basic (const (V.I32 n)))
@@ -160,31 +194,34 @@ module _ {X : Type 0} (k : Marking X) where
     marks_arm (if_unit _ _ _ _ _ _ _) first code e = e
 
     -- guarded code has the marks of flat code
-    pub marks_front : (d n : ℕ) (first : Code) (us : Units) → marks_of (front i d n first us) ≡ flat first us
-    marks_front d n first no_unit = marks_guarded first done
-    marks_front d n first (call_unit slots x to behind rest) =
-        let after : Code = noted i d n (set_to to (raised 0 1 behind)) in
-        let inner : marks_of after ≡ marks_of behind = marks_noted d n (set_to to (raised 0 1 behind)) ∙ marks_set to (raised 0 1 behind) ∙ marks_raised 0 1 behind in
-        let called : marks_of (slots_got slots (plain (call_to x) after)) ≡ k.marks (call_to x) ++ marks_of behind = marks_slots slots (plain (call_to x) after) ∙ ap (λ z. k.marks (call_to x) ++ z) inner in
+    pub marks_front : (e : Exit) (d n : ℕ) (first : Code) (us : Units) → marks_of (front i e d n first us) ≡ flat first us
+    marks_front e d n first no_unit = marks_last e first
+    marks_front e d n first (call_unit slots x to behind rest) =
+        let called : (own : Bool) → marks_of (call_guarded i own d n slots x to behind) ≡ k.marks (call_to x) ++ marks_of behind =
+        λ own. marks_slots slots (plain (call_to x) (noted i (one_more own d) n (set_to to (raised 0 (one_more own 0) behind))))
+        ∙ ap (λ z. k.marks (call_to x) ++ z) (marks_noted (one_more own d) n (set_to to (raised 0 (one_more own 0) behind))
+        ∙ marks_set to (raised 0 (one_more own 0) behind) ∙ marks_raised 0 (one_more own 0) behind) in
         let own : marks_of (slots_got slots (plain (call_to x) (set_to to (followed_by behind (flat_units rest))))) ≡ k.marks (call_to x) ++ (marks_of behind ++ marks_of (flat_units rest)) =
         marks_slots slots (plain (call_to x) (set_to to (followed_by behind (flat_units rest))))
         ∙ ap (λ z. k.marks (call_to x) ++ z) (marks_set to (followed_by behind (flat_units rest)) ∙ marks_then behind (flat_units rest)) in
-        ap (λ z. z ++ marks_of (front i d (suc n) done rest)) (marks_sought n first (slots_got slots (plain (call_to x) after)) ∙ ap (λ z. marks_of first ++ z) called)
-        ∙ ap (λ z. (marks_of first ++ (k.marks (call_to x) ++ marks_of behind)) ++ z) (marks_front d (suc n) done rest)
+        marks_call e (any_unit rest) n first (λ own. call_guarded i own d n slots x to behind) (front i e d (suc n) done rest) (k.marks (call_to x) ++ marks_of behind) (marks_of (flat_units rest))
+        called (marks_front e d (suc n) done rest) (none_behind rest)
         ∙ append_assoc (marks_of first) (k.marks (call_to x) ++ marks_of behind) (marks_of (flat_units rest))
         ∙ ap (λ z. marks_of first ++ z) (append_assoc (k.marks (call_to x)) (marks_of behind) (marks_of (flat_units rest)) ∙ sym own)
-    marks_front d n first (nest_unit s inner body behind rest) =
-        marks_guarded first (nest s None (front i (suc d) n inner body) (front i d (n + numbers_in body) behind rest))
-        ∙ ap (λ z. marks_of first ++ (z ++ marks_of (front i d (n + numbers_in body) behind rest))) (marks_front (suc d) n inner body ∙ sym (marks_then inner (flat_units body)))
-        ∙ ap (λ z. marks_of first ++ (marks_of (followed_by inner (flat_units body)) ++ z)) (marks_front d (n + numbers_in body) behind rest ∙ sym (marks_then behind (flat_units rest)))
-    marks_front d n first (if_unit o fa a fb b behind rest) =
+    marks_front e d n first (nest_unit s inner body behind rest) =
+        let w = exit_inside e s (any_unit rest) in
+        marks_guarded first (nest s None (front i w (suc d) n inner body) (front i e d (n + numbers_in body) behind rest))
+        ∙ ap (λ z. marks_of first ++ (z ++ marks_of (front i e d (n + numbers_in body) behind rest))) (marks_front w (suc d) n inner body ∙ sym (marks_then inner (flat_units body)))
+        ∙ ap (λ z. marks_of first ++ (marks_of (followed_by inner (flat_units body)) ++ z)) (marks_front e d (n + numbers_in body) behind rest ∙ sym (marks_then behind (flat_units rest)))
+    marks_front e d n first (if_unit o fa a fb b behind rest) =
+        let v = exit_inside e a_block (any_unit rest) in
         let whole : Code = raised 0 1 (followed_by first (got o done)) in
-        let one_arm : Code = arm a fa (front i (suc d) n fa a) in
-        let two_arm : Code = arm b fb (front i (suc d) (n + numbers_in a) fb b) in
-        let next : Code = front i d (n + numbers_in a + numbers_in b) behind rest in
-        let ea : marks_of one_arm ≡ marks_of (followed_by fa (flat_units a)) = marks_arm a fa (front i (suc d) n fa a) (marks_front (suc d) n fa a) ∙ sym (marks_then fa (flat_units a)) in
-        let eb : marks_of two_arm ≡ marks_of (followed_by fb (flat_units b)) = marks_arm b fb (front i (suc d) (n + numbers_in a) fb b) (marks_front (suc d) (n + numbers_in a) fb b) ∙ sym (marks_then fb (flat_units b)) in
-        let en : marks_of next ≡ marks_of (followed_by behind (flat_units rest)) = marks_front d (n + numbers_in a + numbers_in b) behind rest ∙ sym (marks_then behind (flat_units rest)) in
+        let one_arm : Code = arm a fa (front i v (suc d) n fa a) in
+        let two_arm : Code = arm b fb (front i v (suc d) (n + numbers_in a) fb b) in
+        let next : Code = front i e d (n + numbers_in a + numbers_in b) behind rest in
+        let ea : marks_of one_arm ≡ marks_of (followed_by fa (flat_units a)) = marks_arm a fa (front i v (suc d) n fa a) (marks_front v (suc d) n fa a) ∙ sym (marks_then fa (flat_units a)) in
+        let eb : marks_of two_arm ≡ marks_of (followed_by fb (flat_units b)) = marks_arm b fb (front i v (suc d) (n + numbers_in a) fb b) (marks_front v (suc d) (n + numbers_in a) fb b) ∙ sym (marks_then fb (flat_units b)) in
+        let en : marks_of next ≡ marks_of (followed_by behind (flat_units rest)) = marks_front e d (n + numbers_in a + numbers_in b) behind rest ∙ sym (marks_then behind (flat_units rest)) in
         let tested : marks_of whole ≡ marks_of first =
         marks_raised 0 1 (followed_by first (got o done)) ∙ marks_then first (got o done) ∙ ap (λ z. marks_of first ++ z) (marks_got o done) ∙ append-nil (marks_of first) in
         let arms : Code = branch None one_arm two_arm next in
@@ -281,16 +318,16 @@ module _ {X : Type 0} (k : Marking X) where
   marks_result (Some x) = with_get x done
 
   -- the written body has the marks of the flat code
-  pub marks_written : (i : GuardIndices) (before after : Code) (r : Option ℕ) (first : Code) (us : Units) → marks_of before ≡ [] → marks_of after ≡ []
-      → marks_of (written_body i before after (result_got r) first us) ≡ marks_of (followed_by first (flat_units us))
-  marks_written i before after r first us eb ea =
+  pub marks_written : (i : GuardIndices) (before after : Code) (r : Option ℕ) (exits : Bool) (first : Code) (us : Units) → marks_of before ≡ [] → marks_of after ≡ []
+      → marks_of (written_body i exits before after (result_got r) first us) ≡ marks_of (followed_by first (flat_units us))
+  marks_written i before after r exits first us eb ea =
       let last : Code = by_state i.state after done (result_got r) in
       let ends : marks_of last ≡ [] = marks_state i after done (result_got r) ∙ ap (λ z. z ++ [] ++ marks_of (result_got r)) ea ∙ marks_result r in
-      marks_state i before done (nest a_block None (front i 0 0 first us) last)
-      ∙ ap (λ z. z ++ [] ++ (marks_of (front i 0 0 first us) ++ marks_of last)) eb
-      ∙ ap (λ z. marks_of (front i 0 0 first us) ++ z) ends
-      ∙ append-nil (marks_of (front i 0 0 first us))
-      ∙ marks_front i 0 0 first us
+      marks_state i before done (nest a_block None (guarded_body i exits first us) last)
+      ∙ ap (λ z. z ++ [] ++ (marks_of (guarded_body i exits first us) ++ marks_of last)) eb
+      ∙ ap (λ z. marks_of (guarded_body i exits first us) ++ z) ends
+      ∙ append-nil (marks_of (guarded_body i exits first us))
+      ∙ marks_front i (body_exit exits) 0 0 first us
       ∙ sym (marks_then first (flat_units us))
 
 -- ---- calls

@@ -22,7 +22,7 @@ use Rattle.slim_modules.proofs.ValidModules.{flat_pruned}
 use Rattle.frame_laws.specs.Sizes.{result_size}
 use Rattle.slim_modules.specs.Bounds.{unit_count}
 use Rattle.slim_modules.specs.Functions.{GuardedFunc, indices_of}
-use Rattle.slim_modules.specs.Guarded.{front, function_body}
+use Rattle.slim_modules.specs.Guarded.{body_exit, guarded_body, function_body}
 use Rattle.slim_modules.specs.Pieces.{Units, first_piece, flat_units, units}
 use Rattle.slim_modules.specs.SlimModule.{SlimPieces, flat_terms}
 use Rattle.slim_modules.specs.SlimLaws.{SlimmerUnits}
@@ -152,7 +152,7 @@ module _ (m : Module) (s : Settings) (which : List Bool) (codes : (index : ℕ) 
   gf = guarded_by m s which codes x f
 
   abbrev guarded : Code
-  guarded = front (indices_of (global_space m) gf) 0 0 gf.first gf.body
+  guarded = guarded_body (indices_of (global_space m) gf) gf.exits gf.first gf.body
 
   abbrev flat_code : Code
   flat_code = code_of (flattened m x f).body
@@ -197,7 +197,7 @@ module _ (m : Module) (s : Settings) (which : List Bool) (codes : (index : ℕ) 
 
   guarded_size : instructions_and_labels guarded ≤ instructions_and_labels flat_code + 11 * w + 2
   guarded_size =
-      let a = size_law (indices_of (global_space m) gf) 0 0 gf.first gf.body in
+      let a = size_law (indices_of (global_space m) gf) (body_exit gf.exits) 0 0 gf.first gf.body in
       let e = ap instructions_and_labels joined in
       let z = slimmer in
       let less = z.size in
@@ -212,7 +212,7 @@ module _ (m : Module) (s : Settings) (which : List Bool) (codes : (index : ℕ) 
   pub written_depth : depth_of (codes x f).restoring ≤ 1 → depth_of (codes x f).saving ≤ 1 → depth_of (written_by m s which codes x f).body ≤ depth_of (pruned f.body) + 3
   written_depth r s =
       let a = body_depth (global_space m) (codes x f).restoring (codes x f).saving guarded gf.result r s in
-      let b = depth_law (indices_of (global_space m) gf) 0 0 gf.first gf.body in
+      let b = depth_law (indices_of (global_space m) gf) (body_exit gf.exits) 0 0 gf.first gf.body in
       let e = ap depth_of joined in
       let z = slimmer in
       let less = z.depth in

@@ -142,7 +142,7 @@ module _ (m : Module) (s : Settings) (which : List Bool) (codes : (index : ℕ) 
         let ls : List (Option ValType) = None ∷ c.result ∷ [] in
         let first0 = first_piece (Numbered m s which f) 0 (flattened m x f).body in
         let units0 = units (Numbered m s which f) 0 (flattened m x f).body in
-        body_from_law c (indices_of (global_space m) gf) (codes x f).restoring (codes x f).saving (flattened m x f).result gf.first gf.body state_is index_is
+        body_from_law c (indices_of (global_space m) gf) gf.exits (codes x f).restoring (codes x f).saving (flattened m x f).result gf.first gf.body state_is index_is
         (restores c (None ∷ c.result ∷ []) memory_is address_is locals_are)
         (saves c (None ∷ c.result ∷ []) memory_is address_is locals_are)
         result

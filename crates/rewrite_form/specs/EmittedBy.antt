@@ -23,6 +23,7 @@ module _ (m : Module) (s : Settings) (which : List Bool) (codes : (index : ℕ) 
   abbrev pub guarded_by : (index : ℕ) → Func → GuardedFunc
   guarded_by x f = record {
     size = length (flattened m x f).locals;
+    exits = (codes x f).pieces.exits;
     restoring = (codes x f).restoring;
     saving = (codes x f).saving;
     result = (flattened m x f).result;

@@ -91,7 +91,7 @@ module _ (m : Module) (s : Settings) (which : List Bool) (codes : (index : ℕ) 
     same_flat = base_flattened m valid x f is
 
     abbrev guards : FlatFunc → FrameCode → GuardedFunc
-    guards z c = record { size = length z.locals; restoring = c.restoring; saving = c.saving; result = z.result; first = c.pieces.first; body = c.pieces.units }
+    guards z c = record { size = length z.locals; exits = c.pieces.exits; restoring = c.restoring; saving = c.saving; result = z.result; first = c.pieces.first; body = c.pieces.units }
 
     same_guarded : guarded_by m s which codes x f ≡ guarded_of m s which frames x f
     same_guarded =

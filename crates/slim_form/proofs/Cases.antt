@@ -3,7 +3,7 @@ use Rattle.std.proofs.Common.{◌≡◌, [], ◌∷◌, Some, None, refl}
 use Rattle.std.specs.Prelude.{nat_lt, ◌&&◌}
 use Rattle.wa_types.specs.declared.values.Value.TheVariants as V
 use Rattle.wa_types.specs.declared.operators.NumOp.TheVariants.{I32Add, I32Mul}
-use Rattle.wa_types.specs.Syntax.{drop, const, num, basic, local_get, local_set, br_if, call, a_block, a_loop, done, plain, nest}
+use Rattle.wa_types.specs.Syntax.{drop, const, num, basic, local_get, local_set, local_tee, br_if, call, a_block, a_loop, done, plain, nest}
 use Rattle.wa_types.specs.Pausing.{direct, calls_of}
 use Rattle.wa_model.specs.declared.flat.Operand.TheVariants.{Local}
 use Rattle.wa_model.specs.Flat.{Stmts, no_more, computes, copies, calls, leaps_if, nests, followed_by, code_of}
@@ -65,6 +65,21 @@ squares_are : emit terms [] (Some []) squares [] []
     ≡ Some (nest a_block None (nest a_loop None (plain (local_get 0) (plain (local_get 0) (plain (basic (num I32Mul)) (plain (local_set 0) (plain (local_get 0) (plain (br_if 0) done)))))) done) done)
 unfolding squares terms followed_by
 squares_are = refl
+
+-- while (x = x * x), in a loop: what is set is read again
+squares_again : Stmts
+squares_again =
+    nests a_loop
+    (computes (plain (local_get 0) done) [] (Some 1)
+    (computes (plain (local_get 0) done) [] (Some 2)
+    (computes (plain (basic (num I32Mul)) done) (Local 1 ∷ Local 2 ∷ []) (Some 1)
+    (copies 0 (Local 1)
+    (leaps_if (Local 1) 0 no_more))))) no_more
+
+squares_again_are : emit terms [] (Some []) squares_again [] []
+    ≡ Some (nest a_loop None (plain (local_get 0) (plain (local_get 0) (plain (basic (num I32Mul)) (plain (local_tee 0) (plain (br_if 0) done))))) done)
+unfolding squares_again terms followed_by
+squares_again_are = refl
 
 -- a slot that is read once more than it was set has no slim code
 twice : Stmts

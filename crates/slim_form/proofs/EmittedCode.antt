@@ -15,7 +15,7 @@ use Rattle.wa_types.specs.Syntax as Y
 use Rattle.slim_form.specs.Slim.{Held, Free, Covers, CoversBut, Shape, more, Takes, takes_none, takes_same, takes_one, Rises, rises, rises_below, Lacks, lacks_all, lacks_held, lacks_slot}
 use Rattle.slim_form.specs.Slim.{Plainly, plainly, plainly_held, Reaches, Terms, Slims, ends, does, gets, sets, tees, keeps, uses, saves, narrows, forgets}
 use Rattle.slim_form.specs.Emit.{elem, all_in, without, without_if, free_by, strip, rev_onto, name_onto, names, flushed, Part, then_code, only_if, got_all, by_strip, taken, by_strip_alone}
-use Rattle.slim_form.specs.Emit.{taken_alone, can_keep, Next, result_kept, count, op_code, op_on, computed_by, put, put_on, reads_again, copied_by, reaches, reaches_all, with_operand}
+use Rattle.slim_form.specs.Emit.{taken_alone, can_keep, Next, result_kept, count, op_code, op_on, computed_by, put, put_on, reads_again, got_again, copied_again, copied_by, reaches, reaches_all, with_operand}
 use Rattle.slim_form.specs.Emit.{part_then, is_call, both_codes, three_codes, behind_of, call_on, goes_behind, right_behind, if_behind, free_behind, emit, Told, EmitsSlim, SlimBesideItself}
 
 -- ---- tests
@@ -431,6 +431,32 @@ module _ (t : Terms) where
             let took = a.0 in
             subst (λ z. L (fr base) (shape pend) (plain (local_get x) c) z) u.whole (took.goes c u.code (subst (λ l. L (fr p.base) (None ∷ shape l) c u.code) (sym a.1) (h p.base u.code u.is)))
 
+    got_again_ok : (to x : ℕ) (pend base : List ℕ) (next : Next) (c c' : Code) → Fine c next → Slots pend → got_again t to x pend base next ≡ Some c'
+        → L (fr base) (shape pend) (plain (local_get x) (plain (local_set to) c)) c'
+    got_again_ok to x pend base next c c' fine so e =
+        let h = if_so (elem x (pend ++ base)) (then_code (λ c. flushed pend (plain (local_get x) c)) (put t to [] (pend ++ base) next)) c' e in
+        let u = behind (λ c. flushed pend (plain (local_get x) c)) (put t to [] (pend ++ base) next) c' h.1 in
+        subst (λ z. L (fr base) (shape pend) (plain (local_get x) (plain (local_set to) c)) z) u.whole
+        (flush_ok pend base (plain (local_get x) (plain (local_set to) c)) (plain (local_get x) u.code) so
+        (gets x (held_by x (pend ++ base) h.0) (put_ok to [] (pend ++ base) next c u.code fine tt u.is)))
+
+    copied_again_ok : (to x : ℕ) (pend base : List ℕ) (next : Next) (c c' : Code) → Fine c next → Slots pend → copied_again t to x pend base next ≡ Some c'
+        → L (fr base) (shape pend) (plain (local_get x) (plain (local_set to) c)) c'
+    copied_again_ok to x [] base next c c' fine so e = got_again_ok to x [] base next c c' fine so e
+    copied_again_ok to x (y ∷ pend) base next c c' fine so e = by (nat_eq x y && (not (t.slot to) && not (elem to (y ∷ pend)))) refl e
+      where
+        by : (b : Bool) → (nat_eq x y && (not (t.slot to) && not (elem to (y ∷ pend)))) ≡ b
+            → (if b then then_code (plain (local_tee to)) (next (y ∷ pend) base) else got_again t to x (y ∷ pend) base next) ≡ Some c'
+            → L (fr base) (shape (y ∷ pend)) (plain (local_get x) (plain (local_set to) c)) c'
+        by false q e = got_again_ok to x (y ∷ pend) base next c c' fine so e
+        by true q e =
+            let h = both_true (nat_eq x y) (not (t.slot to) && not (elem to (y ∷ pend))) q in
+            let g = both_true (not (t.slot to)) (not (elem to (y ∷ pend))) h.1 in
+            let u = behind (plain (local_tee to)) (next (y ∷ pend) base) c' e in
+            subst (λ z. L (fr base) (shape (y ∷ pend)) (plain (local_get z) (plain (local_set to) c)) c') (sym (eqb-true x y h.0))
+            (subst (λ z. L (fr base) (shape (y ∷ pend)) (plain (local_get y) (plain (local_set to) c)) z) u.whole
+            (S.copies y to (fr base) so.0 (λ z f ne. f) (lacks_by to (y ∷ pend) (not_true (elem to (y ∷ pend)) g.1)) (fine (y ∷ pend) base u.code so u.is)))
+
     copied_ok : (to : ℕ) (o : Operand) (again : Bool) (pend base : List ℕ) (next : Next) (c c' : Code) → Fine c next → Slots pend → copied_by t to o again pend base next ≡ Some c'
         → L (fr base) (shape pend) (got o (plain (local_set to) c)) c'
     copied_ok to (Const v) again pend base next c c' fine so e = cc
@@ -445,15 +471,9 @@ module _ (t : Terms) where
             (took.goes (plain (local_set to) c) u.code (put_ok to p.pend p.base next c u.code fine took.slots u.is))
 
         by_slot : (b : Bool) → t.slot x ≡ b → (again : Bool)
-            → (if b then (if again then only_if (elem x (pend ++ base)) (then_code (λ c. flushed pend (plain (local_get x) c))
-            (put t to [] (pend ++ base) next)) else put_on t to next (taken (x ∷ []) pend base)) else then_code (plain (local_get x)) (put t to pend base next)) ≡ Some c'
+            → (if b then (if again then copied_again t to x pend base next else put_on t to next (taken (x ∷ []) pend base)) else then_code (plain (local_get x)) (put t to pend base next)) ≡ Some c'
             → L (fr base) (shape pend) (plain (local_get x) (plain (local_set to) c)) c'
-        by_slot true q true e =
-            let h = if_so (elem x (pend ++ base)) (then_code (λ c. flushed pend (plain (local_get x) c)) (put t to [] (pend ++ base) next)) c' e in
-            let u = behind (λ c. flushed pend (plain (local_get x) c)) (put t to [] (pend ++ base) next) c' h.1 in
-            subst (λ z. L (fr base) (shape pend) (plain (local_get x) (plain (local_set to) c)) z) u.whole
-            (flush_ok pend base (plain (local_get x) (plain (local_set to) c)) (plain (local_get x) u.code) so
-            (gets x (held_by x (pend ++ base) h.0) (put_ok to [] (pend ++ base) next c u.code fine tt u.is)))
+        by_slot true q true e = copied_again_ok to x pend base next c c' fine so e
         by_slot true q false e = by_part (taken (x ∷ []) pend base) refl e
         by_slot false q again e =
             let u = behind (plain (local_get x)) (put t to pend base next) c' e in

@@ -35,6 +35,9 @@ larger t n ts out f sh _ code' (uses {sh2 = sh2} {rest = rest} x is ri sl) =
     let h = larger t n ts out f sh2 rest code' sl in
     let k = risen_kept x sh sh2 ri in
     omega arith
+larger t n ts out f _ _ _ (S.copies {sh = sh} {rest = rest} {rest' = rest'} x y g is co la sl) =
+    let h = larger t n ts out g (Some x ∷ sh) rest rest' sl in
+    omega arith
 larger t n ts out f _ code _ (saves {sh = sh} {code' = code'} x g lt co sl) =
     let h = larger t n ts out g sh code code' sl in
     omega arith
@@ -91,6 +94,9 @@ deeper t n ts out f sh _ code' (keeps {sh2 = sh2} {rest = rest} x g is lt co gx 
 deeper t n ts out f sh _ code' (uses {sh2 = sh2} {rest = rest} x is ri sl) =
     let h = deeper t n ts out f sh2 rest code' sl in
     omega arith
+deeper t n ts out f _ _ _ (S.copies {sh = sh} {rest = rest} {rest' = rest'} x y g is co la sl) =
+    let h = deeper t n ts out g (Some x ∷ sh) rest rest' sl in
+    omega arith
 deeper t n ts out f _ code _ (saves {sh = sh} {code' = code'} x g lt co sl) =
     let h = deeper t n ts out g sh code code' sl in
     omega arith
@@ -126,29 +132,30 @@ deeper t n ts out f sh _ _ (S.decides {a = a} {a' = a'} {b = b} {b' = b'} {rest 
     omega arith
 
 pub others : NoOthers
-others P t n ts out f sh _ _ w (ends co pl) h = tt
-others P t n ts out f sh _ _ w (does {sh2 = sh2} {rest = rest} {rest' = rest'} b ta sl) h = (h.0, others P t n ts out f _ rest rest' w sl h.1)
-others P t n ts out f sh _ _ w (S.gets {rest = rest} {rest' = rest'} x fr sl) h = (h.0, others P t n ts out f _ rest rest' w sl h.1)
-others P t n ts out f sh _ _ w (S.sets {sh2 = sh2} {rest = rest} {rest' = rest'} x g co ta la sl) h = (h.0, others P t n ts out g sh2 rest rest' w sl h.1)
-others P t n ts out f sh _ _ w (S.tees {sh2 = sh2} {rest = rest} {rest' = rest'} x g co ta la sl) h = (h.0, others P t n ts out g _ rest rest' w sl h.1)
-others P t n ts out f sh _ code' w (keeps {sh2 = sh2} {rest = rest} x g is lt co gx ta la sl) h = others P t n ts out g (Some x ∷ sh2) rest code' w sl h.1
-others P t n ts out f sh _ code' w (uses {sh2 = sh2} {rest = rest} x is ri sl) h = others P t n ts out f sh2 rest code' w sl h.1
-others P t n ts out f _ code _ w (saves {sh = sh} {code' = code'} x g lt co sl) h = (w x lt, others P t n ts out g sh code code' w sl h)
-others P t n ts out f sh code code' w (narrows g co sl) h = others P t n ts out g sh code code' w sl h
-others P t n ts out f sh code code' w (forgets pl sl) h = others P t n ts out f [] code code' w sl h
-others P t n ts out f sh _ _ w (S.leaps l pl re) h = h
-others P t n ts out f sh _ _ w (S.leaps_if {rest = rest} {rest' = rest'} l pl re sl) h = (h.0, others P t n ts out f [] rest rest' w sl h.1)
-others P t n ts out f sh _ _ w (S.leaps_by es l pl re) h = h
-others P t n ts out f sh _ _ w (S.returns_here pl) h = h
-others P t n ts out f sh _ _ w S.halts h = h
-others P t n ts out f sh _ _ w (S.calls {rest = rest} {rest' = rest'} x pl ac sl) h = (h.0, others P t n ts out f [] rest rest' w sl h.1)
-others P t n ts out f sh _ _ w (S.calls_by {rest = rest} {rest' = rest'} x pl ac sl) h = (h.0, others P t n ts out f [] rest rest' w sl h.1)
-others P t n ts out f sh _ _ w (S.blocks {body = body} {body' = body'} {rest = rest} {rest' = rest'} r g pl sb sl) h =
-    (others P t _ (g ∷ ts) g f [] body body' w sb h.0, others P t n ts out g [] rest rest' w sl h.1)
-others P t n ts out f sh _ _ w (S.loops {body = body} {body' = body'} {rest = rest} {rest' = rest'} r head g pl co sb sl) h =
-    (others P t _ (head ∷ ts) g head [] body body' w sb h.0, others P t n ts out g [] rest rest' w sl h.1)
-others P t n ts out f sh _ _ w (S.decides {a = a} {a' = a'} {b = b} {b' = b'} {rest = rest} {rest' = rest'} r g pl sa sb sl) h =
-    (others P t _ (g ∷ ts) g f [] a a' w sa h.0, others P t _ (g ∷ ts) g f [] b b' w sb h.1, others P t n ts out g [] rest rest' w sl h.2)
+others P t n ts out f sh _ _ w v (ends co pl) h = tt
+others P t n ts out f sh _ _ w v (does {sh2 = sh2} {rest = rest} {rest' = rest'} b ta sl) h = (h.0, others P t n ts out f _ rest rest' w v sl h.1)
+others P t n ts out f sh _ _ w v (S.gets {rest = rest} {rest' = rest'} x fr sl) h = (h.0, others P t n ts out f _ rest rest' w v sl h.1)
+others P t n ts out f sh _ _ w v (S.sets {sh2 = sh2} {rest = rest} {rest' = rest'} x g co ta la sl) h = (h.0, others P t n ts out g sh2 rest rest' w v sl h.1)
+others P t n ts out f sh _ _ w v (S.tees {sh2 = sh2} {rest = rest} {rest' = rest'} x g co ta la sl) h = (h.0, others P t n ts out g _ rest rest' w v sl h.1)
+others P t n ts out f sh _ code' w v (keeps {sh2 = sh2} {rest = rest} x g is lt co gx ta la sl) h = others P t n ts out g (Some x ∷ sh2) rest code' w v sl h.1
+others P t n ts out f sh _ code' w v (uses {sh2 = sh2} {rest = rest} x is ri sl) h = others P t n ts out f sh2 rest code' w v sl h.1
+others P t n ts out f _ _ _ w v (S.copies {sh = sh} {rest = rest} {rest' = rest'} x y g is co la sl) h = (v y (h.1).0, others P t n ts out g (Some x ∷ sh) rest rest' w v sl (h.1).1)
+others P t n ts out f _ code _ w v (saves {sh = sh} {code' = code'} x g lt co sl) h = (w x lt, others P t n ts out g sh code code' w v sl h)
+others P t n ts out f sh code code' w v (narrows g co sl) h = others P t n ts out g sh code code' w v sl h
+others P t n ts out f sh code code' w v (forgets pl sl) h = others P t n ts out f [] code code' w v sl h
+others P t n ts out f sh _ _ w v (S.leaps l pl re) h = h
+others P t n ts out f sh _ _ w v (S.leaps_if {rest = rest} {rest' = rest'} l pl re sl) h = (h.0, others P t n ts out f [] rest rest' w v sl h.1)
+others P t n ts out f sh _ _ w v (S.leaps_by es l pl re) h = h
+others P t n ts out f sh _ _ w v (S.returns_here pl) h = h
+others P t n ts out f sh _ _ w v S.halts h = h
+others P t n ts out f sh _ _ w v (S.calls {rest = rest} {rest' = rest'} x pl ac sl) h = (h.0, others P t n ts out f [] rest rest' w v sl h.1)
+others P t n ts out f sh _ _ w v (S.calls_by {rest = rest} {rest' = rest'} x pl ac sl) h = (h.0, others P t n ts out f [] rest rest' w v sl h.1)
+others P t n ts out f sh _ _ w v (S.blocks {body = body} {body' = body'} {rest = rest} {rest' = rest'} r g pl sb sl) h =
+    (others P t _ (g ∷ ts) g f [] body body' w v sb h.0, others P t n ts out g [] rest rest' w v sl h.1)
+others P t n ts out f sh _ _ w v (S.loops {body = body} {body' = body'} {rest = rest} {rest' = rest'} r head g pl co sb sl) h =
+    (others P t _ (head ∷ ts) g head [] body body' w v sb h.0, others P t n ts out g [] rest rest' w v sl h.1)
+others P t n ts out f sh _ _ w v (S.decides {a = a} {a' = a'} {b = b} {b' = b'} {rest = rest} {rest' = rest'} r g pl sa sb sl) h =
+    (others P t _ (g ∷ ts) g f [] a a' w v sa h.0, others P t _ (g ∷ ts) g f [] b b' w v sb h.1, others P t n ts out g [] rest rest' w v sl h.2)
 
 pub same_calls : SameCalls
 unfolding calls_of
@@ -159,6 +166,7 @@ same_calls t n ts out f sh _ _ (S.sets {sh2 = sh2} {rest = rest} {rest' = rest'}
 same_calls t n ts out f sh _ _ (S.tees {sh2 = sh2} {rest = rest} {rest' = rest'} x g co ta la sl) = same_calls t n ts out g _ rest rest' sl
 same_calls t n ts out f sh _ code' (keeps {sh2 = sh2} {rest = rest} x g is lt co gx ta la sl) = same_calls t n ts out g (Some x ∷ sh2) rest code' sl
 same_calls t n ts out f sh _ code' (uses {sh2 = sh2} {rest = rest} x is ri sl) = same_calls t n ts out f sh2 rest code' sl
+same_calls t n ts out f _ _ _ (S.copies {sh = sh} {rest = rest} {rest' = rest'} x y g is co la sl) = same_calls t n ts out g (Some x ∷ sh) rest rest' sl
 same_calls t n ts out f _ code _ (saves {sh = sh} {code' = code'} x g lt co sl) = same_calls t n ts out g sh code code' sl
 same_calls t n ts out f sh code code' (narrows g co sl) = same_calls t n ts out g sh code code' sl
 same_calls t n ts out f sh code code' (forgets pl sl) = same_calls t n ts out f [] code code' sl

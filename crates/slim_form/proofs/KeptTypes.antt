@@ -149,6 +149,17 @@ sized_gets : (o : Option ValType) → Sized (gets o) 0 1
 sized_gets None = tt
 sized_gets (Some ty) = (refl, refl)
 
+-- an operand that is got and set has one type, and leaves nothing
+got_and_set : (ins mids lows : List ValType) (ty : ValType) (o p : Option ValType) → o ≡ Some ty → Takes (gets o) ins mids → Takes (sets p) mids lows → (p ≡ Some ty) × (lows ≡ ins)
+got_and_set ins mids lows ty None p e h k = absurd h
+got_and_set ins mids lows ty (Some u) None e h k = absurd k
+got_and_set ins mids lows ty (Some u) (Some v) e h k =
+    let q : u ≡ ty = cc in
+    let z : v ∷ k.0 ≡ u ∷ ins = sym k.1 ∙ h.2 ∙ ap (λ us. u ∷ us) (sym h.1) in
+    let a : v ≡ u = cc in
+    let b : k.0 ≡ ins = cc in
+    (ap Some (a ∙ q), k.2 ∙ b)
+
 -- what a branch leaves is arbitrary
 jump_any : (o : Option (Option ValType)) (ins a b : List ValType) → Takes (jump o) ins a → Takes (jump o) ins b
 jump_any None ins a b h = absurd h
@@ -200,6 +211,12 @@ module _ (c : Around) (t : Terms) where
       by ih (Some ty) q k =
           let e : h.0 ≡ ty ∷ ins = k.2 ∙ ap (λ us. ty ∷ us) (sym k.1) in
           ih (ty ∷ ins) ins' (subst (λ us. Types c ls rest outs us) e h.2) (risen_types c.locals x ty sh sh2 ins ins' q ri wo)
+  typed ls n ts out f _ _ _ outs _ _ (S.copies {sh = sh} {rest = rest} {rest' = rest'} x y g is co la sl) (types_kept {ins = ins} {ins' = ins'} z ty e wo) h =
+      let r = got_and_set ins h.0 (h.2).0 ty (slice_get c.locals x) (slice_get c.locals y) e h.1 (h.2).1 in (
+        ty ∷ ins',
+        subst (λ o. Takes (tees o) (ty ∷ ins') (ty ∷ ins')) (sym r.0) (ins', refl, refl),
+        typed ls n ts out g (Some x ∷ sh) rest rest' outs ins (ty ∷ ins') sl (types_kept x ty e wo) (subst (λ us. Types c ls rest outs us) r.1 (h.2).2),
+      )
   typed ls n ts out f _ code _ outs _ _ (saves {sh = sh} {code' = code'} x g lt co sl) (types_kept {ins = ins} {ins' = ins'} y ty e wo) h =
       (ins', subst (λ o. Takes (sets o) (ty ∷ ins') ins') (sym e) (ins', refl, refl), typed ls n ts out g sh code code' outs ins ins' sl wo h)
   typed ls n ts out f sh code code' outs ins ins' (narrows g co sl) wo h = typed ls n ts out g sh code code' outs ins ins' sl wo h

@@ -51,6 +51,7 @@ module _ (t : Terms) (n : ℕ) (ts : List Free) (out g : Free) (k k' : Code) (be
   then_slim m f sh _ _ em go (S.tees {sh2 = sh2} {rest = rest} {rest' = rest'} x h co ta la sl) = S.tees x h co ta la (then_slim m h (None ∷ sh2) rest rest' em go sl)
   then_slim m f sh _ c' em go (keeps {sh2 = sh2} {rest = rest} x h is lt co hx ta la sl) = keeps x h is lt co hx ta la (then_slim m h (Some x ∷ sh2) rest c' em go sl)
   then_slim m f sh _ c' em go (uses {sh2 = sh2} {rest = rest} x is ri sl) = uses x is ri (then_slim m f sh2 rest c' em go sl)
+  then_slim m f _ _ _ em go (S.copies {sh = sh} {rest = rest} {rest' = rest'} x y h is co la sl) = S.copies x y h is co la (then_slim m h (Some x ∷ sh) rest rest' em go sl)
   then_slim m f _ c _ em go (saves {sh = sh} {code' = c'} x h lt co sl) = saves x h lt co (then_slim m h sh c c' em go sl)
   then_slim m f sh c c' em go (narrows h co sl) = narrows h co (then_slim m h sh c c' em go sl)
   then_slim m f sh c c' em go (forgets pl sl) = forgets pl (then_slim m f [] c c' em go sl)

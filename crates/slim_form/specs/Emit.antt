@@ -137,11 +137,20 @@ reads_again (leaps_if c l rest) = true
 reads_again (copies to from rest) = true
 reads_again _ = false
 
+-- It is got from its slot, or stays where it is, with the other local set.
+abbrev pub got_again : Terms → (to from : ℕ) → (pend base : List ℕ) → Next → Option Code
+got_again t to x pend base next = only_if (elem x (pend ++ base)) (then_code (λ c. flushed pend (plain (local_get x) c)) (put t to [] (pend ++ base) next))
+
+abbrev pub copied_again : Terms → (to from : ℕ) → (pend base : List ℕ) → Next → Option Code
+copied_again t to x [] base next = got_again t to x [] base next
+copied_again t to x (y ∷ pend) base next =
+    if nat_eq x y && (not (t.slot to) && not (elem to (y ∷ pend))) then then_code (plain (local_tee to)) (next (y ∷ pend) base) else got_again t to x (y ∷ pend) base next
+
 abbrev pub copied_by : Terms → ℕ → Operand → (again : Bool) → (pend base : List ℕ) → Next → Option Code
 copied_by t to (Const v) again pend base next = None
 copied_by t to (Local x) again pend base next =
     if t.slot x
-    then (if again then only_if (elem x (pend ++ base)) (then_code (λ c. flushed pend (plain (local_get x) c)) (put t to [] (pend ++ base) next)) else put_on t to next (taken (x ∷ []) pend base))
+    then (if again then copied_again t to x pend base next else put_on t to next (taken (x ∷ []) pend base))
     else then_code (plain (local_get x)) (put t to pend base next)
 
 -- the target's slots hold their operands

@@ -1,6 +1,6 @@
 -- Slim code is no larger and nests no deeper.
 use Rattle.std.specs.Prelude.{◌≡◌, ℕ, ◌+◌, ◌≤◌, ◌<◌, List, Bool, true}
-use Rattle.wa_types.specs.Syntax.{Plain, local_set, Code, done, plain, nest, branch}
+use Rattle.wa_types.specs.Syntax.{Plain, local_set, local_tee, Code, done, plain, nest, branch}
 use Rattle.wa_types.specs.Pausing.{calls_of}
 use Rattle.wa_types.specs.Counts.{count_of, depth_of}
 use Rattle.slim_form.specs.Slim.{Free, Shape, kept, Terms, Slims}
@@ -18,11 +18,12 @@ EachPlain P (plain p rest) = (P p ≡ true) × EachPlain P rest
 EachPlain P (nest s r body rest) = EachPlain P body × EachPlain P rest
 EachPlain P (branch r a b rest) = EachPlain P a × EachPlain P b × EachPlain P rest
 
--- Slim code has no other instructions than the code beside it, but for local.set of its locals.
+-- Slim code has no other instructions than the code beside it, but for local.set of its locals, and local.tee where that sets.
 abbrev pub NoOthers : Type 0
 NoOthers =
     (P : Plain → Bool) (t : Terms) (n : ℕ) (ts : List Free) (out f : Free) (sh : Shape) (code code' : Code)
-    → ((x : ℕ) → x < t.size → P (local_set x) ≡ true) → Slims t n ts out f sh code code' → EachPlain P code → EachPlain P code'
+    → ((x : ℕ) → x < t.size → P (local_set x) ≡ true) → ((x : ℕ) → P (local_set x) ≡ true → P (local_tee x) ≡ true)
+    → Slims t n ts out f sh code code' → EachPlain P code → EachPlain P code'
 
 -- It has the same calls, in the same order.
 abbrev pub SameCalls : Type 0

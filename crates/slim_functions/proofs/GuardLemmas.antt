@@ -30,6 +30,7 @@ labels_kept m t n ts out f sh _ _ (S.sets x g co ta la sl) h = (h.0, labels_kept
 labels_kept m t n ts out f sh _ _ (S.tees x g co ta la sl) h = (h.0, labels_kept m t n ts out g _ _ _ sl h.1)
 labels_kept m t n ts out f sh _ _ (S.keeps x g is lt co fr ta la sl) h = labels_kept m t n ts out g _ _ _ sl h.1
 labels_kept m t n ts out f sh _ _ (S.uses x is ri sl) h = labels_kept m t n ts out f _ _ _ sl h.1
+labels_kept m t n ts out f _ _ _ (S.copies x y g is co la sl) h = (tt, labels_kept m t n ts out g _ _ _ sl (h.1).1)
 labels_kept m t n ts out f sh _ _ (S.saves x g lt co sl) h = (tt, labels_kept m t n ts out g _ _ _ sl h)
 labels_kept m t n ts out f sh _ _ (S.narrows g co sl) h = labels_kept m t n ts out g sh _ _ sl h
 labels_kept m t n ts out f sh _ _ (S.forgets pl sl) h = labels_kept m t n ts out f [] _ _ sl h

@@ -1,10 +1,10 @@
 -- What is told of the slim pieces of a module's function.
-use Rattle.std.specs.Prelude.{◌≡◌, ℕ, List, length, Option, Some, None}
+use Rattle.std.specs.Prelude.{◌≡◌, ℕ, List, length, Option, Some, None, true}
 use Rattle.wa_types.specs.Frames.{SlotPairs}
 use Rattle.wa_types.specs.Modules.{locals_of}
 use Rattle.wa_types.specs.Syntax.{Code, Func, Module}
 use Rattle.wa_model.specs.Flat.{FlatFunc}
-use Rattle.guard_form.specs.Guarded.{front}
+use Rattle.guard_form.specs.Guarded.{guarded_body}
 use Rattle.flat_laws.specs.Flatten.{flattened}
 use Rattle.unit_pieces.specs.declared.pieces.Pieces.{Pieces}
 use Rattle.slim_pieces.specs.Inside.{first_code, units_in}
@@ -15,13 +15,13 @@ abbrev pub PiecesTold : (places : List ℕ) → (low count : ℕ) → FlatFunc �
 PiecesTold ps low count g None = Prim.Unit {0}
 PiecesTold ps low count g (Some p) =
     (m : Module) (x : ℕ) (f : Func) → g ≡ flattened m x f → low ≡ length (locals_of m f) → count ≡ length (SlotPairs m f)
-    → SlimPieces m ps x f (record { first = first_code p; units = units_in p })
+    → SlimPieces m ps x f (record { exits = true; first = first_code p; units = units_in p })
 
 -- This is guarded code of slim pieces of a function.
 pub record GuardedSlim (m : Module) (places : List ℕ) (state x : ℕ) (f : Func) (c : Code) : Type 0 where
   pub pieces : PiecesAndUnits
   pub slim : SlimPieces m places x f pieces
-  pub code : c ≡ front (record { state = state; index = length (flattened m x f).locals }) 0 0 pieces.first pieces.units
+  pub code : c ≡ guarded_body (record { state = state; index = length (flattened m x f).locals }) pieces.exits pieces.first pieces.units
 
 abbrev pub GuardedTold : (places : List ℕ) → (low count state : ℕ) → FlatFunc → Code → Type 0
 GuardedTold ps low count state g c =

@@ -58,6 +58,7 @@ module _ (k : Core) (fit : CoreFits k) (slim : Module) (terms : ℕ → Terms) (
 
   slim_store : (spare : ℕ) (c f : Configuration) → S.Beside w spare c f → f.store ≡ c.store
   slim_store spare _ _ (S.beside s fn free e size ag wo sl ar us) = refl
+  slim_store spare _ _ (S.copying s fn f g x y e size ag wo co la sl ar us) = refl
 
   flat_store : (c f : Configuration) → Beside m k.which c f → f.store ≡ c.store
   flat_store _ _ (Rattle.flat_runs.specs.Beside.beside so told is us ls sp) = refl

@@ -12,14 +12,15 @@ use Rattle.slim_runs.specs.Slim.{Free, Terms}
 use Rattle.slim_units.specs.Laws.{ToHeld}
 use Rattle.slim_units.specs.SlimUnits.{SlimUnits}
 
--- a function's first piece, and the units behind it
+-- a function's first piece, and the units behind it; and whether runs leave its sequences by labels
 pub record Pieces : Type 0 where
+  pub exits : Bool
   pub first : Code
   pub units : Units
 
 -- those of flat statements, of which the calls at these places are numbered
 abbrev pub plain_pieces : (places : List ℕ) → FlatFunc → Pieces
-plain_pieces places f = record { first = first_piece places 0 f.body; units = units places 0 f.body }
+plain_pieces places f = record { exits = false; first = first_piece places 0 f.body; units = units places 0 f.body }
 
 -- the body that they make
 abbrev pub body_with : Pieces → (result : Option ℕ) → Code

@@ -10,10 +10,10 @@ use Rattle.slim_units.specs.SlimUnits.{SlimUnits}
 use Rattle.slim_walk.specs.declared.stack.Walk.{Walk}
 use Rattle.slim_walk.specs.Walking.{free_at, shape_at, Among, Good}
 use Rattle.slim_walk.proofs.BranchLemmas.{bare_shape}
-use Rattle.slim_pieces.specs.declared.sequence.Written.{Written}
-use Rattle.slim_pieces.specs.Coming.{Around, Ready}
+use Rattle.slim_steps.specs.declared.sequence.Written.{Written}
+use Rattle.slim_steps.specs.Coming.{Around, Ready}
 use Rattle.slim_pieces.specs.Functions.{is_between, AreSlim}
-use Rattle.slim_pieces.specs.Inside.{first_code, units_in, IsWritten}
+use Rattle.slim_steps.specs.Inside.{first_code, units_in, IsWritten}
 
 pub func_ready : (g : FlatFunc) → FlatFits g → call_total g.body < 2 ^ 32 → Ready 0 g.body
 func_ready g h few = record { locals = length g.locals; labels = 1; fit = h.statements; room = omega (arith, few) }

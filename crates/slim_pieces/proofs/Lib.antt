@@ -1,13 +1,3 @@
-pub mod CallLemmas
-pub mod ComingLemmas
-pub mod ConstructLemmas
-pub mod EndLemmas
+pub use Rattle.slim_steps.proofs.InsideLemmas
 pub mod FunctionLemmas
-pub mod IfLemmas
-pub mod InsideLemmas
-pub mod NestLemmas
-pub mod PieceLemmas
-pub mod SequenceLemmas
-pub mod SingleLemmas
-pub mod UnitLemmas
 pub mod WalkLemmas

@@ -15,15 +15,15 @@ use Rattle.slim_form.specs.Slim.{Free, Terms}
 use Rattle.slim_walk.specs.declared.stack.Walk.{Walk}
 use Rattle.slim_walk.specs.Walking.{Alike, Among, Good}
 use Rattle.slim_walk.proofs.StepLemmas.{alike_same, alike_then, among_next}
-use Rattle.slim_pieces.specs.declared.sequence.Sequence.{Sequence}
-use Rattle.slim_pieces.specs.declared.sequence.Written.{Written}
-use Rattle.slim_pieces.specs.Coming.{Around, CallsFixed, Comes, From, Ready}
-use Rattle.slim_pieces.specs.Inside.{first_code, units_in, Finished, IsWritten}
-use Rattle.slim_pieces.specs.SequenceView.{first_where, open_where, units_onto}
-use Rattle.slim_pieces.specs.Steps.{Put}
-use Rattle.slim_pieces.proofs.ComingLemmas.{from_rest, from_slim}
-use Rattle.slim_pieces.proofs.ConstructLemmas.{around_next}
-use Rattle.slim_pieces.proofs.PieceLemmas.{fixed_rest}
+use Rattle.slim_steps.specs.declared.sequence.Sequence.{Sequence}
+use Rattle.slim_steps.specs.declared.sequence.Written.{Written}
+use Rattle.slim_steps.specs.Coming.{Around, CallsFixed, Comes, From, Ready}
+use Rattle.slim_steps.specs.Inside.{first_code, units_in, Finished, IsWritten}
+use Rattle.slim_steps.specs.SequenceView.{first_where, open_where, units_onto}
+use Rattle.slim_steps.specs.Steps.{Put}
+use Rattle.slim_steps.proofs.ComingLemmas.{from_rest, from_slim}
+use Rattle.slim_steps.proofs.ConstructLemmas.{around_next}
+use Rattle.slim_steps.proofs.PieceLemmas.{fixed_rest}
 
 -- ---- what is asked
 

@@ -6,8 +6,8 @@ use Rattle.slim_form.specs.Emit.{free_by}
 use Rattle.slim_form.specs.Slim.{Terms}
 use Rattle.slim_units.specs.SlimUnits.{SlimUnits}
 use Rattle.unit_pieces.specs.declared.pieces.Pieces.{Pieces}
-use Rattle.slim_pieces.specs.Coming.{CallsFixed}
-use Rattle.slim_pieces.specs.Inside.{first_code, units_in}
+use Rattle.slim_steps.specs.Coming.{CallsFixed}
+use Rattle.slim_steps.specs.Inside.{first_code, units_in}
 
 -- so many locals from this one on
 abbrev pub is_between : (low count : ℕ) → ℕ → Bool

@@ -1,5 +1,3 @@
-pub mod Coming
+pub use Rattle.slim_steps.specs.Coming
+pub use Rattle.slim_steps.specs.Inside
 pub mod Functions
-pub mod Inside
-pub mod SequenceView
-pub mod Steps

@@ -44,6 +44,10 @@ fn leaves(types: &[ValType], x: u32, next: &Stmt) -> bool {
         Stmt::BrIf { cond, .. } => is_local(*cond, x),
         Stmt::BrTable { index, .. } => is_local(*index, x),
         Stmt::If { cond, .. } => is_local(*cond, x),
+        Stmt::Block(body) | Stmt::Loop(body) => match body.first() {
+            Some(first) => leaves(types, x, first),
+            None => false,
+        },
         _ => false,
     }
 }

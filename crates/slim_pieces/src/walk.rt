@@ -6,15 +6,15 @@ ghost use Rattle.wa_model.specs.Flat.{decides, no_more};
 ghost use Rattle.wa_model.specs.FlatView.{stmt_in_front, stmts};
 ghost use Rattle.flow_calls.specs.Emitting.{Rises};
 ghost use Rattle.slim_walk.specs.Walking.{Good};
-ghost use Rattle.slim_pieces.specs.Coming.{Ready};
-ghost use Rattle.slim_pieces.specs.Inside.{InsideTold, WrittenTold};
-ghost use Rattle.slim_pieces.specs.Steps.{Put};
+ghost use Rattle.slim_steps.specs.Coming.{Ready};
+ghost use Rattle.slim_steps.specs.Inside.{InsideTold, WrittenTold};
+ghost use Rattle.slim_steps.specs.Steps.{Put};
 
-use crate::calls::put_call;
-use crate::constructs::{enter, leave, put_block, put_if, put_loop, stays, take_condition};
 use crate::guesses::reads_again;
-use crate::sequence::{Sequence, Written, finish};
-use crate::single::put_single;
+use slim_steps::{
+    Sequence, Written, enter, finish, leave, put_block, put_call, put_if, put_loop, put_single,
+    stays, take_condition,
+};
 use slim_walk::{Walk, flush};
 use std::alloc::AllocError;
 use wa_model::{Operand, Stmt};

@@ -6,7 +6,7 @@ use Rattle.std.proofs.lemmas.Bool.Decides.{eqb_tells, leb_tells}
 use Rattle.wa_types.specs.declared.values.Value.{Value}
 use Rattle.wa_types.specs.declared.values.Value.TheVariants as V
 use Rattle.wa_model.specs.Store.{value_at}
-use Rattle.slim_form.specs.Slim.{Free, Covers, CoversBut, Shape, more, Takes, takes_none, takes_same, takes_one, Rises, rises, rises_below, Lacks, lacks_held, lacks_slot, Plainly, plainly}
+use Rattle.slim_form.specs.Slim.{Free, Covers, CoversBut, Shape, more, Takes, takes_none, takes_same, takes_one, Rises, rises, rises_below, Lacks, lacks_held, lacks_slot, Plainly}
 use Rattle.slim_form.specs.Slim.{plainly_held}
 use Rattle.slim_runs.specs.Beside.{Agree, Woven, woven, woven_both, woven_kept}
 

@@ -1,18 +1,34 @@
 -- The laws.
-use Rattle.std.proofs.Common.{◌≡◌, ℕ, suc, ◌+◌, ◌≤◌, List, [], ◌++◌, length, map, refl, sym, ap, ◌∙◌, subst, arith, length-append}
+use Rattle.std.proofs.Common.{◌≡◌, ℕ, suc, ◌+◌, ◌≤◌, List, [], ◌∷◌, ◌++◌, length, map, Some, refl, sym, ap, ◌∙◌, subst, arith, length-append, length-set}
+use Rattle.std.specs.Prelude.{slice_set}
 use Rattle.std.proofs.lemmas.List.{length-map}
 use Rattle.wa_types.specs.declared.values.Value.{Value}
 use Rattle.wa_types.specs.Modules.{declared_locals}
 use Rattle.wa_types.specs.Pausing.{calls_of}
-use Rattle.wa_model.specs.Store.{value_at}
-use Rattle.wa_model.specs.Configuration.{Label, Configuration, running}
+use Rattle.wa_types.specs.Syntax.{local_set, local_tee, Code, plain}
+use Rattle.wa_model.specs.Store.{Store, value_at}
+use Rattle.wa_model.specs.Configuration.{Label, Activation, Configuration, running}
 use Rattle.wa_model.specs.Step.{Next, steps, zero_of, entered, step}
 use Rattle.slim_runs.specs.Beside.{Sides, Twin, both_import, both_defined, woven, in_body, waits, bottom, above, Beside, beside, lean, Way, way_ends, way_same, way_sets, ComesToo, it_steps}
 use Rattle.slim_runs.specs.Beside.{it_asks, it_returns, it_traps, it_is_stuck, EachStep, EachStretch, stays, moves, Follows, CallsBegin, AnswersGoOn, WaitsWithAny, WaitingAgrees, Around}
-use Rattle.slim_runs.specs.Beside.{in_block, in_loop, calls_behind}
-use Rattle.slim_form.specs.Slim.{Free, Held, Terms}
+use Rattle.slim_runs.specs.Beside.{in_block, in_loop, calls_behind, Agree, copying, lean_code, Unders, Woven, woven_kept}
+use Rattle.slim_form.specs.Slim.{Free, CoversBut, Held, kept, Lacks, Shape, Slims, Terms}
+use Rattle.slim_runs.proofs.Locals.{agree_set, woven_set}
 use Rattle.slim_runs.proofs.Stretches.{Comes, none, one, on}
-use Rattle.slim_runs.proofs.StepTable.{table}
+use Rattle.slim_runs.proofs.StepTable.{lean_below, table}
+
+-- behind the get of a slot that is copied: the flat side sets the other local, and so does the slim one, with what it keeps
+copied : (w : Sides) (s : Store) (fn : ℕ) (under under' : List Activation) → Unders w under under' → (f g : Free) (x y : ℕ) (sh : Shape) (n : ℕ) (ts : List Free) (out : Free)
+    (ls ls' ops ops' : List Value) (rest rest' : Code) (labels labels' : List Label) → length ls ≡ (w.terms fn).size → Agree f ls ls' → Woven ls (Some x ∷ sh) ops ops' → CoversBut y f g
+    → Lacks y (Some x ∷ sh) → Slims (w.terms fn) n ts out g (Some x ∷ sh) rest rest' → Around (w.terms fn) n ts out labels labels'
+    → ComesToo w (running s fn under ls (value_at ls x ∷ ops) (plain (local_set y) rest) labels) (running s fn under' ls' ops' (plain (local_tee y) rest') labels') (suc (kept sh))
+    (lean_code (w.terms fn) (plain (local_set y) rest)) (steps 0 (running s fn under (slice_set ls y (value_at ls x)) ops rest labels))
+copied w s fn under under' us f g x y sh n ts out ls ls' ops _ rest rest' labels labels' size ag (woven_kept {ops' = ops'} z v ev wo) co la sl ar =
+    let u = value_at ls x in
+    subst (λ v. ComesToo w (running s fn under ls (u ∷ ops) (plain (local_set y) rest) labels) (running s fn under' ls' (v ∷ ops') (plain (local_tee y) rest') labels') (suc (kept sh))
+    (lean_code (w.terms fn) (plain (local_set y) rest)) (steps 0 (running s fn under (slice_set ls y u) ops rest labels))) (sym ev)
+    (it_steps 1 (suc (kept sh)) (running s fn under' (slice_set ls' y u) (u ∷ ops') rest' labels') (way_sets refl refl way_ends refl) (lean_below w fn (plain (local_set y) rest) 1) (omega arith)
+    (beside s fn g refl (length-set ls y u ∙ size) (agree_set f g ls ls' y u co ag) (woven_set ls y u (Some x ∷ sh) ops (u ∷ ops') la (woven_kept x u refl wo)) sl ar us))
 
 pub each_step : EachStep
 each_step w spare _ _ ok (beside {n = n} {ts = ts} {out = out} {sh = sh} {code = code} {code' = code'} {labels = labels} {labels' = labels'} {ls = ls} {ls' = ls'} {ops =
@@ -20,6 +36,11 @@ each_step w spare _ _ ok (beside {n = n} {ts = ts} {out = out} {sh = sh} {code =
     subst (λ n. ComesToo w (running s fn under ls ops code labels) (running s fn under' ls' ops' code' labels') n (lean w (running s fn under ls ops code labels))
     (step w.flat (running s fn under ls ops code labels))) e
     (table w ok s fn under under' us ls size f ls' ag n ts out sh ops ops' code code' labels labels' wo sl ar pr)
+each_step w spare _ _ ok (copying {n = n} {ts = ts} {out = out} {sh = sh} {rest = rest} {rest' = rest'} {labels = labels} {labels' = labels'} {ls = ls} {ls' = ls'} {ops = ops} {ops' =
+    ops'} {under = under} {under' = under'} s fn f g x y e size ag wo co la sl ar us) pr =
+    subst (λ n. ComesToo w (running s fn under ls (value_at ls x ∷ ops) (plain (local_set y) rest) labels) (running s fn under' ls' ops' (plain (local_tee y) rest') labels') n
+    (lean_code (w.terms fn) (plain (local_set y) rest)) (steps 0 (running s fn under (slice_set ls y (value_at ls x)) ops rest labels))) e
+    (copied w s fn under under' us f g x y sh n ts out ls ls' ops ops' rest rest' labels labels' size ag wo co la sl ar)
 
 -- a way is a stretch
 pub way_goes : (w : Sides) (c c' d : Configuration) (n : ℕ) → Way w c c' n d → Comes w.slim c' n d

@@ -19,9 +19,9 @@ use Rattle.wa_model.specs.Step.{Next, steps, asks, returns, traps, stuck, result
 use Rattle.wa_model.specs.Step.{same_types, same_func_type, through, memory_max, step_at, step}
 use Rattle.wa_model.specs.Untouched.{access_in}
 use Rattle.slim_form.specs.Slim.{Held, Free, Covers, Shape, more, Takes, takes_none, takes_same, takes_one, kept, Reaches, Terms, Slims, ends, does, gets, sets, tees, keeps, uses, saves}
-use Rattle.slim_form.specs.Slim.{narrows, forgets, leaps, leaps_if, leaps_by, returns_here, halts, calls, calls_by, blocks, loops, decides}
+use Rattle.slim_form.specs.Slim.{copies, narrows, forgets, leaps, leaps_if, leaps_by, returns_here, halts, calls, calls_by, blocks, loops, decides}
 use Rattle.slim_runs.specs.Beside.{Sides, Twin, both_import, both_defined, Together, Agree, Woven, woven, woven_both, woven_kept, Around, in_body, in_block, in_loop, Waits, waits, Unders}
-use Rattle.slim_runs.specs.Beside.{bottom, above, Beside, beside, Asked, ProperCode, lean_plain, lean_code, head_of, sets_local, SameNext, way_ends, way_same, way_sets, saves_none, saves_one, ComesToo, it_steps}
+use Rattle.slim_runs.specs.Beside.{bottom, above, Beside, beside, copying, Asked, ProperCode, lean_plain, lean_code, head_of, sets_local, SameNext, way_ends, way_same, way_sets, saves_none, saves_one, ComesToo, it_steps}
 use Rattle.slim_runs.specs.Beside.{it_asks, it_returns, it_traps, it_is_stuck}
 use Rattle.slim_runs.proofs.ResultCounts.{GivesSo, gives_so}
 use Rattle.slim_form.proofs.KeptSizes.{same_calls}
@@ -69,7 +69,7 @@ topped_on ls _ _ _ _ _ e (takes_one {n = n} {sh = sh} {sh2 = sh2} ta) (woven_bot
 topped : (ls : List Value) (sh sh2 : Shape) (ops ops' : List Value) → Takes 1 sh sh2 → Woven ls sh ops ops' → Topped ls sh2 ops ops'
 topped ls sh sh2 ops ops' ta wo = topped_on ls 1 sh sh2 ops ops' refl ta wo
 
-lean_below : (w : Sides) (fn : ℕ) (c : Code) (k : ℕ) → lean_code (w.terms fn) c k ≤ k
+pub lean_below : (w : Sides) (fn : ℕ) (c : Code) (k : ℕ) → lean_code (w.terms fn) c k ≤ k
 lean_below w fn done k = omega arith
 lean_below w fn (nest s r body rest) k = omega arith
 lean_below w fn (branch r a b rest) k = omega arith
@@ -467,6 +467,10 @@ module _ (w : Sides) where
           let z = lean_get fn y rest is in
           it_steps 0 (kept sh2) (running s fn under' ls' ops' code' labels') way_ends (omega arith) (omega arith)
           (at (ctx s fn under under' us ls size f ls' ag) f (λ z fz. fz) n ts out sh2 (value_at ls y ∷ ops) ops' rest code' labels labels' (risen ls y sh sh2 ops ops' ri wo) sl ar)
+      table ls size f ls' ag n ts out _ ops ops' _ _ labels labels' wo (copies {sh = sh} {rest = rest} {rest' = rest'} y z g is co la sl) ar pr =
+          let e = lean_get fn y (plain (local_set z) rest) is in
+          it_steps 0 (suc (kept sh)) (running s fn under' ls' ops' (plain (local_tee z) rest') labels') way_ends (omega arith) (omega arith)
+          (copying s fn f g y z refl size ag wo co la sl ar us)
       table ls size f ls' ag n ts out _ _ _ code _ labels labels' (woven_kept {ops = ops} {ops' = ops'} y v ev wo) (saves {sh = sh} {code' = code'} z g lt co sl) ar pr =
           later _ _ (running s fn under' (slice_set ls' z v) ops' code' labels') (kept sh) (lean_code (w.terms fn) code) _ refl refl
           (table ls size g (slice_set ls' z v) (agree_saved f g ls ls' z v co (omega arith) ev ag) n ts out sh ops ops' code code' labels labels' wo sl ar pr)

@@ -2,7 +2,7 @@
 use Rattle.std.specs.Prelude.{◌≡◌, ℕ, suc, ◌+◌, ◌≤◌, List, [], ◌∷◌, ◌++◌, length, Option, Some, None, Bool, true, false, if◌then◌else◌}
 use Rattle.wa_types.specs.declared.values.Value.{Value}
 use Rattle.wa_types.specs.declared.values.Trap.{Trap}
-use Rattle.wa_types.specs.Syntax.{Plain, local_get, local_set, call, call_indirect, Code, done, plain, nest, branch, Func, Module}
+use Rattle.wa_types.specs.Syntax.{Plain, local_get, local_set, local_tee, call, call_indirect, Code, done, plain, nest, branch, Func, Module}
 use Rattle.wa_types.specs.Modules.{func_imports, type_at, func_type_at, declared_locals, defined_at}
 use Rattle.wa_types.specs.Pausing.{calls_of}
 use Rattle.wa_model.specs.Store.{Store, value_at}
@@ -10,7 +10,7 @@ use Rattle.wa_model.specs.Configuration.{Label, block_label, loop_label, Activat
 use Rattle.wa_model.specs.Step.{Next, steps, asks, returns, traps, stuck, entered, param_count, memory_max, step}
 use Rattle.wa_model.specs.Untouched.{next_access}
 use Rattle.wa_model.specs.Alone.{Goes}
-use Rattle.slim_form.specs.Slim.{Held, Free, Shape, kept, Terms, Slims}
+use Rattle.slim_form.specs.Slim.{Held, Free, CoversBut, Lacks, Shape, kept, Terms, Slims}
 
 -- the module with flat code, the slim one, and what is asked of each function
 pub record Sides : Type 0 where
@@ -77,6 +77,12 @@ pub data Beside (w : Sides) : ℕ → Configuration → Configuration → Type 0
       → kept sh ≡ spare → length ls ≡ (w.terms fn).size → Agree f ls ls' → Woven ls sh ops ops' → Slims (w.terms fn) n ts out f sh code code'
       → Around (w.terms fn) n ts out labels labels' → Unders w under under'
       → Beside w spare (running s fn under ls ops code labels) (running s fn under' ls' ops' code' labels')
+  -- a slot is copied, and the flat side has got it
+  copying : {n : ℕ} {ts : List Free} {out : Free} {sh : Shape} {rest rest' : Code} {labels labels' : List Label} {ls ls' ops ops' : List Value} {under under' : List Activation}
+      {spare : ℕ} → (s : Store) → (fn : ℕ) → (f g : Free) → (x y : ℕ)
+      → suc (kept sh) ≡ spare → length ls ≡ (w.terms fn).size → Agree f ls ls' → Woven ls (Some x ∷ sh) ops ops' → CoversBut y f g → Lacks y (Some x ∷ sh)
+      → Slims (w.terms fn) n ts out g (Some x ∷ sh) rest rest' → Around (w.terms fn) n ts out labels labels' → Unders w under under'
+      → Beside w spare (running s fn under ls (value_at ls x ∷ ops) (plain (local_set y) rest) labels) (running s fn under' ls' ops' (plain (local_tee y) rest') labels')
 
 -- both sides wait for the answer of an import
 pub record Asked (w : Sides) (d d' : Configuration) : Type 0 where
@@ -120,6 +126,7 @@ head_of _ = None
 
 abbrev pub sets_local : Code → Bool
 sets_local (plain (local_set x) rest) = true
+sets_local (plain (local_tee x) rest) = true
 sets_local _ = false
 
 -- the same instruction stands next on both sides, with the same access

@@ -41,6 +41,9 @@ labelled t n ts out f sh _ code' (uses {sh2 = sh2} {rest = rest} x is ri sl) =
     let h = labelled t n ts out f sh2 rest code' sl in
     let k = risen_kept x sh sh2 ri in
     omega arith
+labelled t n ts out f _ _ _ (S.copies {sh = sh} {rest = rest} {rest' = rest'} x y g is co la sl) =
+    let h = labelled t n ts out g (Some x ∷ sh) rest rest' sl in
+    omega arith
 labelled t n ts out f _ code _ (saves {sh = sh} {code' = code'} x g lt co sl) =
     let h = labelled t n ts out g sh code code' sl in
     omega arith
@@ -85,6 +88,7 @@ as_often st t n ts out f sh _ _ (S.sets {sh2 = sh2} {rest = rest} {rest' = rest'
 as_often st t n ts out f sh _ _ (S.tees {sh2 = sh2} {rest = rest} {rest' = rest'} x g co ta la sl) = let e = as_often st t n ts out g (None ∷ sh2) rest rest' sl in omega arith
 as_often st t n ts out f sh _ code' (keeps {sh2 = sh2} {rest = rest} x g is lt co gx ta la sl) = let e = as_often st t n ts out g (Some x ∷ sh2) rest code' sl in omega arith
 as_often st t n ts out f sh _ code' (uses {sh2 = sh2} {rest = rest} x is ri sl) = let e = as_often st t n ts out f sh2 rest code' sl in omega arith
+as_often st t n ts out f _ _ _ (S.copies {sh = sh} {rest = rest} {rest' = rest'} x y g is co la sl) = let e = as_often st t n ts out g (Some x ∷ sh) rest rest' sl in omega arith
 as_often st t n ts out f _ code _ (saves {sh = sh} {code' = code'} x g lt co sl) = let e = as_often st t n ts out g sh code code' sl in omega arith
 as_often st t n ts out f sh code code' (narrows g co sl) = as_often st t n ts out g sh code code' sl
 as_often st t n ts out f sh code code' (forgets pl sl) = as_often st t n ts out f [] code code' sl

@@ -5,7 +5,7 @@ use Rattle.wa_types.specs.Syntax.{Code}
 use Rattle.wa_model.specs.Store.{gives}
 use Rattle.guard_form.specs.Functions.{Calls, HasUnit, PiecesCall}
 use Rattle.guard_form.specs.Pieces.{Units, no_unit, call_unit, nest_unit, if_unit}
-use Rattle.guard_form.proofs.UnitLemmas.{Some_unit}
+use Rattle.guard_form.proofs.UnitLemmas.{any_is, any_some, Some_unit}
 use Rattle.slim_form.specs.Slim as S
 use Rattle.slim_form.specs.Slim.{Free, Shape, Slims, Terms, more, ends, does, keeps, uses, saves, narrows, forgets}
 use Rattle.slim_units.specs.SlimUnits.{SlimUnits, untouched, alone, before_call, before_block, before_loop, before_if}
@@ -22,6 +22,7 @@ module _ (t : Terms) (P : Callee → Type 0) where
   code_calls n ts out f sh _ _ (S.tees {sh2 = sh2} {rest = rest} {rest' = rest'} x g co ta la sl) h = (h.0, code_calls n ts out g (None ∷ sh2) rest rest' sl h.1)
   code_calls n ts out f sh _ code' (keeps {sh2 = sh2} {rest = rest} x g is lt co gx ta la sl) h = code_calls n ts out g (Some x ∷ sh2) rest code' sl h.1
   code_calls n ts out f sh _ code' (uses {sh2 = sh2} {rest = rest} x is ri sl) h = code_calls n ts out f sh2 rest code' sl h.1
+  code_calls n ts out f _ _ _ (S.copies {sh = sh} {rest = rest} {rest' = rest'} x y g is co la sl) h = (tt, code_calls n ts out g (Some x ∷ sh) rest rest' sl (h.1).1)
   code_calls n ts out f _ code _ (saves {sh = sh} {code' = code'} x g lt co sl) h = (tt, code_calls n ts out g sh code code' sl h)
   code_calls n ts out f sh code code' (narrows g co sl) h = code_calls n ts out g sh code code' sl h
   code_calls n ts out f sh code code' (forgets pl sl) h = code_calls n ts out f [] code code' sl h
@@ -85,12 +86,12 @@ module _ (t : Terms) where
       let e = units_alike n ts out h2 [] behind behind' rest rest' on in
       let i = units_alike _ (h2 ∷ ts) h2 g [] inner inner' body body' ib in
       let e1 = e.numbers in let e2 = e.count in let i1 = i.numbers in let i2 = i.count in
-      record { numbers = omega arith; count = omega arith; numbered = λ test h. (i.numbered test h.0, e.numbered test h.1); arms = λ h. (i.arms h.0, e.arms h.1) }
+      record { numbers = omega arith; count = omega arith; numbered = λ test h. (i.numbered test h.0, e.numbered test h.1); arms = λ h. (any_is body' (some_stays _ (h2 ∷ ts) h2 g [] inner inner' body body' ib (any_some body h.0)), i.arms h.1, e.arms h.2) }
   units_alike n ts out f sh first first' _ _ (before_loop {inner = inner} {inner' = inner'} {behind = behind} {behind' = behind'} {body = body} {body' = body'} {rest = rest} {rest' = rest'} g head h2 go sl co ib on) =
       let e = units_alike n ts out h2 [] behind behind' rest rest' on in
       let i = units_alike _ (head ∷ ts) h2 head [] inner inner' body body' ib in
       let e1 = e.numbers in let e2 = e.count in let i1 = i.numbers in let i2 = i.count in
-      record { numbers = omega arith; count = omega arith; numbered = λ test h. (i.numbered test h.0, e.numbered test h.1); arms = λ h. (i.arms h.0, e.arms h.1) }
+      record { numbers = omega arith; count = omega arith; numbered = λ test h. (i.numbered test h.0, e.numbered test h.1); arms = λ h. (any_is body' (some_stays _ (head ∷ ts) h2 head [] inner inner' body body' ib (any_some body h.0)), i.arms h.1, e.arms h.2) }
   units_alike n ts out f sh first first' _ _ (before_if {fa = fa} {fa' = fa'} {fb = fb} {fb' = fb'} {behind = behind} {behind' = behind'} {a = a} {a' = a'} {b = b} {b' = b'} {rest = rest} {rest' = rest'} o g k h2 go sl hc co ia ib on) =
       let e = units_alike n ts out h2 [] behind behind' rest rest' on in
       let i = units_alike _ (h2 ∷ ts) h2 k [] fa fa' a a' ia in

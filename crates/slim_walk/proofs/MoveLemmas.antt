@@ -1,23 +1,25 @@
 -- Moves in slim code.
-use Rattle.std.proofs.Common.{◌≡◌, ℕ, List, ◌∷◌, [], drop, Bool, true, false, refl, sym, ap, ◌∙◌, subst}
+use Rattle.std.proofs.Common.{◌≡◌, ℕ, suc, ◌-◌, List, ◌∷◌, [], ◌++◌, length, take, drop, Some, Bool, true, false, refl, sym, ap, ◌∙◌, subst}
+use Rattle.std.proofs.Math.Seq.{drop-cons}
 use Rattle.std.specs.Prelude.{not, ◌&&◌}
 use Rattle.std.proofs.lemmas.List.{drop_all}
 use Rattle.std.proofs.Common.{arith}
 use Rattle.std.specs.declared.vec.Vec.{Vec}
 use Rattle.std.specs.declared.alloc.Global.{Global}
 use Rattle.wa_types.specs.declared.instrs.Instr.{Instr}
-use Rattle.wa_types.specs.Syntax.{local_get, local_set, Code, plain}
-use Rattle.wa_types.specs.View.{onto}
+use Rattle.wa_types.specs.Syntax.{local_get, local_set, local_tee, Code, plain}
+use Rattle.wa_types.specs.declared.instrs.Instr.TheVariants.{LocalTee}
+use Rattle.wa_types.specs.View.{in_front, onto}
 use Rattle.wa_model.specs.declared.flat.Operand.{Operand}
 use Rattle.wa_model.specs.declared.flat.Operand.TheVariants.{Local}
 use Rattle.wa_model.specs.Flat.{all_got, got}
 use Rattle.flat_pieces.specs.Putting.{Puts}
 use Rattle.slim_form.specs.Emit.{elem, free_by}
-use Rattle.slim_form.specs.Slim.{gets, more, sets, takes_one, takes_none, Terms, Slims}
+use Rattle.slim_form.specs.Slim.{copies, gets, Lacks, more, sets, takes_one, takes_none, Terms, Slims}
 use Rattle.slim_walk.specs.declared.stack.Walk.{Walk}
-use Rattle.slim_walk.specs.Walking.{slot_in, kept_onto, unstacked, free_at, shape_at, Assigned, Flushed, Good, Kept, Stepped, Taken, TakenBy, from_stack, from_slots}
+use Rattle.slim_walk.specs.Walking.{slot_in, kept_onto, unstacked, free_at, shape_at, Assigned, Flushed, Good, IsKeptTop, Kept, Stepped, Taken, TakenBy, from_stack, from_slots}
 use Rattle.slim_walk.proofs.BranchLemmas.{flushed_full}
-use Rattle.slim_walk.proofs.StepLemmas.{Way, in_place, put_back, alike_piece, alike_same, alike_then, among_next, flushed_slim, kept_slim, no_slot_at, slots_of, small_of, taken_slim, with_piece}
+use Rattle.slim_walk.proofs.StepLemmas.{Way, in_place, put_back, alike_piece, alike_same, alike_then, among_next, drop_split, flushed_slim, kept_join, kept_slim, no_slot_at, slots_of, small_of, taken_slim, with_piece}
 
 -- ---- a local is set
 
@@ -78,6 +80,35 @@ again_stepped a m b v to x good on fl puts given =
           (subst (λ sh. Slims t n ts out (free_at t m) (more 1 sh) (plain (local_set to) c) (given.slim c')) bare s2) in
           flushed_slim t (small_of t a among) n ts out a (plain (local_get x) (plain (local_set to) c)) (plain (local_get x) (given.slim c')) (slots_of t a good among.slots)
           (gets x (held_by t x a.stack.items on) s3);
+    }
+
+pub tee_is : (x : ℕ) (rest : Code) → in_front (LocalTee x) rest ≡ plain (local_tee x) rest
+unfolding in_front
+tee_is x rest = refl
+
+-- the topmost operand apart
+kept_top : (w : Walk) (x : ℕ) → IsKeptTop w x → shape_at w ≡ Some x ∷ kept_onto (drop w.set (take (length w.stack.items - 1) w.stack.items)) []
+kept_top w x top =
+    let xs = w.stack.items in
+    let lt = top.0 in
+    let m = length xs - 1 in
+    let one : drop m xs ≡ x ∷ [] =
+    drop-cons xs m 0 (omega arith) ∙ ap (λ y. y ∷ drop (suc m) xs) top.1 ∙ ap (λ ys. x ∷ ys) (drop_all (suc m) xs (omega arith)) in
+    ap (λ ys. kept_onto ys []) (drop_split w.set m xs (omega arith) (omega arith) ∙ ap (λ ys. drop w.set (take m xs) ++ ys) one) ∙ kept_join (drop w.set (take m xs)) (x ∷ []) []
+
+pub tee_stepped : (a : Walk) (v : Vec Instr Global) (to x : ℕ) → Good a → slot_in a x ≡ true → slot_in a to ≡ false → IsKeptTop a x → Puts a.piece.items v.items (plain (local_tee to))
+    → Stepped a (record a { piece = v }) false (λ c. plain (local_get x) (plain (local_set to) c))
+tee_stepped a v to x good is own top puts =
+    let e = kept_top a x top in
+    record {
+      good = with_piece a v good;
+      alike = alike_piece a a v (alike_same a);
+      slim = plain (local_tee to);
+      puts = puts;
+      step = λ t among n ts out c c' reach told sl.
+          subst (λ sh. Slims t n ts out (free_at t a) sh (plain (local_get x) (plain (local_set to) c)) (plain (local_tee to) c')) (sym e)
+          (copies x to (free_at t a) (among.slots x ∙ is) (λ z q ne. q) (subst (Lacks to) e (no_slot_at t a good among.slots to (among.slots to ∙ own)).1)
+          (subst (λ sh. Slims t n ts out (free_at t a) sh c c') e sl));
     }
 
 module _ (a m b : Walk) (o : Operand) (to : ℕ) (good : Good a) (taken : Taken a m (o ∷ []) false) (given : Assigned m b to) where

@@ -71,10 +71,10 @@ pub false_by : (a b : Bool) → (a ≡ true → b ≡ true) → b ≡ false → 
 false_by true b h e = let q = h refl in cc
 false_by false b h e = refl
 
-drop_split : (n m : ℕ) (xs : List ℕ) → n ≤ m → m ≤ length xs → drop n xs ≡ drop n (take m xs) ++ drop m xs
+pub drop_split : (n m : ℕ) (xs : List ℕ) → n ≤ m → m ≤ length xs → drop n xs ≡ drop n (take m xs) ++ drop m xs
 drop_split n m xs le lm = ap (drop n) (sym (take-append-drop m xs)) ∙ drop-append-le n (take m xs) (drop m xs) (let q = length-take-le m xs lm in omega arith)
 
-kept_join : (xs ys : List ℕ) (sh : Shape) → kept_onto (xs ++ ys) sh ≡ kept_onto ys (kept_onto xs sh)
+pub kept_join : (xs ys : List ℕ) (sh : Shape) → kept_onto (xs ++ ys) sh ≡ kept_onto ys (kept_onto xs sh)
 kept_join [] ys sh = refl
 kept_join (x ∷ xs) ys sh = kept_join xs ys (Some x ∷ sh)
 

@@ -47,6 +47,10 @@ free_at t w = free_by t.slot (take w.set w.stack.items)
 abbrev pub shape_at : Walk → Shape
 shape_at w = kept_onto (drop w.set w.stack.items) []
 
+-- the topmost operand is this slot's, and stands on the operand stack of the slim code
+abbrev pub IsKeptTop : Walk → ℕ → Type 0
+IsKeptTop w x = (w.set < length w.stack.items) × (get_or w.stack.items (length w.stack.items - 1) 0 ≡ x)
+
 -- A result is kept.
 pub record Kept (a b : Walk) (x : ℕ) : Type 0 where
   pub good : Good b

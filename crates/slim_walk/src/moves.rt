@@ -9,7 +9,7 @@ ghost use Rattle.wasm_tree.specs.Kinds.{is_leaf};
 ghost use Rattle.slim_walk.specs.Walking.{slot_in, Assigned, Good, KeptTold, Stepped};
 
 use crate::operators::taken_by;
-use crate::stack::{Walk, flush, is_slot, keep, stands, take};
+use crate::stack::{Walk, flush, is_kept_top, is_slot, keep, stands, take};
 use flat_pieces::put_copy;
 use std::alloc::AllocError;
 use wa_model::Operand;
@@ -73,8 +73,8 @@ fn move_local(at: &mut Walk, to: u32, from: u32) -> Result<bool, AllocError>
     put_set(at, to)
 }
 
-/// Puts a move from a slot that is read again. False where it isn't on the stack.
-fn move_again(at: &mut Walk, to: u32, from: u32) -> Result<bool, AllocError>
+/// Puts a move from a slot that is read again, and is set. False where it isn't on the stack.
+fn get_again(at: &mut Walk, to: u32, from: u32) -> Result<bool, AllocError>
     requires good { Good at.old }
     requires slot { slot_in at.old from ≡ true }
     ensures { IfOk result (λ put. put ≡ true → Stepped at.old at.new false (λ c. plain (local_get from) (plain (local_set to) c))) }
@@ -85,6 +85,23 @@ fn move_again(at: &mut Walk, to: u32, from: u32) -> Result<bool, AllocError>
     flush(at)?;
     at.piece.push(Instr::LocalGet(from))?;
     put_set(at, to)
+}
+
+/// Puts a move from a slot that is read again: a `local.tee` where its operand is the topmost on the operand stack, and stays
+/// there. False where it isn't on the stack.
+fn move_again(at: &mut Walk, to: u32, from: u32) -> Result<bool, AllocError>
+    requires good { Good at.old }
+    requires slot { slot_in at.old from ≡ true }
+    ensures { IfOk result (λ put. put ≡ true → Stepped at.old at.new false (λ c. plain (local_get from) (plain (local_set to) c))) }
+{
+    if is_slot(at, to) {
+        return get_again(at, to, from);
+    }
+    if !is_kept_top(at, from) {
+        return get_again(at, to, from);
+    }
+    at.piece.push(Instr::LocalTee(to))?;
+    Ok(true)
 }
 
 /// Puts a move of the topmost operand. False where that isn't the one to be moved.

@@ -2,7 +2,7 @@
 
 ghost use Rattle.std.specs.Prelude.{◌≡◌, true, false, IfOk, OnOk};
 ghost use Rattle.slim_form.specs.Emit.{elem};
-ghost use Rattle.slim_walk.specs.Walking.{slot_in, Flushed, Good, IsTop, Kept, Taken};
+ghost use Rattle.slim_walk.specs.Walking.{slot_in, Flushed, Good, IsKeptTop, IsTop, Kept, Taken};
 
 use flat_pieces::put_operands;
 use std::alloc::{AllocError, Global};
@@ -48,6 +48,16 @@ pub(crate) fn stands(at: &Walk, x: u32) -> bool
         return false;
     }
     at.stack[place] == x
+}
+
+/// Whether the topmost operand is this slot's, and stands on the operand stack.
+pub(crate) fn is_kept_top(at: &Walk, x: u32) -> bool
+    ensures { result ≡ true → IsKeptTop at.now x }
+{
+    if at.set >= at.stack.len() {
+        return false;
+    }
+    at.stack[at.stack.len() - 1] == x
 }
 
 /// Keeps a result on the operand stack. False where its local is no slot, or stands for another operand.

@@ -1,3 +1,4 @@
+mod ExitLemmas
 mod PieceLemmas
 pub mod UnitLemmas
 mod UnitSteps

@@ -1,5 +1,5 @@
 -- Pieces: what is put of a call, and of a condition.
-use Rattle.std.proofs.Common.{◌≡◌, ℕ, suc, ◌+◌, ◌≤◌, ◌<◌, ◌^◌, ◌∷◌, List, [], Option, Some, None, refl, sym, ap, ◌∙◌, arith}
+use Rattle.std.proofs.Common.{◌≡◌, ℕ, suc, ◌≤◌, ◌<◌, ◌^◌, ◌∷◌, List, [], Option, Some, None, refl, sym, ap, ◌∙◌, arith}
 use Rattle.wa_types.specs.declared.values.Value.TheVariants as V
 use Rattle.wa_types.specs.declared.operators.NumOp.TheVariants.{I32Ne}
 use Rattle.wa_types.specs.declared.instrs.Instr.{Instr}
@@ -8,7 +8,7 @@ use Rattle.wa_types.specs.Syntax.{const, num, global_get, local_set, br_if, basi
 use Rattle.wa_types.specs.Pausing.{Callee}
 use Rattle.wa_types.specs.Counts.{depth_of}
 use Rattle.wa_types.specs.View.{in_front, onto, code}
-use Rattle.wa_types.proofs.ViewLemmas.{is_block, is_loop, is_if, is_plain, kind, in_block, in_loop, in_if, onto_done, onto_none}
+use Rattle.wa_types.proofs.ViewLemmas.{is_block, is_loop, is_if, is_plain, kind, in_block, in_loop, in_if, onto_done}
 use Rattle.wa_model.specs.declared.flat.Operand.{Operand}
 use Rattle.wa_model.specs.declared.flat.Operand.TheVariants.{Local, Const}
 use Rattle.wa_model.specs.Flat.{followed_by, got, set_to, slots_got}
@@ -51,17 +51,17 @@ target_direct x f e rest = direct_is f rest ∙ ap (λ y. plain (call_to (callee
 pub target_indirect : (x : Target) (t : ℕ) → x ≡ Indirect t → (rest : Code) → in_front (CallIndirect t) rest ≡ plain (call_to (callee_of x)) rest
 target_indirect x t e rest = indirect_is t rest ∙ ap (λ y. plain (call_to (callee_of y)) rest) (sym e)
 
-pub block_of : (i : GuardIndices) (d k : ℕ) (first tail : Code) (x : Callee) (slots : List ℕ) (to : Option ℕ) (l0 l1 l2 l3 l4 l5 l6 other piece : List Instr) (label : ℕ) → l0 ≡ []
-    → code other ≡ index_with i (basic (num I32Ne)) k (plain (br_if 1) done) → code piece ≡ raised 0 2 first
-    → Puts l0 l1 (λ c. plain (basic (global_get i.state)) (branch None (code other) (code piece) c)) → Puts l1 l2 (slots_got slots) → Puts l2 l3 (plain (call_to x))
-    → Puts l3 l4 (λ c. plain (basic (const (V.I32 k))) (plain (local_set i.index) (plain (basic (global_get i.state)) (plain (br_if label) c)))) → label ≡ d + 1
-    → Puts l4 l5 (set_to to) → code l6 ≡ onto l5 tail → code l6 ≡ sought i k first (slots_got slots (plain (call_to x) (noted i d k (set_to to tail))))
-block_of i d k first tail x slots to l0 l1 l2 l3 l4 l5 l6 other piece label e0 eo ep p1 p2 p3 p4 el p5 e6 =
-    let n : ℕ → Code = λ l. plain (basic (const (V.I32 k))) (plain (local_set i.index) (plain (basic (global_get i.state)) (plain (br_if l) (set_to to tail)))) in
-    let z : label ≡ suc d = el ∙ omega arith in
-    e6 ∙ p5 tail ∙ p4 (set_to to tail) ∙ ap (λ l. onto l3 (n l)) z ∙ p3 (n (suc d)) ∙ p2 (plain (call_to x) (n (suc d)))
-    ∙ p1 (slots_got slots (plain (call_to x) (n (suc d)))) ∙ (λ j. onto (e0 j) (plain (basic (global_get i.state)) (branch None (eo j) (ep j) (slots_got slots (plain (call_to x) (n (suc d)))))))
-    ∙ onto_none _
+pub search_of : (i : GuardIndices) (l m k : ℕ) (first : Code) (old new other inside : List Instr) → code other ≡ index_with i (basic (num I32Ne)) k (plain (br_if l) done)
+    → code inside ≡ raised 0 m first → Puts old new (λ c. plain (basic (global_get i.state)) (branch None (code other) (code inside) c)) → Puts old new (sought i l m k first)
+search_of i l m k first old new other inside eo ei puts = λ rest.
+    puts rest ∙ (λ j. onto old (plain (basic (global_get i.state)) (branch None (eo j) (ei j) rest)))
+
+pub called_of : (i : GuardIndices) (label k : ℕ) (tail : Code) (x : Callee) (slots : List ℕ) (to : Option ℕ) (l1 l2 l3 l4 l5 l6 : List Instr)
+    → Puts l1 l2 (slots_got slots) → Puts l2 l3 (plain (call_to x))
+    → Puts l3 l4 (λ c. plain (basic (const (V.I32 k))) (plain (local_set i.index) (plain (basic (global_get i.state)) (plain (br_if label) c))))
+    → Puts l4 l5 (set_to to) → code l6 ≡ onto l5 tail → code l6 ≡ onto l1 (slots_got slots (plain (call_to x) (noted i label k (set_to to tail))))
+called_of i label k tail x slots to l1 l2 l3 l4 l5 l6 p2 p3 p4 p5 e6 =
+    e6 ∙ p5 tail ∙ p4 (set_to to tail) ∙ p3 (noted i label k (set_to to tail)) ∙ p2 (plain (call_to x) (noted i label k (set_to to tail)))
 
 -- ---- a condition
 

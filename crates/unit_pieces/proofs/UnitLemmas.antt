@@ -1,17 +1,19 @@
 -- Units, one by one.
-use Rattle.std.proofs.Common.{◌≡◌, ℕ, zero, suc, ◌+◌, ◌<◌, ◌≤◌, ◌^◌, ◌∷◌, List, [], length, get_or, drop, Option, None, subst, refl, sym, ap, ◌∙◌, arith, add-one, drop-cons}
+use Rattle.std.proofs.Common.{◌≡◌, ℕ, zero, suc, ◌+◌, ◌<◌, ◌≤◌, ◌^◌, ◌∷◌, List, [], length, get_or, drop, Option, None, Bool, true, false, subst, refl, sym, ap, ◌∙◌, arith, add-one, drop-cons}
+use Rattle.std.specs.Prelude.{if◌then◌else◌}
 use Rattle.std.specs.declared.vec.Vec.{Vec}
 use Rattle.std.specs.declared.alloc.Global.{Global}
 use Rattle.wa_types.specs.declared.instrs.Instr.{Instr}
 use Rattle.wa_types.specs.Counts.{depth_of}
 use Rattle.wa_types.specs.Pausing.{Callee}
-use Rattle.wa_types.specs.Syntax.{a_block, a_loop, Plain, Shape, Code, done, plain, nest, branch}
+use Rattle.wa_types.specs.Syntax.{a_block, a_loop, Plain, Shape, Code, plain, nest, branch}
 use Rattle.wa_types.specs.View.{code}
 use Rattle.wa_types.proofs.ViewLemmas.{code_none}
 use Rattle.wa_model.specs.declared.flat.Operand.{Operand}
-use Rattle.wa_model.specs.Flat.{followed_by, slots_got, set_to, got}
-use Rattle.guard_form.specs.Pieces.{Units, no_unit, call_unit, nest_unit, if_unit, call_to, flat_units, numbers_in}
+use Rattle.wa_model.specs.Flat.{followed_by, set_to}
+use Rattle.guard_form.specs.Pieces.{Units, no_unit, call_unit, nest_unit, if_unit, any_unit, call_to, flat_units, numbers_in}
 use Rattle.guard_form.specs.Bounds.{unit_count}
+use Rattle.guard_form.specs.Guarded.{Exit, each_end, its_end, by_label, nowhere, exit_behind, exit_inside}
 use Rattle.guard_form.proofs.UnitLemmas.{Some_unit}
 use Rattle.flat_pieces.specs.Raising.{Raisable}
 use Rattle.unit_pieces.specs.declared.pieces.Target.{Target}
@@ -19,6 +21,7 @@ use Rattle.unit_pieces.specs.declared.pieces.Unit.{Unit, Row_of-Unit, end_of-Uni
 use Rattle.unit_pieces.specs.declared.pieces.Unit.TheBlock.{hidden-the_row-Unit-0}
 use Rattle.unit_pieces.specs.declared.pieces.Unit.TheVariants.{Call, Block, Loop, If, Block', Loop', If'}
 use Rattle.unit_pieces.specs.UnitView.{callee_of, unit_in_front, row_units, units_of}
+use Rattle.unit_pieces.specs.Exits.{LabelBelow}
 use Rattle.unit_pieces.specs.Fronts.{UnitsRaisable, Ready, piece_behind}
 use Rattle.unit_pieces.proofs.PieceLemmas.{raisable_then, raisable_slots, raisable_to, raisable_got, raisable_done, shallow_of}
 
@@ -81,27 +84,45 @@ units_end [] (suc i) le = refl
 units_end (y ∷ ys) zero le = absurd (omega arith)
 units_end (y ∷ ys) (suc i) le = units_end ys i (omega arith)
 
+unit_any : (u : Unit) (rest : Units) → any_unit (unit_in_front u rest) ≡ true
+unfolding unit_in_front
+unit_any (Call slots x to behind) rest = refl
+unit_any (Block' first s body behind) rest = refl
+unit_any (Loop' first s body behind) rest = refl
+unit_any (If' o fa s a fb t b behind) rest = refl
+
+any_there : (xs : List Unit) (i : ℕ) → i < length xs → any_unit (units_of (drop i xs)) ≡ true
+unfolding units_of
+any_there [] i lt = absurd (omega arith)
+any_there (y ∷ ys) zero lt = unit_any y (units_of ys)
+any_there (y ∷ ys) (suc i) lt = any_there ys i (omega arith)
+
+-- whether units are left behind one
+pub any_left : (xs : List Unit) (i left : ℕ) (more : Bool) → left + i ≡ length xs → (more ≡ true → 0 < left) → (more ≡ false → left ≤ 0) → any_unit (units_of (drop i xs)) ≡ more
+any_left xs i left false e some none = let z = none refl in ap any_unit (units_end xs i (omega arith))
+any_left xs i left true e some none = let z = some refl in any_there xs i (omega arith)
+
 -- ---- one unit in front of others
 
-pub ready_one : (d k : ℕ) (piece : Code) (u : Unit) (rest : Units) → Ready d k piece (unit_in_front u rest) → Ready d k piece (unit_in_front u no_unit)
+pub ready_one : (e : Exit) (d k : ℕ) (piece : Code) (u : Unit) (rest : Units) → Ready e d k piece (unit_in_front u rest) → Ready e d k piece (unit_in_front u no_unit)
 unfolding unit_in_front
-ready_one d k piece (Call slots x to behind) rest h = let n = h.numbers in record { piece = h.piece; units = (h.units.0, tt); numbers = omega arith }
-ready_one d k piece (Block' first s body behind) rest h = let n = h.numbers in record { piece = h.piece; units = (h.units.0, h.units.1, h.units.2, tt); numbers = omega arith }
-ready_one d k piece (Loop' first s body behind) rest h = let n = h.numbers in record { piece = h.piece; units = (h.units.0, h.units.1, h.units.2, tt); numbers = omega arith }
-ready_one d k piece (If' o fa s a fb t b behind) rest h =
-    let n = h.numbers in record { piece = h.piece; units = (h.units.0, h.units.1, h.units.2, h.units.3, h.units.4, tt); numbers = omega arith }
+ready_one e d k piece (Call slots x to behind) rest h = let n = h.numbers in record { label = h.label; piece = h.piece; units = (h.units.0, tt); numbers = omega arith }
+ready_one e d k piece (Block' first s body behind) rest h = let n = h.numbers in record { label = h.label; piece = h.piece; units = (h.units.0, h.units.1, h.units.2, tt); numbers = omega arith }
+ready_one e d k piece (Loop' first s body behind) rest h = let n = h.numbers in record { label = h.label; piece = h.piece; units = (h.units.0, h.units.1, h.units.2, tt); numbers = omega arith }
+ready_one e d k piece (If' o fa s a fb t b behind) rest h =
+    let n = h.numbers in record { label = h.label; piece = h.piece; units = (h.units.0, h.units.1, h.units.2, h.units.3, h.units.4, tt); numbers = omega arith }
 
-pub ready_behind : (d k j : ℕ) (piece : Code) (u : Unit) (rest : Units) → Ready d k piece (unit_in_front u rest) → j ≡ k + numbers_in (unit_in_front u no_unit)
-    → Ready d j (code (piece_behind u)) rest × (k + numbers_in (unit_in_front u rest) ≡ j + numbers_in rest)
+pub ready_behind : (e : Exit) (d k j : ℕ) (piece : Code) (u : Unit) (rest : Units) → Ready e d k piece (unit_in_front u rest) → j ≡ k + numbers_in (unit_in_front u no_unit)
+    → Ready e d j (code (piece_behind u)) rest × (k + numbers_in (unit_in_front u rest) ≡ j + numbers_in rest)
 unfolding unit_in_front
-ready_behind d k j piece (Call slots x to behind) rest h e =
-    let n = h.numbers in (record { piece = nothing d (shallow_of d 2 piece h.piece); units = h.units.1; numbers = omega arith }, omega arith)
+ready_behind e d k j piece (Call slots x to behind) rest h ne =
+    let n = h.numbers in (record { label = h.label; piece = nothing d (shallow_of d 2 piece h.piece); units = h.units.1; numbers = omega arith }, omega arith)
   where
     nothing : (d : ℕ) → d < 2 ^ 31 → Raisable d 2 (code [])
     nothing d lt = subst (Raisable d 2) (sym code_none) (raisable_done d lt)
-ready_behind d k j piece (Block' first s body behind) rest h e = let n = h.numbers in (record { piece = h.units.2; units = h.units.3; numbers = omega arith }, omega arith)
-ready_behind d k j piece (Loop' first s body behind) rest h e = let n = h.numbers in (record { piece = h.units.2; units = h.units.3; numbers = omega arith }, omega arith)
-ready_behind d k j piece (If' o fa s a fb t b behind) rest h e = let n = h.numbers in (record { piece = h.units.4; units = h.units.5; numbers = omega arith }, omega arith)
+ready_behind e d k j piece (Block' first s body behind) rest h ne = let n = h.numbers in (record { label = h.label; piece = h.units.2; units = h.units.3; numbers = omega arith }, omega arith)
+ready_behind e d k j piece (Loop' first s body behind) rest h ne = let n = h.numbers in (record { label = h.label; piece = h.units.2; units = h.units.3; numbers = omega arith }, omega arith)
+ready_behind e d k j piece (If' o fa s a fb t b behind) rest h ne = let n = h.numbers in (record { label = h.label; piece = h.units.4; units = h.units.5; numbers = omega arith }, omega arith)
 
 pub count_front : (u : Unit) (rest : Units) → unit_count (unit_in_front u rest) ≡ unit_count (unit_in_front u no_unit) + unit_count rest
 unfolding unit_in_front
@@ -150,31 +171,61 @@ pieces_raisable d (if_unit o fa a fb b behind rest) h =
 
 -- ---- what is inside of a unit
 
-pub call_ready : (d k : ℕ) (piece : Code) (v : Units) (slots : List ℕ) (x : Callee) (to : Option ℕ) (behind : Code) → v ≡ call_unit slots x to behind no_unit → Ready d k piece v
-    → Raisable d 2 behind × (k + 1 < 2 ^ 32)
-call_ready d k piece v slots x to behind e h = let q = subst (Ready d k piece) e h in let n = q.numbers in (q.units.0, omega arith)
+behind_below : (s : Shape) (d : ℕ) → LabelBelow (d + 1) (exit_behind s)
+behind_below a_block d = omega arith
+behind_below a_loop d = tt
 
-pub nest_ready : (d k : ℕ) (piece : Code) (v : Units) (s : Shape) (first : Code) (body : Units) (behind : Code) → v ≡ nest_unit s first body behind no_unit → Ready d k piece v
-    → Ready (d + 1) k first body
-nest_ready d k piece v s first body behind e h =
-    let q = subst (Ready d k piece) e h in
+-- inside of a construct an exit's label is one further out
+pub exit_below : (e : Exit) (s : Shape) (more : Bool) (d : ℕ) → LabelBelow d e → LabelBelow (d + 1) (exit_inside e s more)
+exit_below each_end s more d h = tt
+exit_below its_end s more d h = behind_below s d
+exit_below (by_label l) s true d h = behind_below s d
+exit_below (by_label l) s false d h = omega arith
+exit_below nowhere s true d h = behind_below s d
+exit_below nowhere s false d h = tt
+
+pub label_small : (e : Exit) (d : ℕ) → d < 2 ^ 31 → LabelBelow d e → LabelBelow (2 ^ 31) e
+label_small each_end d lt h = tt
+label_small its_end d lt h = tt
+label_small (by_label l) d lt h = omega arith
+label_small nowhere d lt h = tt
+
+pub call_small : (e : Exit) (more : Bool) → LabelBelow (2 ^ 31) e → LabelBelow (2 ^ 31) (if more then its_end else e)
+call_small e true h = tt
+call_small e false h = h
+
+pub call_ready : (e : Exit) (d k : ℕ) (piece : Code) (v : Units) (slots : List ℕ) (x : Callee) (to : Option ℕ) (behind : Code) → v ≡ call_unit slots x to behind no_unit → Ready e d k piece v
+    → Raisable d 2 behind × (k + 1 < 2 ^ 32)
+call_ready e d k piece v slots x to behind is h = let q = subst (Ready e d k piece) is h in let n = q.numbers in (q.units.0, omega arith)
+
+pub nest_ready : (e w : Exit) (more : Bool) (d k : ℕ) (piece : Code) (v : Units) (s : Shape) (first : Code) (body : Units) (behind : Code) → v ≡ nest_unit s first body behind no_unit
+    → w ≡ exit_inside e s more → Ready e d k piece v → Ready w (d + 1) k first body
+nest_ready e w more d k piece v s first body behind is ew h =
+    let q = subst (Ready e d k piece) is h in
     let n = q.numbers in
     let z : suc d ≡ d + 1 = omega arith in
-    record { piece = subst (λ l. Raisable l 2 first) z q.units.0; units = subst (λ l. UnitsRaisable l body) z q.units.1; numbers = omega arith }
+    record {
+      label = subst (LabelBelow (d + 1)) (sym ew) (exit_below e s more d q.label);
+      piece = subst (λ l. Raisable l 2 first) z q.units.0;
+      units = subst (λ l. UnitsRaisable l body) z q.units.1;
+      numbers = omega arith;
+    }
 
-pub arms_ready : (d k j : ℕ) (piece : Code) (v : Units) (o : Operand) (fa : Code) (a : Units) (fb : Code) (b : Units) (behind : Code) → v ≡ if_unit o fa a fb b behind no_unit
-    → Ready d k piece v → Ready (d + 1) k fa a × (j ≡ k + numbers_in a → Ready (d + 1) j fb b)
-arms_ready d k j piece v o fa a fb b behind e h =
-    let q = subst (Ready d k piece) e h in
+pub arms_ready : (e w : Exit) (more : Bool) (d k j : ℕ) (piece : Code) (v : Units) (o : Operand) (fa : Code) (a : Units) (fb : Code) (b : Units) (behind : Code)
+    → v ≡ if_unit o fa a fb b behind no_unit
+    → w ≡ exit_inside e a_block more → Ready e d k piece v → Ready w (d + 1) k fa a × (j ≡ k + numbers_in a → Ready w (d + 1) j fb b)
+arms_ready e w more d k j piece v o fa a fb b behind is ew h =
+    let q = subst (Ready e d k piece) is h in
     let n = q.numbers in
-    let z : suc d ≡ d + 1 = omega arith in (
-      record { piece = subst (λ l. Raisable l 2 fa) z q.units.0; units = subst (λ l. UnitsRaisable l a) z q.units.1; numbers = omega arith },
-      λ x. record { piece = subst (λ l. Raisable l 2 fb) z q.units.2; units = subst (λ l. UnitsRaisable l b) z q.units.3; numbers = omega arith },
+    let z : suc d ≡ d + 1 = omega arith in
+    let below = subst (LabelBelow (d + 1)) (sym ew) (exit_below e a_block more d q.label) in (
+      record { label = below; piece = subst (λ l. Raisable l 2 fa) z q.units.0; units = subst (λ l. UnitsRaisable l a) z q.units.1; numbers = omega arith },
+      λ x. record { label = below; piece = subst (λ l. Raisable l 2 fb) z q.units.2; units = subst (λ l. UnitsRaisable l b) z q.units.3; numbers = omega arith },
     )
 
 pub whole_ready : (xs first : List Instr) (ys us : List Unit) → xs ≡ first → ys ≡ us → Raisable 0 2 (followed_by (code first) (flat_units (units_of us)))
-    → numbers_in (units_of us) < 2 ^ 32 → Ready 0 0 (code xs) (units_of ys)
+    → numbers_in (units_of us) < 2 ^ 32 → Ready nowhere 0 0 (code xs) (units_of ys)
 whole_ready xs first ys us e f h few =
     let q = raisable_then 0 2 (code first) (flat_units (units_of us)) h in
-    subst (λ z. Ready 0 0 (code z) (units_of ys)) (sym e)
-    (subst (λ z. Ready 0 0 (code first) (units_of z)) (sym f) (record { piece = q.0; units = pieces_raisable 0 (units_of us) q.1; numbers = omega arith }))
+    subst (λ z. Ready nowhere 0 0 (code z) (units_of ys)) (sym e)
+    (subst (λ z. Ready nowhere 0 0 (code first) (units_of z)) (sym f) (record { label = tt; piece = q.0; units = pieces_raisable 0 (units_of us) q.1; numbers = omega arith }))

@@ -7,8 +7,10 @@
 
 mod calls;
 mod conditions;
+mod exits;
 mod pieces;
 mod sequences;
 
+pub use exits::ExitTo;
 pub use pieces::{Pieces, Target, Unit};
 pub use sequences::guarded_pieces;

@@ -1,18 +1,21 @@
 //! The guarded code of pieces and units.
 
-ghost use Rattle.std.specs.Prelude.{◌≡◌, ◌<◌, ◌^◌, IfOk};
-ghost use Rattle.wa_types.specs.View.{code};
+ghost use Rattle.std.specs.Prelude.{◌≡◌, ◌<◌, ◌^◌, true, IfOk, OnOk};
+ghost use Rattle.wa_types.specs.View.{code, onto};
 ghost use Rattle.wa_model.specs.Flat.{followed_by};
-ghost use Rattle.guard_form.specs.Guarded.{front};
+ghost use Rattle.guard_form.specs.Guarded.{guarded_body, last_piece};
 ghost use Rattle.guard_form.specs.Pieces.{flat_units, no_unit, numbers_in};
 ghost use Rattle.flat_pieces.specs.Raising.{Raisable};
 ghost use Rattle.flow_calls.specs.Emitting.{indices};
+ghost use Rattle.unit_pieces.specs.Exits.{exit_of};
 ghost use Rattle.unit_pieces.specs.Fronts.{piece_behind, IsArm, IsFront, Ready, Stepped};
 ghost use Rattle.unit_pieces.specs.UnitView.{unit_in_front, units_of};
 
 use crate::calls::put_call;
 use crate::conditions::put_condition;
+use crate::exits::{ExitTo, at_call, inside_block, inside_loop};
 use crate::pieces::{Pieces, Unit};
+use flat_pieces::put_raised;
 use flow_calls::{Guards, put_guarded};
 use module_copy::copy_body;
 use std::alloc::AllocError;
@@ -37,26 +40,56 @@ fn next_piece(unit: &Unit) -> &[Instr]
     }
 }
 
-/// The guarded code of a piece and units inside so many constructs, of which the first numbered call has this number.
+/// Puts the piece behind a sequence's last unit, as the last thing.
+fn put_last(
+    guards: &Guards,
+    out: &mut Vec<Instr>,
+    exit: ExitTo,
+    piece: &[Instr],
+) -> Result<(), AllocError>
+    requires { Raisable 0 2 (code piece.now) }
+    ensures { OnOk result (code out.new.items ≡ onto out.old.items (last_piece (indices guards.now) (exit_of exit) (code piece.now))) }
+{
+    match exit {
+        ExitTo::End => {
+            put_guarded(guards, out, piece)?;
+            Ok(())
+        }
+        ExitTo::Label(_) => {
+            put_raised(guards.alloc, out, 0, piece)?;
+            Ok(())
+        }
+        ExitTo::Nowhere => {
+            put_raised(guards.alloc, out, 0, piece)?;
+            Ok(())
+        }
+    }
+}
+
+/// The guarded code of a piece and units with this exit inside so many constructs, of which the first numbered call has this number.
 #[cycle(write)]
 fn write_sequence(
     guards: &Guards,
+    exit: ExitTo,
     depth: u32,
     number: u32,
     first: &[Instr],
     units: &[Unit],
 ) -> Result<Sequence, AllocError>
-    requires { Ready depth number (code first.now) (units_of units.now) }
-    ensures { IfOk result (λ f. IsFront guards.now depth number (code first.now) (units_of units.now) f) }
+    requires { Ready (exit_of exit) depth number (code first.now) (units_of units.now) }
+    ensures { IfOk result (λ f. IsFront guards.now (exit_of exit) depth number (code first.now) (units_of units.now) f) }
 {
     let mut out = Vec::new(guards.alloc);
     let mut piece = first;
     let mut next = number;
+    let mut left = units.len();
     for unit in units {
-        next = put_unit(guards, &mut out, depth, next, piece, unit)?;
+        left -= 1;
+        let more = left > 0;
+        next = put_unit(guards, &mut out, exit, more, depth, next, piece, unit)?;
         piece = next_piece(unit);
     }
-    put_guarded(guards, &mut out, piece)?;
+    put_last(guards, &mut out, exit, piece)?;
     Ok(Sequence {
         code: out,
         number: next,
@@ -67,13 +100,14 @@ fn write_sequence(
 #[cycle(write)]
 fn write_arm(
     guards: &Guards,
+    exit: ExitTo,
     depth: u32,
     number: u32,
     first: &[Instr],
     units: &[Unit],
 ) -> Result<Sequence, AllocError>
-    requires { Ready depth number (code first.now) (units_of units.now) }
-    ensures { IfOk result (λ f. IsArm guards.now depth number (code first.now) (units_of units.now) f) }
+    requires { Ready (exit_of exit) depth number (code first.now) (units_of units.now) }
+    ensures { IfOk result (λ f. IsArm guards.now (exit_of exit) depth number (code first.now) (units_of units.now) f) }
 {
     if units.is_empty() {
         return Ok(Sequence {
@@ -81,22 +115,25 @@ fn write_arm(
             number,
         });
     }
-    let written = write_sequence(guards, depth, number, first, units)?;
+    let written = write_sequence(guards, exit, depth, number, first, units)?;
     Ok(written)
 }
 
-/// Puts a unit, and the piece in front of it, inside so many constructs; the number of the next numbered call.
+/// Puts a unit, with more behind it or none, and the piece in front of it, inside so many constructs; the number of the next
+/// numbered call.
 #[cycle(write)]
 fn put_unit(
     guards: &Guards,
     out: &mut Vec<Instr>,
+    exit: ExitTo,
+    more: bool,
     depth: u32,
     number: u32,
     piece: &[Instr],
     unit: &Unit,
 ) -> Result<u32, AllocError>
-    requires { Ready depth number (code piece.now) (unit_in_front unit.now no_unit) }
-    ensures { IfOk result (λ j. Stepped guards.now depth number out.old.items out.new.items piece.now unit.now j) }
+    requires { Ready (exit_of exit) depth number (code piece.now) (unit_in_front unit.now no_unit) }
+    ensures { IfOk result (λ j. Stepped guards.now (exit_of exit) more depth number out.old.items out.new.items piece.now unit.now j) }
 {
     match unit {
         Unit::Call {
@@ -105,14 +142,16 @@ fn put_unit(
             to,
             behind,
         } => {
+            let exit = at_call(exit, more);
             put_call(
-                guards, out, depth, number, piece, slots, *target, *to, behind,
+                guards, out, exit, depth, number, piece, slots, *target, *to, behind,
             )?;
             Ok(number + 1)
         }
         Unit::Block { first, body, .. } => {
             put_guarded(guards, out, piece)?;
-            let inner = write_sequence(guards, depth + 1, number, first, body)?;
+            let exit = inside_block(exit, more);
+            let inner = write_sequence(guards, exit, depth + 1, number, first, body)?;
             out.push(Instr::Block {
                 result: None,
                 body: inner.code,
@@ -121,7 +160,8 @@ fn put_unit(
         }
         Unit::Loop { first, body, .. } => {
             put_guarded(guards, out, piece)?;
-            let inner = write_sequence(guards, depth + 1, number, first, body)?;
+            let exit = inside_loop(exit, more);
+            let inner = write_sequence(guards, exit, depth + 1, number, first, body)?;
             out.push(Instr::Loop {
                 result: None,
                 body: inner.code,
@@ -136,8 +176,16 @@ fn put_unit(
             else_units,
             ..
         } => {
-            let then_arm = write_arm(guards, depth + 1, number, then_first, then_units)?;
-            let else_arm = write_arm(guards, depth + 1, then_arm.number, else_first, else_units)?;
+            let exit = inside_block(exit, more);
+            let then_arm = write_arm(guards, exit, depth + 1, number, then_first, then_units)?;
+            let else_arm = write_arm(
+                guards,
+                exit,
+                depth + 1,
+                then_arm.number,
+                else_first,
+                else_units,
+            )?;
             put_condition(
                 guards,
                 out,
@@ -163,8 +211,8 @@ fn put_unit(
 pub fn guarded_pieces(guards: &Guards, pieces: &Pieces) -> Result<Vec<Instr>, AllocError>
     requires labels { Raisable 0 2 (followed_by (code pieces.now.first.items) (flat_units (units_of pieces.now.units.items))) }
     requires few { numbers_in (units_of pieces.now.units.items) < 2 ^ 32 }
-    ensures { IfOk result (λ v. code v.items ≡ front (indices guards.now) 0 0 (code pieces.now.first.items) (units_of pieces.now.units.items)) }
+    ensures { IfOk result (λ v. code v.items ≡ guarded_body (indices guards.now) true (code pieces.now.first.items) (units_of pieces.now.units.items)) }
 {
-    let whole = write_sequence(guards, 0, 0, &pieces.first, &pieces.units)?;
+    let whole = write_sequence(guards, ExitTo::Nowhere, 0, 0, &pieces.first, &pieces.units)?;
     Ok(whole.code)
 }

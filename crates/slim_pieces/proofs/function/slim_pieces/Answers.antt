@@ -1,7 +1,7 @@
 use Rattle.std.proofs.Common.{refl, subst, sym, ◌∙◌}
 use Rattle.wa_model.specs.FlatView.{flat_func_of, stmts}
 use Rattle.slim_walk.specs.declared.stack.Walk.{Walk}
-use Rattle.slim_pieces.specs.Inside.{IsWritten, WrittenTold}
+use Rattle.slim_steps.specs.Inside.{IsWritten, WrittenTold}
 use Rattle.slim_pieces.proofs.FunctionLemmas.{function_slim}
 use Rattle.slim_pieces.proofs.function.slim_pieces.Goals as goal
 

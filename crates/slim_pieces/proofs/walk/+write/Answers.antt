@@ -6,12 +6,12 @@ use Rattle.wa_model.specs.declared.flat.Operand.TheVariants.{Local}
 use Rattle.wa_model.specs.Flat.{no_more, calls, nests, decides}
 use Rattle.wa_model.specs.FlatView.{stmt_in_front, stmts}
 use Rattle.flat_pieces.proofs.StmtLemmas.{block_is, call_is, if_is, loop_is}
-use Rattle.slim_pieces.specs.Coming.{Ready}
-use Rattle.slim_pieces.specs.Inside.{ConditionTold, InsideTold, Left, WrittenTold}
-use Rattle.slim_pieces.proofs.ConstructLemmas.{block_put, flushed_put, loop_put}
-use Rattle.slim_pieces.proofs.IfLemmas.{if_put}
-use Rattle.slim_pieces.proofs.InsideLemmas.{inside_is}
-use Rattle.slim_pieces.proofs.SingleLemmas.{put_as}
+use Rattle.slim_steps.specs.Coming.{Ready}
+use Rattle.slim_steps.specs.Inside.{ConditionTold, InsideTold, Left, WrittenTold}
+use Rattle.slim_steps.proofs.ConstructLemmas.{block_put, flushed_put, loop_put}
+use Rattle.slim_steps.proofs.IfLemmas.{if_put}
+use Rattle.slim_steps.proofs.InsideLemmas.{inside_is}
+use Rattle.slim_steps.proofs.SingleLemmas.{put_as}
 use Rattle.slim_pieces.proofs.WalkLemmas.{walked_start, walked_ready, walked_next, walked_end, one_lighter, nest_ready, weight}
 use Rattle.slim_pieces.proofs.walk.+write.Goals as goal
 

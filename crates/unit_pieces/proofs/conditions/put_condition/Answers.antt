@@ -1,4 +1,4 @@
-use Rattle.std.proofs.Common.{ap, Some, ◌∙◌}
+use Rattle.std.proofs.Common.{Some, ◌∙◌}
 use Rattle.wa_types.specs.declared.values.ValType.TheVariants.{I32}
 use Rattle.wa_types.specs.Syntax.{basic, branch, global_get, plain}
 use Rattle.wa_types.specs.View.{code, onto}

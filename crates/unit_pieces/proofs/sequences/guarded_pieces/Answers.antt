@@ -1,8 +1,6 @@
-use Rattle.std.proofs.Common.{ap, sym, ◌∙◌, ◌+◌, arith}
+use Rattle.std.proofs.Common.{true, ◌∙◌}
 use Rattle.wa_types.specs.View.{code}
-use Rattle.wa_model.specs.Flat.{followed_by}
-use Rattle.guard_form.specs.Guarded.{front}
-use Rattle.guard_form.specs.Pieces.{flat_units, numbers_in}
+use Rattle.guard_form.specs.Guarded.{guarded_body}
 use Rattle.flow_calls.specs.Emitting.{indices}
 use Rattle.unit_pieces.specs.UnitView.{units_of}
 use Rattle.unit_pieces.proofs.UnitLemmas.{whole_ready}
@@ -12,4 +10,4 @@ pub write_sequence-requires : goal.write_sequence-requires
 write_sequence-requires c = whole_ready _ _ _ _ c.deref.ensures.value c.deref-2.ensures.value c.requires.labels c.requires.few
 
 pub returns : goal.returns
-returns c = c.in_ok-whole.ensures.written ∙ (λ j. front (indices c.args.guards.now) 0 0 (code (c.deref.ensures.value j)) (units_of (c.deref-2.ensures.value j)))
+returns c = c.in_ok-whole.ensures.written ∙ (λ j. guarded_body (indices c.args.guards.now) true (code (c.deref.ensures.value j)) (units_of (c.deref-2.ensures.value j)))

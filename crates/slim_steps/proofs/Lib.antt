@@ -1,0 +1,11 @@
+pub mod CallLemmas
+pub mod ComingLemmas
+pub mod ConstructLemmas
+pub mod EndLemmas
+pub mod IfLemmas
+pub mod InsideLemmas
+pub mod NestLemmas
+pub mod PieceLemmas
+pub mod SequenceLemmas
+pub mod SingleLemmas
+pub mod UnitLemmas

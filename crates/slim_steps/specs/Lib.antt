@@ -1,0 +1,4 @@
+pub mod Coming
+pub mod Inside
+pub mod SequenceView
+pub mod Steps
