@@ -1,6 +1,6 @@
 //! Guesses at which operands stay. A wrong one costs the slim code of a function, and no more.
 
-use slim_walk::Walk;
+use slim_walk::{Walk, is_slot};
 use wa_model::{Operand, Stmt};
 use wa_types::ValType;
 
@@ -66,5 +66,38 @@ pub(crate) fn reads_again(at: &Walk, types: &[ValType], stmt: &Stmt, next: Optio
     match next {
         Some(next) => leaves(types, x, next),
         None => false,
+    }
+}
+
+/// This operand's slot, where it doesn't stand on the stack.
+fn absent(at: &Walk, operand: Operand) -> Option<u32> {
+    let Operand::Local(x) = operand else {
+        return None;
+    };
+    if !is_slot(at, x) || x < at.low {
+        return None;
+    }
+    let Some(place) = at.places.get((x - at.low) as usize) else {
+        return None;
+    };
+    if at.stack.get(*place).copied() == Some(x) {
+        return None;
+    }
+    Some(x)
+}
+
+/// The slot that is read behind a loop and doesn't stand on the stack before it: where the loop's end isn't reached, nothing has
+/// set it.
+pub(crate) fn taken_behind(at: &Walk, stmt: &Stmt, next: Option<&Stmt>) -> Option<u32> {
+    let Stmt::Loop(_) = stmt else {
+        return None;
+    };
+    match next {
+        Some(Stmt::Move { from, .. }) => absent(at, *from),
+        Some(Stmt::Plain { args, .. }) => match args.last().copied() {
+            Some(arg) => absent(at, arg),
+            None => None,
+        },
+        _ => None,
     }
 }

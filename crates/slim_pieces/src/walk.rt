@@ -10,10 +10,10 @@ ghost use Rattle.slim_steps.specs.Coming.{Ready};
 ghost use Rattle.slim_steps.specs.Inside.{InsideTold, WrittenTold};
 ghost use Rattle.slim_steps.specs.Steps.{Put};
 
-use crate::guesses::reads_again;
+use crate::guesses::{reads_again, taken_behind};
 use slim_steps::{
-    Sequence, Written, enter, finish, leave, put_block, put_call, put_if, put_loop, put_single,
-    stays, take_condition,
+    Sequence, Written, claim, enter, finish, leave, put_block, put_call, put_if, put_loop,
+    put_single, stays, take_condition, unreached,
 };
 use slim_walk::{Walk, flush};
 use std::alloc::AllocError;
@@ -46,7 +46,8 @@ pub(crate) fn write_sequence(
     for stmt in body {
         next += 1;
         let again = reads_again(at, types, stmt, body.get(next));
-        if !write_stmt(numbers, types, at, &mut all, stmt, again)? {
+        let behind = taken_behind(at, stmt, body.get(next));
+        if !write_stmt(numbers, types, at, &mut all, stmt, again, behind)? {
             return Ok(None);
         }
     }
@@ -54,7 +55,8 @@ pub(crate) fn write_sequence(
     Ok(Some(written))
 }
 
-/// The body of a construct, in front of which all slots are set. Those that its end leaves stay behind it where so told.
+/// The body of a construct, in front of which all slots are set. Those that its end leaves stay behind it where so told; where
+/// that isn't reached, a slot that is told counts as set.
 #[cycle(write)]
 fn write_inside(
     numbers: &[u32],
@@ -63,6 +65,7 @@ fn write_inside(
     body: &[Stmt],
     place: u32,
     kept: bool,
+    behind: Option<u32>,
 ) -> Result<Option<Written>, AllocError>
     requires rises { Rises numbers.now }
     requires good { Good at.old }
@@ -76,6 +79,12 @@ fn write_inside(
     };
     let left = stays(kept, &written);
     leave(at, outside, left);
+    let Some(slot) = unreached(kept, &written, behind) else {
+        return Ok(Some(written));
+    };
+    if !claim(at, slot)? {
+        return Ok(None);
+    }
     Ok(Some(written))
 }
 
@@ -88,6 +97,7 @@ fn write_stmt(
     all: &mut Sequence,
     stmt: &Stmt,
     again: bool,
+    behind: Option<u32>,
 ) -> Result<bool, AllocError>
     requires rises { Rises numbers.now }
     requires good { Good at.old }
@@ -106,7 +116,7 @@ fn write_stmt(
         } => put_call(numbers, at, all, op, stack, *args, *to),
         Stmt::Block(body) => {
             flush(at)?;
-            let Some(inner) = write_inside(numbers, types, at, body, all.place, false)? else {
+            let Some(inner) = write_inside(numbers, types, at, body, all.place, false, None)? else {
                 return Ok(false);
             };
             put_block(at, all, inner)?;
@@ -114,7 +124,8 @@ fn write_stmt(
         }
         Stmt::Loop(body) => {
             flush(at)?;
-            let Some(inner) = write_inside(numbers, types, at, body, all.place, true)? else {
+            let Some(inner) = write_inside(numbers, types, at, body, all.place, true, behind)?
+            else {
                 return Ok(false);
             };
             put_loop(at, all, inner)?;
@@ -154,10 +165,10 @@ fn write_if(
     let Some(direct) = take_condition(at, x)? else {
         return Ok(false);
     };
-    let Some(first) = write_inside(numbers, types, at, then_arm, all.place, false)? else {
+    let Some(first) = write_inside(numbers, types, at, then_arm, all.place, false, None)? else {
         return Ok(false);
     };
-    let Some(second) = write_inside(numbers, types, at, else_arm, first.place, false)? else {
+    let Some(second) = write_inside(numbers, types, at, else_arm, first.place, false, None)? else {
         return Ok(false);
     };
     put_if(at, all, x, direct, first, second)?;
