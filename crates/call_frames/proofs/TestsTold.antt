@@ -17,7 +17,7 @@ use Rattle.frame_laws.proofs.Walks.{walks}
 use Rattle.frame_laws.specs.Function.{KeptWithin}
 use Rattle.frame_laws.proofs.OneFunction.{within_of, within_on}
 use Rattle.frame_laws.proofs.SavedFrames.{sub_small}
-use Rattle.call_frames.specs.CallTests.{CallRow, at_call, at_most, row_test, row_test_size, row_size, RowsTell, SizeClass}
+use Rattle.call_frames.specs.CallTests.{at_call, at_most, row_test, row_test_size, row_size, RowsTell, SizeClass}
 use Rattle.call_frames.specs.CallTests.{size_told, classes_told, sizes_told, classes_cost, CallsTell, EitherTells, ElsewhereTells, ClassesTell, SizesTell}
 
 -- ---- numbers in a row

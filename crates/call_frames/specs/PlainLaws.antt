@@ -50,7 +50,7 @@ named_calls (at_these ks fs ∷ ps) = length ks + named_calls ps
 abbrev pub tests_cost : List SavedPart → ℕ
 tests_cost [] = 0
 tests_cost (at_every fs ∷ ps) = tests_cost ps
-tests_cost (at_these ks fs ∷ ps) = 3 * test_size ks + 18 + tests_cost ps
+tests_cost (at_these ks fs ∷ ps) = 3 * test_size ks + 15 + tests_cost ps
 
 -- The bound at call k counts all tests, and of the fields those that the call keeps.
 abbrev pub PlainFramesCost : Type 0
@@ -68,7 +68,7 @@ NamesCostLittle = (ps : List SavedPart) → NameCalls ps → tests_cost ps ≤ 2
 abbrev pub sizes_size : List SavedPart → ℕ
 sizes_size [] = 0
 sizes_size (at_every fs ∷ ps) = sizes_size ps
-sizes_size (at_these ks fs ∷ ps) = test_size ks + 5 + sizes_size ps
+sizes_size (at_these ks fs ∷ ps) = test_size ks + 3 + sizes_size ps
 
 -- the instructions that store parts, and as many load them
 abbrev pub parts_size : List SavedPart → ℕ
