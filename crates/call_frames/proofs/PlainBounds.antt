@@ -4,8 +4,8 @@ use Rattle.std.specs.Prelude.{None, if◌then◌else◌}
 use Rattle.wa_types.specs.declared.values.ValType.{ValType}
 use Rattle.wa_types.specs.declared.values.ValType.TheVariants.{I32, I64}
 use Rattle.wa_types.specs.Frames.{width}
-use Rattle.wa_types.specs.declared.operators.NumOp.TheVariants.{I32Or, I32Sub, I32LtU}
-use Rattle.wa_types.specs.Syntax.{num, global_get, load, basic, local_get, local_set, unreachable, Code, done, plain, branch}
+use Rattle.wa_types.specs.declared.operators.NumOp.TheVariants.{I32Or, I32Sub, I32GtU}
+use Rattle.wa_types.specs.Syntax.{num, global_get, load, basic, local_set, local_tee, unreachable, Code, done, plain, branch}
 use Rattle.wa_model.specs.Rewrites.{instructions_and_labels}
 use Rattle.local_spill.specs.Spilling.{stored_value, loaded_value, index_saved, location_of, location_raised}
 use Rattle.frame_laws.specs.Layout.{FrameField, kept, gap, fields_size, kept_count, stores, loads}
@@ -184,8 +184,8 @@ loaded_size index sp off (at_these ks fs ∷ ps) next =
 -- what stands behind the code of sizes
 abbrev pub behind_sizes : SavedParts → Code → Code
 behind_sizes f next =
-    plain (local_set f.scratch) (plain (basic (global_get f.address)) (plain (basic (load 0x28 2 4)) (location_of f.address (plain (basic (num I32Sub)) (plain (local_get f.scratch)
-    (plain (basic (num I32LtU)) (branch None (plain unreachable done) done (location_of f.address (plain (local_set f.scratch) (frame_stored_by_call (frames_of f) next))))))))))
+    plain (basic (global_get f.address)) (plain (basic (load 0x28 2 4)) (location_of f.address (plain (local_tee f.scratch) (plain (basic (num I32Sub))
+    (plain (basic (num I32GtU)) (branch None (plain unreachable done) done (frame_stored_by_call (frames_of f) next)))))))
 
 -- .. and behind the parts that are stored
 abbrev pub behind_parts : SavedParts → Code → Code

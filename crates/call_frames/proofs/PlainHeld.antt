@@ -3,7 +3,7 @@ use Rattle.std.proofs.Common.{◌≡◌, ◌≢◌, ℕ, Bool, true, false, nat_
 use Rattle.std.specs.Prelude.{if◌then◌else◌}
 use Rattle.std.proofs.lemmas.Bool.{ne_eqb}
 use Rattle.wa_types.specs.declared.operators.NumOp.{NumOp}
-use Rattle.wa_types.specs.declared.operators.NumOp.TheVariants.{I32Add, I32Sub, I32Mul, I32LeU, I32LtU, I32Eq, I32Or}
+use Rattle.wa_types.specs.declared.operators.NumOp.TheVariants.{I32Add, I32Sub, I32Mul, I32LeU, I32GtU, I32Eq, I32Or}
 use Rattle.wa_types.specs.declared.values.ValType.{ValType}
 use Rattle.wa_types.specs.declared.values.ValType.TheVariants.{I32, I64}
 use Rattle.wa_types.specs.declared.values.Value.TheVariants as V
@@ -148,17 +148,15 @@ module _ (f : SavedParts) (small : PlainSmall f) where
         let h0 = stays.got f.scratch s1 small.scratch (stays.got f.index s2 small.index (stays.stored I32 shared s3 (omega arith) h3)) in
         let stored : Code = frame_stored_by_call (frames_of f) done in
         let p = stored_has 0 f.parts (behind_parts f done) small.parts (omega arith) h0 in
-        let r5 : Code = location_of f.address (plain (local_set f.scratch) stored) in
-        let q = location_has P stays (plain (local_set f.scratch) stored) (stays.set f.scratch stored small.scratch p) in
-        let r4 : Code = plain (basic (num I32LtU)) (branch None (plain unreachable done) done r5) in
-        let r3 : Code = plain (local_get f.scratch) r4 in
+        let r4 : Code = branch None (plain unreachable done) done stored in
+        let r3 : Code = plain (basic (num I32GtU)) r4 in
         let r2 : Code = plain (basic (num I32Sub)) r3 in
-        let r1 : Code = location_of f.address r2 in
-        let h4 = stays.operator I32LtU (branch None (plain unreachable done) done r5) (branches (plain unreachable done) r5 stop q) in
-        let h2 = location_has P stays r2 (stays.operator I32Sub r3 (stays.got f.scratch r4 small.scratch h4)) in
-        let room = stays.global (loaded_value I32 4 r1) (stays.loaded I32 4 r1 (omega arith) h2) in
-        let r0 : Code = plain (basic (global_get f.address)) (loaded_value I32 4 r1) in
-        let sized = added_has f.parts (behind_sizes f done) small.parts (stays.set f.scratch r0 small.scratch room) in
+        let r1 : Code = plain (local_tee f.scratch) r2 in
+        let r0 : Code = location_of f.address r1 in
+        let h4 = stays.operator I32GtU r4 (branches (plain unreachable done) stored stop p) in
+        let h2 = location_has P stays r1 (stays.tee f.scratch r2 small.scratch (stays.operator I32Sub r3 h4)) in
+        let room = stays.global (loaded_value I32 4 r0) (stays.loaded I32 4 r0 (omega arith) h2) in
+        let sized = added_has f.parts (behind_sizes f done) small.parts room in
         stays.number (shared + 4) (sizes_added f.index f.parts (behind_sizes f done)) few sized
 
     pub restoring_has : P done → P (restoring_by_call (frames_of f) done)

@@ -1,10 +1,10 @@
 -- Frames that are plain data: their tests tell, and so does the code of their sizes.
 use Rattle.std.proofs.Common.{◌≡◌, ℕ, suc, ◌&&◌, sym, eqb-true, ◌+◌, ◌*◌, ◌^◌, ◌<◌, ◌≤◌, List, [], ◌∷◌}
 use Rattle.std.proofs.Common.{◌++◌, ◌%◌, Bool, true, false, nat_eq, refl, ap, ◌∙◌, subst, arith}
-use Rattle.std.specs.Prelude.{◌||◌, nat_le, if◌then◌else◌, slice_set}
+use Rattle.std.specs.Prelude.{◌||◌, nat_le, if◌then◌else◌}
 use Rattle.wa_types.specs.declared.values.Value.{Value}
 use Rattle.wa_types.specs.declared.values.Value.TheVariants as V
-use Rattle.wa_types.specs.Syntax.{local_set, Code, plain, Module}
+use Rattle.wa_types.specs.Syntax.{Code, Module}
 use Rattle.wa_ops.specs.Integers.{of_bool}
 use Rattle.wa_model.specs.Configuration.{Label, Activation, Configuration, running}
 use Rattle.wa_model.specs.Keeping.{keeps}
@@ -162,25 +162,21 @@ module _ (f : SavedParts) (g : ℕ) (area : Area) (p : Module) (fn : ℕ) (under
       within_on g area p _ _ _ (test_size ks + 3) (sizes_cost ps) _ a rest (omega arith)
 
   summed : (next : Code) → CallsSmall f.parts → frame_size (layout_at (frames_of f) k) < 2 ^ 32
-      → KeptWithin g area p (running s fn under ls [] (sizes_summed f next) labels) (2 + sizes_cost f.parts)
-      (running s fn under (slice_set ls f.scratch (V.I32 (frame_size (layout_at (frames_of f) k)))) [] next labels)
+      → KeptWithin g area p (running s fn under ls [] (sizes_summed f next) labels) (1 + sizes_cost f.parts) (at_sum (frame_size (layout_at (frames_of f) k)) next)
   summed next named small =
       let shared = shared_size (parts_of f.index f.parts) in
       let size = frame_size (layout_at (frames_of f) k) in
       let sum = sizes_at k (parts_of f.index f.parts) in
-      let set_ : Code = plain (local_set f.scratch) next in
-      let begin : Comes (keeps g area) p (running s fn under ls [] (sizes_summed f next) labels) 1 (at_sum (shared + 4) (sizes_added f.index f.parts set_)) =
+      let begin : Comes (keeps g area) p (running s fn under ls [] (sizes_summed f next) labels) 1 (at_sum (shared + 4) (sizes_added f.index f.parts next)) =
       walks (keeps g area) p 1 _ _ refl in
       let z : shared + 4 + own f.parts ≡ size = omega arith in
-      let rest = subst (λ n. KeptWithin g area p (at_sum (shared + 4) (sizes_added f.index f.parts set_)) (sizes_cost f.parts) (at_sum n set_)) z
-      (added (shared + 4) f.parts set_ named (omega arith)) in
-      let end : Comes (keeps g area) p (at_sum size set_) 1 (running s fn under (slice_set ls f.scratch (V.I32 size)) [] next labels) = walks (keeps g area) p 1 _ _ refl in
-      within_on g area p _ _ _ (1 + sizes_cost f.parts) 1 _ (within_on g area p _ _ _ 1 (sizes_cost f.parts) (1 + sizes_cost f.parts) (within_of g area p _ _ 1 begin) rest (omega arith))
-      (within_of g area p _ _ 1 end) (omega arith)
+      let rest = subst (λ n. KeptWithin g area p (at_sum (shared + 4) (sizes_added f.index f.parts next)) (sizes_cost f.parts) (at_sum n next)) z
+      (added (shared + 4) f.parts next named (omega arith)) in
+      within_on g area p _ _ _ 1 (sizes_cost f.parts) _ (within_of g area p _ _ 1 begin) rest (omega arith)
 
 pub tell_law : PlainFramesTell
 tell_law f apart many named small = record {
-  sizing = λ g area p fn under labels s ls k next few ix there. summed f g area p fn under labels s ls k few many ix next named (small k few);
+  sizing = λ g area p fn under labels s ls k next few ix. summed f g area p fn under labels s ls k few many ix next named (small k few);
   parts = parts_told f.count f.index f.parts many named;
   apart = apart;
 }

@@ -4,7 +4,7 @@ use Rattle.std.specs.Prelude.{slice_get}
 use Rattle.wa_types.specs.declared.values.ValType.{ValType}
 use Rattle.wa_types.specs.declared.values.ValType.TheVariants.{I32, I64}
 use Rattle.wa_types.specs.declared.values.Value.TheVariants as V
-use Rattle.wa_types.specs.declared.operators.NumOp.TheVariants.{I32Add, I32Sub, I32Mul, I32LeU, I32LtU, I32Eq, I32Or}
+use Rattle.wa_types.specs.declared.operators.NumOp.TheVariants.{I32Add, I32Sub, I32Mul, I32LeU, I32GtU, I32Eq, I32Or}
 use Rattle.wa_types.specs.Accesses.{load_row, store_row}
 use Rattle.wa_types.specs.Syntax.{const, num, global_get, basic, local_get, local_set, local_tee, unreachable, Code, done, plain, branch}
 use Rattle.wa_types.specs.Frames.{width}
@@ -83,7 +83,7 @@ module _ (c : Around) where
   ordering ls outs next ins h = (I32 ∷ ins, (ins, refl, refl), h)
 
   stopping : (ls : List (Option ValType)) (outs : List ValType) (next : Code) (ins : List ValType) → T ls next outs ins
-      → T ls (plain (basic (num I32LtU)) (branch None (plain unreachable done) done next)) outs (I32 ∷ I32 ∷ ins)
+      → T ls (plain (basic (num I32GtU)) (branch None (plain unreachable done) done next)) outs (I32 ∷ I32 ∷ ins)
   unfolding Types
   stopping ls outs next ins h = (I32 ∷ ins, (ins, refl, refl), (ins, refl, ([], ([], refl), refl), refl, h))
 
@@ -225,17 +225,14 @@ module _ (c : Around) where
         let h0 = getting ls outs f.scratch I32 s1 [] t.scratch (getting ls outs f.index I32 s2 (I32 ∷ []) t.index h2) in
         let p = stored_typed ls outs 0 f.parts (behind_parts f next) t.parts h0 in
         let stored : Code = frame_stored_by_call (frames_of f) next in
-        let q = location_typed ls outs (plain (local_set f.scratch) stored) [] (setting ls outs f.scratch I32 stored [] t.scratch p) in
-        let r5 : Code = location_of f.address (plain (local_set f.scratch) stored) in
-        let r4 : Code = plain (basic (num I32LtU)) (branch None (plain unreachable done) done r5) in
-        let r3 : Code = plain (local_get f.scratch) r4 in
+        let r3 : Code = plain (basic (num I32GtU)) (branch None (plain unreachable done) done stored) in
         let r2 : Code = plain (basic (num I32Sub)) r3 in
-        let r1 : Code = location_of f.address r2 in
-        let h3 = getting ls outs f.scratch I32 r4 (I32 ∷ []) t.scratch (stopping ls outs r5 [] q) in
-        let h1 = location_typed ls outs r2 (I32 ∷ []) (subtracting ls outs r3 [] h3) in
-        let room = global_got ls outs f.address (loaded_value I32 4 r1) [] t.address (loading ls outs I32 4 r1 [] t.memory h1) in
-        let r0 : Code = plain (basic (global_get f.address)) (loaded_value I32 4 r1) in
-        let sized = added_typed ls outs f.parts (behind_sizes f next) (setting ls outs f.scratch I32 r0 [] t.scratch room) in
+        let r1 : Code = plain (local_tee f.scratch) r2 in
+        let r0 : Code = location_of f.address r1 in
+        let h3 = subtracting ls outs r3 (I32 ∷ []) (stopping ls outs stored [] p) in
+        let h1 = location_typed ls outs r1 (I32 ∷ I32 ∷ []) (teeing ls outs f.scratch I32 r2 (I32 ∷ I32 ∷ []) t.scratch h3) in
+        let room = global_got ls outs f.address (loaded_value I32 4 r0) (I32 ∷ []) t.address (loading ls outs I32 4 r0 (I32 ∷ []) t.memory h1) in
+        let sized = added_typed ls outs f.parts (behind_sizes f next) room in
         constant ls outs (shared + 4) (sizes_added f.index f.parts (behind_sizes f next)) [] sized
 
     restore_typed : (ls : List (Option ValType)) (next : Code) (outs : List ValType) → T ls next outs []

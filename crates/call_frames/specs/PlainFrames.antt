@@ -3,7 +3,7 @@
 use Rattle.std.specs.Prelude.{◌<◌, ◌^◌, ℕ, suc, ◌+◌, List, [], ◌∷◌, ◌++◌, Bool, false, ◌||◌, nat_eq, if◌then◌else◌}
 use Rattle.wa_types.specs.declared.values.Value.TheVariants as V
 use Rattle.wa_types.specs.declared.operators.NumOp.TheVariants.{I32Add, I32Mul}
-use Rattle.wa_types.specs.Syntax.{const, num, basic, local_set, Code, plain}
+use Rattle.wa_types.specs.Syntax.{const, num, basic, Code, plain}
 use Rattle.frame_laws.specs.Layout.{FrameField, fields_size, frame_size}
 use Rattle.call_frames.specs.CallTests.{CallRow, at_either, at_row, row_size}
 use Rattle.call_frames.specs.FrameParts.{FramePart, at_all, at_some, shared_size, CallFrames, layout_at}
@@ -98,8 +98,7 @@ sizes_cost (at_these ks fs ∷ ps) = test_size ks + 3 + sizes_cost ps
 
 -- the size of what all calls keep, and then that of the call's own parts
 abbrev pub sizes_summed : SavedParts → Code → Code
-sizes_summed f next =
-    plain (basic (const (V.I32 (shared_size (parts_of f.index f.parts) + 4)))) (sizes_added f.index f.parts (plain (local_set f.scratch) next))
+sizes_summed f next = plain (basic (const (V.I32 (shared_size (parts_of f.index f.parts) + 4)))) (sizes_added f.index f.parts next)
 
 abbrev pub frames_of : SavedParts → CallFrames
 frames_of f = record {
@@ -108,7 +107,7 @@ frames_of f = record {
   index = f.index;
   scratch = f.scratch;
   sizing = λ next. sizes_summed f next;
-  sizing_cost = 2 + sizes_cost f.parts;
+  sizing_cost = 1 + sizes_cost f.parts;
   parts = parts_of f.index f.parts;
 }
 

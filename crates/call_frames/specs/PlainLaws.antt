@@ -56,7 +56,7 @@ tests_cost (at_these ks fs ∷ ps) = 3 * test_size ks + 15 + tests_cost ps
 abbrev pub PlainFramesCost : Type 0
 PlainFramesCost =
     (f : SavedParts) (k : ℕ)
-    → save_bound_at (frames_of f) k + restore_bound_at (frames_of f) k ≤ 32 + tests_cost f.parts + 6 * kept_count (call_fields k f.parts)
+    → save_bound_at (frames_of f) k + restore_bound_at (frames_of f) k ≤ 28 + tests_cost f.parts + 6 * kept_count (call_fields k f.parts)
 
 -- Tests cost at most 27 for each name.
 abbrev pub NamesCostLittle : Type 0
@@ -77,7 +77,7 @@ parts_size (at_every fs ∷ ps) = 3 * kept_count fs + parts_size ps
 parts_size (at_these ks fs ∷ ps) = test_size ks + 5 + 3 * kept_count fs + parts_size ps
 
 pub record PlainFramesSize : Type 0 where
-  pub saving : (f : SavedParts) → instructions_and_labels (saving_by_call (frames_of f) done) ≡ 22 + sizes_size f.parts + parts_size f.parts
+  pub saving : (f : SavedParts) → instructions_and_labels (saving_by_call (frames_of f) done) ≡ 18 + sizes_size f.parts + parts_size f.parts
   pub restoring : (f : SavedParts) → instructions_and_labels (restoring_by_call (frames_of f) done) ≡ 10 + parts_size f.parts
 
 -- ---- types

@@ -1,6 +1,8 @@
 //! Code that tells the size of the call's frame.
 
 ghost use Rattle.std.specs.Prelude.{◌≤◌, ◌∷◌, [], OnOk};
+ghost use Rattle.wa_types.specs.Syntax.{basic, const, plain};
+ghost use Rattle.wa_types.specs.declared.values.Value.TheVariants.{I32 as value_32};
 ghost use Rattle.call_frames.specs.PlainFrames.{sizes_added, weighed};
 ghost use Rattle.local_spill.specs.Putting.{Puts};
 ghost use Rattle.call_classes.specs.Classes.{FewParts, part_fields};
@@ -37,16 +39,27 @@ fn put_size_added(out: &mut Vec<Instr>, index: u32, part: &KeptPart) -> Result<(
 }
 
 /// Puts what adds the sizes of the call's own parts to the number on top.
-pub(crate) fn put_sizes_added(
-    out: &mut Vec<Instr>,
-    index: u32,
-    parts: &[KeptPart],
-) -> Result<(), AllocError>
+fn put_sizes_added(out: &mut Vec<Instr>, index: u32, parts: &[KeptPart]) -> Result<(), AllocError>
     requires { FewParts (part_views parts.now) }
     ensures { OnOk result (Puts out.old.items out.new.items (sizes_added index (part_views parts.now))) }
 {
     for part in parts {
         put_size_added(out, index, part)?;
     }
+    Ok(())
+}
+
+/// Puts what leaves the size of the call's frame on top, of which so many bytes are all calls'.
+pub(crate) fn put_size(
+    out: &mut Vec<Instr>,
+    index: u32,
+    shared: u32,
+    parts: &[KeptPart],
+) -> Result<(), AllocError>
+    requires { FewParts (part_views parts.now) }
+    ensures { OnOk result (Puts out.old.items out.new.items (λ c. plain (basic (const (value_32 shared))) (sizes_added index (part_views parts.now) c))) }
+{
+    out.push(Instr::Const(Value::I32(shared)))?;
+    put_sizes_added(out, index, parts)?;
     Ok(())
 }

@@ -1,14 +1,12 @@
 //! The codes that save and that restore the frames of a function.
 
-ghost use Rattle.std.specs.Prelude.{◌≡◌, ◌≤◌, ◌+◌, ℕ, IfOk, OnOk};
-ghost use Rattle.wa_types.specs.Syntax.{Code, basic, const, local_set, plain};
+ghost use Rattle.std.specs.Prelude.{◌≡◌, ◌≤◌, ◌+◌, ℕ, IfOk};
+ghost use Rattle.wa_types.specs.Syntax.{Code};
 ghost use Rattle.wa_types.specs.View.{onto};
-ghost use Rattle.wa_types.specs.declared.values.Value.TheVariants.{I32 as value_32};
 ghost use Rattle.call_frames.specs.FrameParts.{restoring_by_call, saving_by_call};
-ghost use Rattle.call_frames.specs.PlainFrames.{frames_of, sizes_added};
-ghost use Rattle.local_spill.specs.Putting.{Puts};
+ghost use Rattle.call_frames.specs.PlainFrames.{frames_of};
 ghost use Rattle.call_classes.specs.Classes.{FewParts};
-ghost use Rattle.call_classes.specs.Views.{part_views, parts_view, told_frames};
+ghost use Rattle.call_classes.specs.Views.{parts_view, told_frames};
 
 use crate::loading::put_parts_loaded;
 use crate::locating::{
@@ -16,28 +14,11 @@ use crate::locating::{
     put_location_raised, put_room_test,
 };
 use crate::putting::shared_of;
-use crate::sizing::put_sizes_added;
+use crate::sizing::put_size;
 use crate::storing::put_parts_stored;
-use call_classes::{FrameParts, KeptPart};
+use call_classes::FrameParts;
 use std::alloc::{AllocError, Global};
-use wa_types::{Instr, Value};
-
-/// Puts what sets the scratch local to the size of the call's frame, of which so many bytes are all calls'.
-fn put_size(
-    out: &mut Vec<Instr>,
-    index: u32,
-    scratch: u32,
-    shared: u32,
-    parts: &[KeptPart],
-) -> Result<(), AllocError>
-    requires { FewParts (part_views parts.now) }
-    ensures { OnOk result (Puts out.old.items out.new.items (λ c. plain (basic (const (value_32 shared))) (sizes_added index (part_views parts.now) (plain (local_set scratch) c)))) }
-{
-    out.push(Instr::Const(Value::I32(shared)))?;
-    put_sizes_added(out, index, parts)?;
-    out.push(Instr::LocalSet(scratch))?;
-    Ok(())
-}
+use wa_types::Instr;
 
 /// The code that saves the frame of the call that the index tells, at the location, which is raised to the frame's end. A frame that
 /// doesn't fit traps before anything is written. The call index is local `base`, and the scratch local stands behind it.
@@ -54,7 +35,7 @@ pub fn saving(
     let mut out = Vec::new(alloc);
     let scratch = base + 1;
     let shared = shared_of(&parts.parts);
-    put_size(&mut out, base, scratch, shared + 4, &parts.parts)?;
+    put_size(&mut out, base, shared + 4, &parts.parts)?;
     put_room_test(alloc, &mut out, address, scratch)?;
     put_parts_stored(alloc, &mut out, base, scratch, &parts.parts)?;
     put_index_saved(&mut out, base, scratch, shared)?;
