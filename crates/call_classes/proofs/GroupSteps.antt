@@ -185,7 +185,7 @@ two_maps f g (c ∷ cs) = ap (λ ps. g (f c) ∷ ps) (two_maps f g cs)
 
 -- ---- sizes
 
-pub one_length : (c : CallClass) → parts_length (class_part c ∷ []) ≡ 3 * (test_size c.calls.items + 5) + 6 * length c.fields.items
+pub one_length : (c : CallClass) → parts_length (class_part c ∷ []) ≡ 3 * test_size c.calls.items + 13 + 6 * length c.fields.items
 one_length c = let n = all_kept c.fields.items in omega (arith, n)
 
 length_join : (ps qs : List SavedPart) → parts_length (ps ++ qs) ≡ parts_length ps + parts_length qs

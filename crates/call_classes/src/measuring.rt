@@ -48,7 +48,7 @@ fn class_length(class: &CallClass) -> u64
     requires { parts_length (class_part class.now ∷ []) < 2 ^ 62 }
     ensures { result ≡ parts_length (class_part class.now ∷ []) }
 {
-    3 * (test_size(&class.calls) + 5) + 6 * class.fields.len() as u64
+    3 * test_size(&class.calls) + 13 + 6 * class.fields.len() as u64
 }
 
 /// The length of a part in both codes.
@@ -81,7 +81,7 @@ fn part_cost(part: &KeptPart) -> u64
 {
     match part {
         KeptPart::Every(_) => 0,
-        KeptPart::These(class) => 3 * test_size(&class.calls) + 18,
+        KeptPart::These(class) => 3 * test_size(&class.calls) + 15,
     }
 }
 

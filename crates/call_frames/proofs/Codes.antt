@@ -10,7 +10,7 @@ codes_law f k body result tell lt = record {
   puts = λ g area p fn under labels s ls loc ar fits h.
       let r = saves_law g area p fn under labels f s ls loc k done tell lt ar fits h in
       record { after = r.after; pushed = r.pushed; locals = r.locals; goes = r.goes };
-  overflows = λ g area p fn under labels s ls loc ar over h. overflows_law g area p fn under labels f s ls loc k done tell lt ar over h.index h.scratch;
+  overflows = λ g area p fn under labels s ls loc ar over h. overflows_law g area p fn under labels f s ls loc k done tell lt ar over h.index;
   takes = λ g area p fn under labels s old ls loc ar low holds living small size.
       let r = restores_law g area p fn under labels f s old ls loc k done tell lt ar low holds living.fields living.past_index small size
       (subst (λ n. f.scratch < n) (sym size) living.scratch) (subst (λ n. f.index < n) (sym size) living.index) in

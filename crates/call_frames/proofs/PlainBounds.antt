@@ -4,15 +4,15 @@ use Rattle.std.specs.Prelude.{None, if◌then◌else◌}
 use Rattle.wa_types.specs.declared.values.ValType.{ValType}
 use Rattle.wa_types.specs.declared.values.ValType.TheVariants.{I32, I64}
 use Rattle.wa_types.specs.Frames.{width}
-use Rattle.wa_types.specs.declared.operators.NumOp.TheVariants.{I32Or, I32Sub, I32LtU}
-use Rattle.wa_types.specs.Syntax.{num, global_get, load, basic, local_get, local_set, unreachable, Code, done, plain, branch}
+use Rattle.wa_types.specs.declared.operators.NumOp.TheVariants.{I32Or, I32Sub, I32GtU}
+use Rattle.wa_types.specs.Syntax.{num, global_get, load, basic, local_set, local_tee, unreachable, Code, done, plain, branch}
 use Rattle.wa_model.specs.Rewrites.{instructions_and_labels}
 use Rattle.local_spill.specs.Spilling.{stored_value, loaded_value, index_saved, location_of, location_raised}
 use Rattle.frame_laws.specs.Layout.{FrameField, kept, gap, fields_size, kept_count, stores, loads}
 use Rattle.call_frames.specs.CallTests.{CallRow, at_either, at_row, row_size, row_test, row_test_size}
 use Rattle.call_frames.specs.FrameParts.{parts_cost_at, shared_size, scratch_raised, scratch_lowered, parts_stored, parts_loaded, frame_stored_by_call, location_lowered}
 use Rattle.call_frames.specs.PlainFrames.{SavedPart, at_every, at_these, SavedParts, is_one_of, call_fields, onto_rows, rows_of, or_rows}
-use Rattle.call_frames.specs.PlainFrames.{at_rows, at_calls, joined_size, rows_size, test_size, parts_of, sizes_added, sizes_cost, frames_of}
+use Rattle.call_frames.specs.PlainFrames.{at_rows, at_calls, joined_size, rows_size, test_size, parts_of, weighed, sizes_added, sizes_cost, frames_of}
 use Rattle.call_frames.specs.PlainLaws.{tests_cost, PlainFramesCost, NamesCostLittle, sizes_size, parts_size, PlainFramesSize}
 
 -- ---- cost
@@ -74,8 +74,8 @@ parts_cost index k (at_every fs ∷ ps) =
 parts_cost index k (at_these ks fs ∷ ps) = by (is_one_of ks k) (parts_cost index k ps)
   where
     by : (b : Bool) → sizes_cost ps + 2 * parts_cost_at k (parts_of index ps) ≤ tests_cost ps + 6 * kept_count (call_fields k ps)
-        → test_size ks + 6 + sizes_cost ps + 2 * (test_size ks + (if b then 6 + 3 * kept_count fs else 2) + parts_cost_at k (parts_of index ps))
-        ≤ 3 * test_size ks + 18 + tests_cost ps + 6 * kept_count ((if b then fs else []) ++ call_fields k ps)
+        → test_size ks + 3 + sizes_cost ps + 2 * (test_size ks + (if b then 6 + 3 * kept_count fs else 2) + parts_cost_at k (parts_of index ps))
+        ≤ 3 * test_size ks + 15 + tests_cost ps + 6 * kept_count ((if b then fs else []) ++ call_fields k ps)
     by true ih = let j = join_count fs (call_fields k ps) in omega arith
     by false ih = omega arith
 
@@ -143,13 +143,13 @@ at_rows_size index (r ∷ rs) next = or_rows_size index rs (at_row index r) (row
 at_calls_size : (index : ℕ) (ks : List ℕ) (next : Code) → instructions_and_labels (at_calls index ks next) ≡ test_size ks + instructions_and_labels next
 at_calls_size index ks next = at_rows_size index (rows_of ks) next
 
-added_size : (index sp : ℕ) (ps : List SavedPart) (next : Code) → instructions_and_labels (sizes_added index sp ps next) ≡ sizes_size ps + instructions_and_labels next
+added_size : (index : ℕ) (ps : List SavedPart) (next : Code) → instructions_and_labels (sizes_added index ps next) ≡ sizes_size ps + instructions_and_labels next
 unfolding instructions_and_labels
-added_size index sp [] next = omega arith
-added_size index sp (at_every fs ∷ ps) next = added_size index sp ps next
-added_size index sp (at_these ks fs ∷ ps) next =
-    let ih = added_size index sp ps next in
-    let t = at_calls_size index ks (branch None (scratch_raised sp (fields_size fs) done) done (sizes_added index sp ps next)) in
+added_size index [] next = omega arith
+added_size index (at_every fs ∷ ps) next = added_size index ps next
+added_size index (at_these ks fs ∷ ps) next =
+    let ih = added_size index ps next in
+    let t = at_calls_size index ks (weighed (fields_size fs) (sizes_added index ps next)) in
     omega arith
 
 stored_size : (index sp off : ℕ) (ps : List SavedPart) (next : Code)
@@ -184,8 +184,8 @@ loaded_size index sp off (at_these ks fs ∷ ps) next =
 -- what stands behind the code of sizes
 abbrev pub behind_sizes : SavedParts → Code → Code
 behind_sizes f next =
-    plain (basic (global_get f.address)) (plain (basic (load 0x28 2 4)) (location_of f.address (plain (basic (num I32Sub)) (plain (local_get f.scratch)
-    (plain (basic (num I32LtU)) (branch None (plain unreachable done) done (location_of f.address (plain (local_set f.scratch) (frame_stored_by_call (frames_of f) next)))))))))
+    plain (basic (global_get f.address)) (plain (basic (load 0x28 2 4)) (location_of f.address (plain (local_tee f.scratch) (plain (basic (num I32Sub))
+    (plain (basic (num I32GtU)) (branch None (plain unreachable done) done (frame_stored_by_call (frames_of f) next)))))))
 
 -- .. and behind the parts that are stored
 abbrev pub behind_parts : SavedParts → Code → Code
@@ -198,7 +198,7 @@ unfolding instructions_and_labels
 size_law = record {
   saving = λ f.
       let s = stored_size f.index f.scratch 0 f.parts (behind_parts f done) in
-      let a = added_size f.index f.scratch f.parts (behind_sizes f done) in
+      let a = added_size f.index f.parts (behind_sizes f done) in
       omega arith;
   restoring = λ f.
       let l = loaded_size f.index f.scratch 0 f.parts (location_lowered f.address f.scratch done) in

@@ -3,7 +3,7 @@ use Rattle.std.proofs.Common.{◌≡◌, ◌≢◌, ℕ, Bool, true, false, nat_
 use Rattle.std.specs.Prelude.{if◌then◌else◌}
 use Rattle.std.proofs.lemmas.Bool.{ne_eqb}
 use Rattle.wa_types.specs.declared.operators.NumOp.{NumOp}
-use Rattle.wa_types.specs.declared.operators.NumOp.TheVariants.{I32Add, I32Sub, I32LeU, I32LtU, I32Eq, I32Or}
+use Rattle.wa_types.specs.declared.operators.NumOp.TheVariants.{I32Add, I32Sub, I32Mul, I32LeU, I32GtU, I32Eq, I32Or}
 use Rattle.wa_types.specs.declared.values.ValType.{ValType}
 use Rattle.wa_types.specs.declared.values.ValType.TheVariants.{I32, I64}
 use Rattle.wa_types.specs.declared.values.Value.TheVariants as V
@@ -17,7 +17,7 @@ use Rattle.local_spill.specs.Spilling.{stored_value, loaded_value, location_of}
 use Rattle.frame_laws.specs.Layout.{FrameField, kept, gap, fields_size, stores, loads}
 use Rattle.call_frames.specs.CallTests.{CallRow, at_call, at_either, at_most, at_row, row_test}
 use Rattle.call_frames.specs.FrameParts.{shared_size, scratch_raised, scratch_lowered, parts_stored, parts_loaded, frame_stored_by_call, frame_loaded_by_call, location_lowered, saving_by_call, restoring_by_call}
-use Rattle.call_frames.specs.PlainFrames.{SavedPart, at_every, at_these, SavedParts, rows_of, or_rows, at_rows, at_calls, parts_of, sizes_added, frames_of}
+use Rattle.call_frames.specs.PlainFrames.{SavedPart, at_every, at_these, SavedParts, rows_of, or_rows, at_rows, at_calls, parts_of, weighed, sizes_added, frames_of}
 use Rattle.call_frames.specs.PlainLaws.{FieldsSmall, NumbersSmall, PartsSmall, PlainSmall, PlainFramesDepth, PlainFramesHold}
 use Rattle.call_frames.proofs.PlainBounds.{behind_sizes, behind_parts}
 use Rattle.call_frames.proofs.PlainTold.{RowsSmall, rows_small}
@@ -95,14 +95,16 @@ module _ (f : SavedParts) (small : PlainSmall f) where
 
   module _ (P A : Code → Type 0) (stays : Stays f.address P) (inside : Stays f.address A) (empty : A done) (stop : A (plain unreachable done))
       (branches : (a c : Code) → A a → P c → P (branch None a done c)) where
-    added_has : (ps : List SavedPart) (c : Code) → PartsSmall shared ps → P c → P (sizes_added f.index f.scratch ps c)
+    added_has : (ps : List SavedPart) (c : Code) → PartsSmall shared ps → P c → P (sizes_added f.index ps c)
     added_has [] c lt h = h
     added_has (at_every fs ∷ ps) c lt h = added_has ps c lt.1 h
     added_has (at_these ks fs ∷ ps) c lt h =
         let room = lt.2 in
-        let arm : Code = scratch_raised f.scratch (fields_size fs) done in
-        let rest : Code = sizes_added f.index f.scratch ps c in
-        test_has P stays ks (branch None arm done rest) lt.0 (branches arm rest (moved_has A inside I32Add (fields_size fs) done (omega arith) empty) (added_has ps c lt.3 h))
+        let w = fields_size fs in
+        let rest : Code = sizes_added f.index ps c in
+        let r2 : Code = plain (basic (num I32Add)) rest in
+        test_has P stays ks (weighed w rest) lt.0
+        (stays.number w (plain (basic (num I32Mul)) r2) (omega arith) (stays.operator I32Mul r2 (stays.operator I32Add rest (added_has ps c lt.3 h))))
 
     stored_has : (off : ℕ) (ps : List SavedPart) (c : Code) → PartsSmall shared ps → off + shared_size (parts_of f.index ps) ≤ shared → P c
         → P (parts_stored f.scratch off (parts_of f.index ps) c)
@@ -146,18 +148,16 @@ module _ (f : SavedParts) (small : PlainSmall f) where
         let h0 = stays.got f.scratch s1 small.scratch (stays.got f.index s2 small.index (stays.stored I32 shared s3 (omega arith) h3)) in
         let stored : Code = frame_stored_by_call (frames_of f) done in
         let p = stored_has 0 f.parts (behind_parts f done) small.parts (omega arith) h0 in
-        let r5 : Code = location_of f.address (plain (local_set f.scratch) stored) in
-        let q = location_has P stays (plain (local_set f.scratch) stored) (stays.set f.scratch stored small.scratch p) in
-        let r4 : Code = plain (basic (num I32LtU)) (branch None (plain unreachable done) done r5) in
-        let r3 : Code = plain (local_get f.scratch) r4 in
+        let r4 : Code = branch None (plain unreachable done) done stored in
+        let r3 : Code = plain (basic (num I32GtU)) r4 in
         let r2 : Code = plain (basic (num I32Sub)) r3 in
-        let r1 : Code = location_of f.address r2 in
-        let h4 = stays.operator I32LtU (branch None (plain unreachable done) done r5) (branches (plain unreachable done) r5 stop q) in
-        let h2 = location_has P stays r2 (stays.operator I32Sub r3 (stays.got f.scratch r4 small.scratch h4)) in
-        let room = stays.global (loaded_value I32 4 r1) (stays.loaded I32 4 r1 (omega arith) h2) in
-        let sizes : Code = sizes_added f.index f.scratch f.parts (behind_sizes f done) in
+        let r1 : Code = plain (local_tee f.scratch) r2 in
+        let r0 : Code = location_of f.address r1 in
+        let h4 = stays.operator I32GtU r4 (branches (plain unreachable done) stored stop p) in
+        let h2 = location_has P stays r1 (stays.tee f.scratch r2 small.scratch (stays.operator I32Sub r3 h4)) in
+        let room = stays.global (loaded_value I32 4 r0) (stays.loaded I32 4 r0 (omega arith) h2) in
         let sized = added_has f.parts (behind_sizes f done) small.parts room in
-        stays.number (shared + 4) (plain (local_set f.scratch) sizes) few (stays.set f.scratch sizes small.scratch sized)
+        stays.number (shared + 4) (sizes_added f.index f.parts (behind_sizes f done)) few sized
 
     pub restoring_has : P done → P (restoring_by_call (frames_of f) done)
     restoring_has h =

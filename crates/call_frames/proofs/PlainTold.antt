@@ -1,28 +1,28 @@
 -- Frames that are plain data: their tests tell, and so does the code of their sizes.
-use Rattle.std.proofs.Common.{◌≡◌, ◌≢◌, ℕ, suc, ◌&&◌, sym, eqb-true, ◌+◌, ◌*◌, ◌^◌, ◌<◌, ◌≤◌, List, [], ◌∷◌}
-use Rattle.std.proofs.Common.{◌++◌, length, Bool, true, false, None, nat_eq, refl, ap, ◌∙◌, subst, arith, get_or-set_other, get_or-set_same, set-set}
-use Rattle.std.specs.Prelude.{◌||◌, nat_le, if◌then◌else◌, slice_set}
+use Rattle.std.proofs.Common.{◌≡◌, ℕ, suc, ◌&&◌, sym, eqb-true, ◌+◌, ◌*◌, ◌^◌, ◌<◌, ◌≤◌, List, [], ◌∷◌}
+use Rattle.std.proofs.Common.{◌++◌, ◌%◌, Bool, true, false, nat_eq, refl, ap, ◌∙◌, subst, arith}
+use Rattle.std.specs.Prelude.{◌||◌, nat_le, if◌then◌else◌}
 use Rattle.wa_types.specs.declared.values.Value.{Value}
 use Rattle.wa_types.specs.declared.values.Value.TheVariants as V
-use Rattle.wa_types.specs.Syntax.{Code, done, branch, Module}
+use Rattle.wa_types.specs.Syntax.{Code, Module}
 use Rattle.wa_ops.specs.Integers.{of_bool}
-use Rattle.wa_model.specs.Configuration.{Label, block_label, Activation, Configuration, running}
+use Rattle.wa_model.specs.Configuration.{Label, Activation, Configuration, running}
 use Rattle.wa_model.specs.Keeping.{keeps}
 use Rattle.wa_model.specs.Store.{Store, value_at}
 use Rattle.wa_model.specs.declared.answers.Area.{Area}
-use Rattle.wa_model.proofs.Alone.{Comes, none, on}
+use Rattle.wa_model.proofs.Alone.{Comes, none}
 use Rattle.frame_laws.proofs.Walks.{walks}
 use Rattle.frame_laws.specs.Function.{KeptWithin}
 use Rattle.frame_laws.specs.Layout.{fields_size, frame_size}
 use Rattle.frame_laws.proofs.OneFunction.{within_of, within_on}
+use Rattle.frame_laws.proofs.SavedFrames.{small_sum}
 use Rattle.call_frames.specs.ByCall.{PartsTell, TestTells}
 use Rattle.call_frames.specs.CallTests.{CallRow, at_either, at_row, in_row, row_size}
-use Rattle.call_frames.specs.FrameParts.{own_size, shared_size, layout_at, scratch_raised}
+use Rattle.call_frames.specs.FrameParts.{own_size, shared_size, layout_at}
 use Rattle.call_frames.specs.PlainFrames.{SavedPart, at_every, at_these, SavedParts, is_one_of, onto_rows, rows_of, or_rows, at_rows}
-use Rattle.call_frames.specs.PlainFrames.{at_calls, joined_size, rows_size, test_size, parts_of, sizes_added, sizes_cost, sizes_summed, frames_of}
+use Rattle.call_frames.specs.PlainFrames.{at_calls, joined_size, rows_size, test_size, parts_of, weighed, sizes_added, sizes_cost, sizes_summed, frames_of}
 use Rattle.call_frames.specs.PlainLaws.{CallsSmall, NumbersSmall, PartsSmall, PlainFramesTell, PlainFieldsAt}
 use Rattle.call_frames.proofs.FieldRows.{sizes_at}
-use Rattle.call_frames.proofs.SavedParts.{raises}
 use Rattle.call_frames.proofs.TestsTold.{either_law, longer_row, row_law, single_row}
 
 or_false : (b : Bool) → b ≡ (b || false)
@@ -120,80 +120,63 @@ fields_law index k (at_these js fs ∷ ps) = ap (λ rest. (if is_one_of js k the
 
 -- ---- sizes
 
-module _ (f : SavedParts) (apart : f.index ≢ f.scratch) (g : ℕ) (area : Area) (p : Module) (fn : ℕ) (under : List Activation) (labels : List Label) (s : Store) (ls : List Value) (k : ℕ)
-    (few : k < f.count) (many : f.count ≤ 2 ^ 32) (ix : value_at ls f.index ≡ V.I32 k) (there : f.scratch < length ls) where
-  abbrev with_size : ℕ → List Value
-  with_size n = slice_set ls f.scratch (V.I32 n)
+-- a number that is multiplied by 1 or by 0
+once : (n : ℕ) → n < 2 ^ 32 → (1 * n) % 2 ^ 32 ≡ n
+once n small = grind arith
 
-  abbrev at_size : ℕ → Code → Configuration
-  at_size n code = running s fn under (with_size n) [] code labels
+no_times : (n : ℕ) → (0 * n) % 2 ^ 32 ≡ 0
+no_times n = grind arith
+
+module _ (f : SavedParts) (g : ℕ) (area : Area) (p : Module) (fn : ℕ) (under : List Activation) (labels : List Label) (s : Store) (ls : List Value) (k : ℕ)
+    (few : k < f.count) (many : f.count ≤ 2 ^ 32) (ix : value_at ls f.index ≡ V.I32 k) where
+  abbrev at_sum : ℕ → Code → Configuration
+  at_sum n code = running s fn under ls (V.I32 n ∷ []) code labels
 
   abbrev own : List SavedPart → ℕ
   own ps = own_size k (parts_of f.index ps)
 
+  -- a test's 1 or 0, times a size, goes onto the number below
+  weigh : (b : Bool) (t w : ℕ) (code : Code) → t + (if b then w else 0) < 2 ^ 32
+      → Comes (keeps g area) p (running s fn under ls (V.I32 (of_bool b) ∷ V.I32 t ∷ []) (weighed w code) labels) 3 (at_sum (t + (if b then w else 0)) code)
+  weigh true t w code small =
+      let a : (t + (1 * w) % 2 ^ 32) % 2 ^ 32 ≡ t + w = ap (λ n. (t + n) % 2 ^ 32) (once w (omega (arith, small))) ∙ small_sum t w small in
+      subst (λ n. Comes (keeps g area) p (running s fn under ls (V.I32 1 ∷ V.I32 t ∷ []) (weighed w code) labels) 3 (at_sum n code)) a (walks (keeps g area) p 3 _ _ refl)
+  weigh false t w code small =
+      let a : (t + (0 * w) % 2 ^ 32) % 2 ^ 32 ≡ t + 0 = ap (λ n. (t + n) % 2 ^ 32) (no_times w) ∙ small_sum t 0 small in
+      subst (λ n. Comes (keeps g area) p (running s fn under ls (V.I32 0 ∷ V.I32 t ∷ []) (weighed w code) labels) 3 (at_sum n code)) a (walks (keeps g area) p 3 _ _ refl)
+
   added : (t : ℕ) (ps : List SavedPart) (next : Code) → CallsSmall ps → t + own ps < 2 ^ 32
-      → KeptWithin g area p (at_size t (sizes_added f.index f.scratch ps next)) (sizes_cost ps) (at_size (t + own ps) next)
+      → KeptWithin g area p (at_sum t (sizes_added f.index ps next)) (sizes_cost ps) (at_sum (t + own ps) next)
   added t [] next named small =
       let z : t ≡ t + 0 = omega arith in
-      subst (λ n. KeptWithin g area p (at_size t next) 0 (at_size n next)) z (within_of g area p _ _ 0 (none (keeps g area) p (at_size t next)))
+      subst (λ n. KeptWithin g area p (at_sum t next) 0 (at_sum n next)) z (within_of g area p _ _ 0 (none (keeps g area) p (at_sum t next)))
   added t (at_every fs ∷ ps) next named small = added t ps next named small
-  added t (at_these ks fs ∷ ps) next named small = by (is_one_of ks k) refl small (λ n h. added n ps next named.1 h)
-    where
-      code : Code
-      code = sizes_added f.index f.scratch ps next
-
-      arm : Code
-      arm = scratch_raised f.scratch (fields_size fs) done
-
-      after_test : Bool → Configuration
-      after_test b = running s fn under (with_size t) (V.I32 (of_bool b) ∷ []) (branch None arm done code) labels
-
-      here : value_at (with_size t) f.index ≡ V.I32 k
-      here = get_or-set_other ls f.scratch f.index (V.I32 t) (V.I32 0) apart ∙ ix
-
-      tested : (b : Bool) → is_one_of ks k ≡ b → KeptWithin g area p (at_size t (sizes_added f.index f.scratch (at_these ks fs ∷ ps) next)) (test_size ks) (after_test b)
-      tested b e = subst (λ x. KeptWithin g area p (at_size t (sizes_added f.index f.scratch (at_these ks fs ∷ ps) next)) (test_size ks) (after_test x)) e
-          (calls_told f.count f.index ks many named.0 g area p fn under labels s (with_size t) [] k (branch None arm done code) few here)
-
-      by : (b : Bool) → is_one_of ks k ≡ b → t + ((if b then fields_size fs else 0) + own ps) < 2 ^ 32
-          → ((n : ℕ) → n + own ps < 2 ^ 32 → KeptWithin g area p (at_size n code) (sizes_cost ps) (at_size (n + own ps) next))
-          → KeptWithin g area p (at_size t (sizes_added f.index f.scratch (at_these ks fs ∷ ps) next)) (test_size ks + 6 + sizes_cost ps)
-          (at_size (t + ((if b then fields_size fs else 0) + own ps)) next)
-      by false e h go =
-          let skip : Comes (keeps g area) p (after_test false) 2 (at_size t code) = walks (keeps g area) p 2 _ _ refl in
-          let a = within_on g area p _ _ _ (test_size ks) 2 (test_size ks + 6) (tested false e) (within_of g area p _ _ 2 skip) (omega arith) in
-          let z : t + own ps ≡ t + (0 + own ps) = omega arith in
-          let rest = subst (λ n. KeptWithin g area p (at_size t code) (sizes_cost ps) (at_size n next)) z (go t (omega (arith, h))) in
-          within_on g area p _ _ _ (test_size ks + 6) (sizes_cost ps) _ a rest (omega arith)
-      by true e h go =
-          let w = fields_size fs in
-          let lb : List Label = block_label 0 0 code done ∷ labels in
-          let enter : Comes (keeps g area) p (after_test true) 1 (running s fn under (with_size t) [] arm lb) = walks (keeps g area) p 1 _ _ refl in
-          let up = raises g area p fn under (frames_of f) k few apart s (with_size t) lb t w done (get_or-set_same ls f.scratch (V.I32 t) (V.I32 0) there) (omega (arith, h)) in
-          let raised : Comes (keeps g area) p (running s fn under (with_size t) [] arm lb) 4 (running s fn under (with_size (t + w)) [] done lb) =
-          subst (λ xs. Comes (keeps g area) p (running s fn under (with_size t) [] arm lb) 4 (running s fn under xs [] done lb)) (set-set ls f.scratch (V.I32 t) (V.I32 (t + w))) up in
-          let leave_ : Comes (keeps g area) p (running s fn under (with_size (t + w)) [] done lb) 1 (at_size (t + w) code) = walks (keeps g area) p 1 _ _ refl in
-          let walk = on (keeps g area) p 1 5 _ _ _ enter (on (keeps g area) p 4 1 _ _ _ raised leave_) in
-          let a = within_on g area p _ _ _ (test_size ks) 6 (test_size ks + 6) (tested true e) (within_of g area p _ _ 6 walk) (omega arith) in
-          let z : t + w + own ps ≡ t + (w + own ps) = omega arith in
-          let rest = subst (λ n. KeptWithin g area p (at_size (t + w) code) (sizes_cost ps) (at_size n next)) z (go (t + w) (omega (arith, h))) in
-          within_on g area p _ _ _ (test_size ks + 6) (sizes_cost ps) _ a rest (omega arith)
+  added t (at_these ks fs ∷ ps) next named small =
+      let w = fields_size fs in
+      let code : Code = sizes_added f.index ps next in
+      let mine = if is_one_of ks k then w else 0 in
+      let tested = calls_told f.count f.index ks many named.0 g area p fn under labels s ls (V.I32 t ∷ []) k (weighed w code) few ix in
+      let a = within_on g area p _ _ _ (test_size ks) 3 (test_size ks + 3) tested (within_of g area p _ _ 3 (weigh (is_one_of ks k) t w code (omega (arith, small)))) (omega arith) in
+      let z : t + mine + own ps ≡ t + (mine + own ps) = omega arith in
+      let rest = subst (λ n. KeptWithin g area p (at_sum (t + mine) code) (sizes_cost ps) (at_sum n next)) z (added (t + mine) ps next named.1 (omega (arith, small))) in
+      within_on g area p _ _ _ (test_size ks + 3) (sizes_cost ps) _ a rest (omega arith)
 
   summed : (next : Code) → CallsSmall f.parts → frame_size (layout_at (frames_of f) k) < 2 ^ 32
-      → KeptWithin g area p (running s fn under ls [] (sizes_summed f next) labels) (2 + sizes_cost f.parts) (at_size (frame_size (layout_at (frames_of f) k)) next)
+      → KeptWithin g area p (running s fn under ls [] (sizes_summed f next) labels) (1 + sizes_cost f.parts) (at_sum (frame_size (layout_at (frames_of f) k)) next)
   summed next named small =
       let shared = shared_size (parts_of f.index f.parts) in
+      let size = frame_size (layout_at (frames_of f) k) in
       let sum = sizes_at k (parts_of f.index f.parts) in
-      let begin : Comes (keeps g area) p (running s fn under ls [] (sizes_summed f next) labels) 2 (at_size (shared + 4) (sizes_added f.index f.scratch f.parts next)) =
-      walks (keeps g area) p 2 _ _ refl in
-      let z : shared + 4 + own f.parts ≡ frame_size (layout_at (frames_of f) k) = omega arith in
-      let rest = subst (λ n. KeptWithin g area p (at_size (shared + 4) (sizes_added f.index f.scratch f.parts next)) (sizes_cost f.parts) (at_size n next)) z
+      let begin : Comes (keeps g area) p (running s fn under ls [] (sizes_summed f next) labels) 1 (at_sum (shared + 4) (sizes_added f.index f.parts next)) =
+      walks (keeps g area) p 1 _ _ refl in
+      let z : shared + 4 + own f.parts ≡ size = omega arith in
+      let rest = subst (λ n. KeptWithin g area p (at_sum (shared + 4) (sizes_added f.index f.parts next)) (sizes_cost f.parts) (at_sum n next)) z
       (added (shared + 4) f.parts next named (omega arith)) in
-      within_on g area p _ _ _ 2 (sizes_cost f.parts) _ (within_of g area p _ _ 2 begin) rest (omega arith)
+      within_on g area p _ _ _ 1 (sizes_cost f.parts) _ (within_of g area p _ _ 1 begin) rest (omega arith)
 
 pub tell_law : PlainFramesTell
 tell_law f apart many named small = record {
-  sizing = λ g area p fn under labels s ls k next few ix there. summed f apart g area p fn under labels s ls k few many ix there next named (small k few);
+  sizing = λ g area p fn under labels s ls k next few ix. summed f g area p fn under labels s ls k few many ix next named (small k few);
   parts = parts_told f.count f.index f.parts many named;
   apart = apart;
 }

@@ -4,7 +4,7 @@ use Rattle.std.specs.Prelude.{slice_get}
 use Rattle.wa_types.specs.declared.values.ValType.{ValType}
 use Rattle.wa_types.specs.declared.values.ValType.TheVariants.{I32, I64}
 use Rattle.wa_types.specs.declared.values.Value.TheVariants as V
-use Rattle.wa_types.specs.declared.operators.NumOp.TheVariants.{I32Add, I32Sub, I32LeU, I32LtU, I32Eq, I32Or}
+use Rattle.wa_types.specs.declared.operators.NumOp.TheVariants.{I32Add, I32Sub, I32Mul, I32LeU, I32GtU, I32Eq, I32Or}
 use Rattle.wa_types.specs.Accesses.{load_row, store_row}
 use Rattle.wa_types.specs.Syntax.{const, num, global_get, basic, local_get, local_set, local_tee, unreachable, Code, done, plain, branch}
 use Rattle.wa_types.specs.Frames.{width}
@@ -14,7 +14,7 @@ use Rattle.frame_laws.specs.Layout.{FrameField, kept, gap, fields_size, stores, 
 use Rattle.frame_laws.specs.Typed.{FieldsTyped}
 use Rattle.call_frames.specs.CallTests.{CallRow, at_call, at_either, at_most, at_row, row_test}
 use Rattle.call_frames.specs.FrameParts.{shared_size, scratch_raised, scratch_lowered, parts_stored, parts_loaded, frame_stored_by_call, frame_loaded_by_call, location_lowered}
-use Rattle.call_frames.specs.PlainFrames.{SavedPart, at_every, at_these, SavedParts, rows_of, or_rows, at_rows, at_calls, parts_of, sizes_added, frames_of}
+use Rattle.call_frames.specs.PlainFrames.{SavedPart, at_every, at_these, SavedParts, rows_of, or_rows, at_rows, at_calls, parts_of, weighed, sizes_added, frames_of}
 use Rattle.call_frames.specs.PlainLaws.{PartsTyped, PlainTyped, PlainSaveTyped, PlainRestoreTyped}
 use Rattle.call_frames.proofs.PlainBounds.{behind_sizes, behind_parts}
 
@@ -66,6 +66,10 @@ module _ (c : Around) where
   unfolding Types
   adding ls outs next ins h = (I32 ∷ ins, (ins, refl, refl), h)
 
+  multiplying : (ls : List (Option ValType)) (outs : List ValType) (next : Code) (ins : List ValType) → T ls next outs (I32 ∷ ins) → T ls (plain (basic (num I32Mul)) next) outs (I32 ∷ I32 ∷ ins)
+  unfolding Types
+  multiplying ls outs next ins h = (I32 ∷ ins, (ins, refl, refl), h)
+
   joining : (ls : List (Option ValType)) (outs : List ValType) (next : Code) (ins : List ValType) → T ls next outs (I32 ∷ ins) → T ls (plain (basic (num I32Or)) next) outs (I32 ∷ I32 ∷ ins)
   unfolding Types
   joining ls outs next ins h = (I32 ∷ ins, (ins, refl, refl), h)
@@ -79,7 +83,7 @@ module _ (c : Around) where
   ordering ls outs next ins h = (I32 ∷ ins, (ins, refl, refl), h)
 
   stopping : (ls : List (Option ValType)) (outs : List ValType) (next : Code) (ins : List ValType) → T ls next outs ins
-      → T ls (plain (basic (num I32LtU)) (branch None (plain unreachable done) done next)) outs (I32 ∷ I32 ∷ ins)
+      → T ls (plain (basic (num I32GtU)) (branch None (plain unreachable done) done next)) outs (I32 ∷ I32 ∷ ins)
   unfolding Types
   stopping ls outs next ins h = (I32 ∷ ins, (ins, refl, refl), (ins, refl, ([], ([], refl), refl), refl, h))
 
@@ -122,12 +126,12 @@ module _ (c : Around) where
         (λ rest ins2 q. h (at_row f.index r (plain (basic (num I32Or)) rest)) ins2
         (at_row_typed ls outs r (plain (basic (num I32Or)) rest) (I32 ∷ ins2) (joining ls outs rest ins2 q))) next ins n
 
-    rows_typed : (ls : List (Option ValType)) (outs : List ValType) (rs : List CallRow) (next : Code) → T ls next outs (I32 ∷ []) → T ls (at_rows f.index rs next) outs []
-    rows_typed ls outs [] next n = constant ls outs 0 next [] n
-    rows_typed ls outs (r ∷ rs) next n = or_typed ls outs rs (at_row f.index r) (λ rest ins q. at_row_typed ls outs r rest ins q) next [] n
+    rows_typed : (ls : List (Option ValType)) (outs : List ValType) (rs : List CallRow) (next : Code) (ins : List ValType) → T ls next outs (I32 ∷ ins) → T ls (at_rows f.index rs next) outs ins
+    rows_typed ls outs [] next ins n = constant ls outs 0 next ins n
+    rows_typed ls outs (r ∷ rs) next ins n = or_typed ls outs rs (at_row f.index r) (λ rest ins2 q. at_row_typed ls outs r rest ins2 q) next ins n
 
-    test_typed : (ls : List (Option ValType)) (outs : List ValType) (ks : List ℕ) (next : Code) → T ls next outs (I32 ∷ []) → T ls (at_calls f.index ks next) outs []
-    test_typed ls outs ks next n = rows_typed ls outs (rows_of ks) next n
+    test_typed : (ls : List (Option ValType)) (outs : List ValType) (ks : List ℕ) (next : Code) (ins : List ValType) → T ls next outs (I32 ∷ ins) → T ls (at_calls f.index ks next) outs ins
+    test_typed ls outs ks next ins n = rows_typed ls outs (rows_of ks) next ins n
 
     -- ---- fields
 
@@ -173,7 +177,7 @@ module _ (c : Around) where
     stored_typed ls outs off (at_these ks fs ∷ ps) next h n =
         let arm : Code = stores f.scratch off fs (scratch_raised f.scratch (fields_size fs) done) in
         let rest : Code = parts_stored f.scratch off (parts_of f.index ps) next in
-        test_typed ls outs ks (branch None arm done rest) (branching ls outs arm rest
+        test_typed ls outs ks (branch None arm done rest) [] (branching ls outs arm rest
         (stores_typed (None ∷ ls) [] off fs (scratch_raised f.scratch (fields_size fs) done) h.0 (raised_typed (None ∷ ls) [] (fields_size fs) done (nothing (None ∷ ls))))
         (stored_typed ls outs off ps next h.1 n))
 
@@ -185,17 +189,19 @@ module _ (c : Around) where
     loaded_typed ls outs off (at_these ks fs ∷ ps) next h n =
         let arm : Code = scratch_lowered f.scratch (fields_size fs) (loads f.scratch off fs done) in
         loaded_typed ls outs off ps (at_calls f.index ks (branch None arm done next)) h.1
-        (test_typed ls outs ks (branch None arm done next) (branching ls outs arm next
+        (test_typed ls outs ks (branch None arm done next) [] (branching ls outs arm next
         (lowered_typed (None ∷ ls) [] (fields_size fs) (loads f.scratch off fs done) (loads_typed (None ∷ ls) [] off fs done h.0 (nothing (None ∷ ls)))) n))
 
-    added_typed : (ls : List (Option ValType)) (outs : List ValType) (ps : List SavedPart) (next : Code) → T ls next outs [] → T ls (sizes_added f.index f.scratch ps next) outs []
+    added_typed : (ls : List (Option ValType)) (outs : List ValType) (ps : List SavedPart) (next : Code) → T ls next outs (I32 ∷ []) → T ls (sizes_added f.index ps next) outs (I32 ∷ [])
     added_typed ls outs [] next n = n
     added_typed ls outs (at_every fs ∷ ps) next n = added_typed ls outs ps next n
     added_typed ls outs (at_these ks fs ∷ ps) next n =
-        let arm : Code = scratch_raised f.scratch (fields_size fs) done in
-        let rest : Code = sizes_added f.index f.scratch ps next in
-        test_typed ls outs ks (branch None arm done rest)
-        (branching ls outs arm rest (raised_typed (None ∷ ls) [] (fields_size fs) done (nothing (None ∷ ls))) (added_typed ls outs ps next n))
+        let w = fields_size fs in
+        let rest : Code = sizes_added f.index ps next in
+        let r2 : Code = plain (basic (num I32Add)) rest in
+        let r1 : Code = plain (basic (num I32Mul)) r2 in
+        test_typed ls outs ks (weighed w rest) (I32 ∷ [])
+        (constant ls outs w r1 (I32 ∷ I32 ∷ []) (multiplying ls outs r2 (I32 ∷ []) (adding ls outs rest [] (added_typed ls outs ps next n))))
 
     -- ---- whole codes
 
@@ -203,7 +209,7 @@ module _ (c : Around) where
     location_typed ls outs next ins h = global_got ls outs f.address (loaded_value I32 0 next) ins t.address (loading ls outs I32 0 next ins t.memory h)
 
     save_typed : (ls : List (Option ValType)) (next : Code) (outs : List ValType) → T ls next outs []
-        → T ls (plain (basic (const (V.I32 (shared_size (parts_of f.index f.parts) + 4)))) (plain (local_set f.scratch) (sizes_added f.index f.scratch f.parts (behind_sizes f next)))) outs []
+        → T ls (plain (basic (const (V.I32 (shared_size (parts_of f.index f.parts) + 4)))) (sizes_added f.index f.parts (behind_sizes f next))) outs []
     save_typed ls next outs n =
         let shared = shared_size (parts_of f.index f.parts) in
         let s7 : Code = stored_value I32 0 next in
@@ -219,18 +225,15 @@ module _ (c : Around) where
         let h0 = getting ls outs f.scratch I32 s1 [] t.scratch (getting ls outs f.index I32 s2 (I32 ∷ []) t.index h2) in
         let p = stored_typed ls outs 0 f.parts (behind_parts f next) t.parts h0 in
         let stored : Code = frame_stored_by_call (frames_of f) next in
-        let q = location_typed ls outs (plain (local_set f.scratch) stored) [] (setting ls outs f.scratch I32 stored [] t.scratch p) in
-        let r5 : Code = location_of f.address (plain (local_set f.scratch) stored) in
-        let r4 : Code = plain (basic (num I32LtU)) (branch None (plain unreachable done) done r5) in
-        let r3 : Code = plain (local_get f.scratch) r4 in
+        let r3 : Code = plain (basic (num I32GtU)) (branch None (plain unreachable done) done stored) in
         let r2 : Code = plain (basic (num I32Sub)) r3 in
-        let r1 : Code = location_of f.address r2 in
-        let h3 = getting ls outs f.scratch I32 r4 (I32 ∷ []) t.scratch (stopping ls outs r5 [] q) in
-        let h1 = location_typed ls outs r2 (I32 ∷ []) (subtracting ls outs r3 [] h3) in
-        let room = global_got ls outs f.address (loaded_value I32 4 r1) [] t.address (loading ls outs I32 4 r1 [] t.memory h1) in
+        let r1 : Code = plain (local_tee f.scratch) r2 in
+        let r0 : Code = location_of f.address r1 in
+        let h3 = subtracting ls outs r3 (I32 ∷ []) (stopping ls outs stored [] p) in
+        let h1 = location_typed ls outs r1 (I32 ∷ I32 ∷ []) (teeing ls outs f.scratch I32 r2 (I32 ∷ I32 ∷ []) t.scratch h3) in
+        let room = global_got ls outs f.address (loaded_value I32 4 r0) (I32 ∷ []) t.address (loading ls outs I32 4 r0 (I32 ∷ []) t.memory h1) in
         let sized = added_typed ls outs f.parts (behind_sizes f next) room in
-        constant ls outs (shared + 4) (plain (local_set f.scratch) (sizes_added f.index f.scratch f.parts (behind_sizes f next))) []
-        (setting ls outs f.scratch I32 (sizes_added f.index f.scratch f.parts (behind_sizes f next)) [] t.scratch sized)
+        constant ls outs (shared + 4) (sizes_added f.index f.parts (behind_sizes f next)) [] sized
 
     restore_typed : (ls : List (Option ValType)) (next : Code) (outs : List ValType) → T ls next outs []
         → T ls (location_of f.address (plain (basic (const (V.I32 (shared_size (parts_of f.index f.parts) + 4)))) (plain (basic (num I32Sub))

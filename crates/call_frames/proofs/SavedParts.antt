@@ -1,13 +1,13 @@
 -- Parts of a frame are stored, and whole frames saved.
 use Rattle.std.proofs.Common.{◌≡◌, ◌≢◌, ℕ, ◌+◌, ◌-◌, ◌*◌, ◌^◌, ◌<◌, ◌≤◌, ◌⊎◌, List, [], ◌∷◌, ◌++◌, length, Bool, true, false, None, refl, ap, ◌∙◌, subst, arith, ⊎_elim, get_or-set_other, get_or-set_same, length-set}
 use Rattle.std.specs.Prelude.{if◌then◌else◌, nat_lt, slice_set}
-use Rattle.wa_types.specs.declared.operators.NumOp.TheVariants.{I32Add, I32Sub, I32LtU}
+use Rattle.wa_types.specs.declared.operators.NumOp.TheVariants.{I32Add, I32Sub, I32GtU}
 use Rattle.wa_types.specs.declared.values.ValType.TheVariants.{I32}
 use Rattle.wa_types.specs.declared.values.Value.{Value}
 use Rattle.wa_types.specs.declared.values.Value.TheVariants as V
 use Rattle.wa_types.specs.Frames.{word, HoldsBytes}
 use Rattle.wa_types.specs.Memory.{bytes_at, overwritten}
-use Rattle.wa_types.specs.Syntax.{const, num, global_get, basic, local_get, local_set, unreachable, Code, done, plain, branch, Module}
+use Rattle.wa_types.specs.Syntax.{const, num, global_get, basic, local_get, local_set, local_tee, unreachable, Code, done, plain, branch, Module}
 use Rattle.wa_types.proofs.MemoryLemmas.{length-overwritten, bytes_at-overwritten, bytes_at-overwritten_below, bytes_at-overwritten_behind}
 use Rattle.wa_ops.specs.Integers.{of_bool}
 use Rattle.wa_model.specs.Configuration.{Label, block_label, Activation, Configuration, running}
@@ -195,13 +195,17 @@ module _ (g : ℕ) (area : Area) (p : Module) (fn : ℕ) (under : List Activatio
   total = frame_size (layout_at f k)
 
   abbrev room_code : Code → Code
-  room_code next = plain (basic (global_get f.address)) (loaded_value I32 4 (location_of f.address (plain (basic (num I32Sub)) (plain (local_get f.scratch)
-      (plain (basic (num I32LtU)) (branch None (plain unreachable done) done next))))))
+  room_code next = plain (basic (global_get f.address)) (loaded_value I32 4 (location_of f.address (plain (local_tee f.scratch) (plain (basic (num I32Sub))
+      (plain (basic (num I32GtU)) (branch None (plain unreachable done) done next))))))
 
-  room_tested : (s : Store) (ls : List Value) (labels : List Label) (loc : ℕ) (next : Code) → AreaAt f.address area s loc → value_at ls f.scratch ≡ V.I32 total
-      → C (at_code s ls (room_code next) labels) 7
-      (running s fn under ls (V.I32 (of_bool (nat_lt (area.at + area.len - loc) total)) ∷ []) (branch None (plain unreachable done) done next) labels)
-  room_tested s ls labels loc next ar e =
+  -- the scratch local, which becomes the location
+  abbrev located : (loc : ℕ) → List Value → List Value
+  located loc ls = slice_set ls f.scratch (V.I32 loc)
+
+  room_tested : (s : Store) (ls : List Value) (labels : List Label) (loc : ℕ) (next : Code) → AreaAt f.address area s loc
+      → C (running s fn under ls (V.I32 total ∷ []) (room_code next) labels) 7
+      (running s fn under (located loc ls) (V.I32 (of_bool (nat_lt (area.at + area.len - loc) total)) ∷ []) (branch None (plain unreachable done) done next) labels)
+  room_tested s ls labels loc next ar =
       let low = ar.low in
       let high = ar.high in
       let inside = ar.inside in
@@ -209,53 +213,52 @@ module _ (g : ℕ) (area : Area) (p : Module) (fn : ℕ) (under : List Activatio
       let end = area.at + area.len in
       let l = layout_at f k in
       let c7 : Code = branch None (plain unreachable done) done next in
-      let c6 : Code = plain (basic (num I32LtU)) c7 in
-      let c5 : Code = plain (local_get f.scratch) c6 in
-      let c4 : Code = plain (basic (num I32Sub)) c5 in
+      let c6 : Code = plain (basic (num I32GtU)) c7 in
+      let c5 : Code = plain (basic (num I32Sub)) c6 in
+      let c4 : Code = plain (local_tee f.scratch) c5 in
       let c3 : Code = loaded_value I32 0 c4 in
+      let ls1 = located loc ls in
+      let size : List Value = V.I32 total ∷ [] in
       let c2 : Code = plain (basic (global_get f.address)) c3 in
       let c1 : Code = loaded_value I32 4 c2 in
       let z : area.at ≡ area.at + 0 = omega arith in
-      let a1 = get_global g area p fn under l s ls [] labels f.address (V.I32 area.at) c1 ar.address in
-      let a2 = load_value g area p fn under s ls [] labels area.at 4 (V.I32 end) I32 c2 refl (omega arith) ar.limit (omega arith) in
-      let a3 = get_global g area p fn under l s ls (V.I32 end ∷ []) labels f.address (V.I32 area.at) c3 ar.address in
-      let a4 = load_value g area p fn under s ls (V.I32 end ∷ []) labels area.at 0 (V.I32 loc) I32 c4 refl (omega arith) (subst (λ a. HoldsBytes s.memory a (word loc)) z ar.location) (omega arith) in
-      let a5 : C (running s fn under ls (V.I32 loc ∷ V.I32 end ∷ []) c4 labels) 1 (running s fn under ls (V.I32 (end - loc) ∷ []) c5 labels) =
-      subst (λ n. C (running s fn under ls (V.I32 loc ∷ V.I32 end ∷ []) c4 labels) 1 (running s fn under ls (V.I32 n ∷ []) c5 labels)) (sub_small end loc high (omega arith))
+      let a1 = get_global g area p fn under l s ls size labels f.address (V.I32 area.at) c1 ar.address in
+      let a2 = load_value g area p fn under s ls size labels area.at 4 (V.I32 end) I32 c2 refl (omega arith) ar.limit (omega arith) in
+      let a3 = get_global g area p fn under l s ls (V.I32 end ∷ size) labels f.address (V.I32 area.at) c3 ar.address in
+      let a4 = load_value g area p fn under s ls (V.I32 end ∷ size) labels area.at 0 (V.I32 loc) I32 c4 refl (omega arith) (subst (λ a. HoldsBytes s.memory a (word loc)) z ar.location) (omega arith) in
+      let a5 : C (running s fn under ls (V.I32 loc ∷ V.I32 end ∷ size) c4 labels) 1 (running s fn under ls1 (V.I32 loc ∷ V.I32 end ∷ size) c5 labels) =
+      walks (keeps g area) p 1 _ _ refl in
+      let a6 : C (running s fn under ls1 (V.I32 loc ∷ V.I32 end ∷ size) c5 labels) 1 (running s fn under ls1 (V.I32 (end - loc) ∷ size) c6 labels) =
+      subst (λ n. C (running s fn under ls1 (V.I32 loc ∷ V.I32 end ∷ size) c5 labels) 1 (running s fn under ls1 (V.I32 n ∷ size) c6 labels)) (sub_small end loc high (omega arith))
       (walks (keeps g area) p 1 _ _ refl) in
-      let a6 = get_local g area p fn under l s ls (V.I32 (end - loc) ∷ []) labels f.scratch (V.I32 total) c6 e in
-      let a7 : C (running s fn under ls (V.I32 total ∷ V.I32 (end - loc) ∷ []) c6 labels) 1 (running s fn under ls (V.I32 (of_bool (nat_lt (end - loc) total)) ∷ []) c7 labels) =
+      let a7 : C (running s fn under ls1 (V.I32 (end - loc) ∷ size) c6 labels) 1 (running s fn under ls1 (V.I32 (of_bool (nat_lt (end - loc) total)) ∷ []) c7 labels) =
       walks (keeps g area) p 1 _ _ refl in
       on (keeps g area) p 1 6 _ _ _ a1 (on (keeps g area) p 1 5 _ _ _ a2
       (on (keeps g area) p 1 4 _ _ _ a3 (on (keeps g area) p 1 3 _ _ _ a4 (on (keeps g area) p 1 2 _ _ _ a5 (on (keeps g area) p 1 1 _ _ _ a6 a7)))))
 
   module _ (tell : FramesTell f) where
-    -- the local of the index, and the size
-    abbrev sized : List Value → List Value
-    sized ls = slice_set ls f.scratch (V.I32 total)
-
     abbrev behind_test : Code → Code
-    behind_test next = location_of f.address (plain (local_set f.scratch) (frame_stored_by_call f next))
+    behind_test next = frame_stored_by_call f next
 
-    to_test : (s : Store) (ls : List Value) (labels : List Label) (loc : ℕ) (next : Code) (b : Bool) → AreaAt f.address area s loc → value_at ls f.index ≡ V.I32 k → f.scratch < length ls
+    to_test : (s : Store) (ls : List Value) (labels : List Label) (loc : ℕ) (next : Code) (b : Bool) → AreaAt f.address area s loc → value_at ls f.index ≡ V.I32 k
         → nat_lt (area.at + area.len - loc) total ≡ b
         → W (at_code s ls (saving_by_call f next) labels) (f.sizing_cost + 7)
-        (running s fn under (sized ls) (V.I32 (of_bool b) ∷ []) (branch None (plain unreachable done) done (behind_test next)) labels)
-    to_test s ls labels loc next b ar ix lt e =
-        let a = tell.sizing g area p fn under labels s ls k (room_code (behind_test next)) few ix lt in
-        let t = room_tested s (sized ls) labels loc (behind_test next) ar (get_or-set_same ls f.scratch (V.I32 total) (V.I32 0) lt) in
-        let t2 = subst (λ x. C (at_code s (sized ls) (room_code (behind_test next)) labels) 7
-        (running s fn under (sized ls) (V.I32 (of_bool x) ∷ []) (branch None (plain unreachable done) done (behind_test next)) labels)) e t in
+        (running s fn under (located loc ls) (V.I32 (of_bool b) ∷ []) (branch None (plain unreachable done) done (behind_test next)) labels)
+    to_test s ls labels loc next b ar ix e =
+        let a = tell.sizing g area p fn under labels s ls k (room_code (behind_test next)) few ix in
+        let t = room_tested s ls labels loc (behind_test next) ar in
+        let t2 = subst (λ x. C (running s fn under ls (V.I32 total ∷ []) (room_code (behind_test next)) labels) 7
+        (running s fn under (located loc ls) (V.I32 (of_bool x) ∷ []) (branch None (plain unreachable done) done (behind_test next)) labels)) e t in
         within_on g area p _ _ _ f.sizing_cost 7 _ a (within_of g area p _ _ 7 t2) (omega arith)
 
     overflows : (s : Store) (ls : List Value) (labels : List Label) (loc : ℕ) (next : Code) → AreaAt f.address area s loc → area.at + area.len < loc + total → value_at ls f.index ≡ V.I32 k
-        → f.scratch < length ls → TrapsAt g area p (at_code s ls (saving_by_call f next) labels) (save_bound_at f k) s
-    overflows s ls labels loc next ar over ix lt =
+        → TrapsAt g area p (at_code s ls (saving_by_call f next) labels) (save_bound_at f k) s
+    overflows s ls labels loc next ar over ix =
         let high = ar.high in
         let q : nat_lt (area.at + area.len - loc) total ≡ true = grind arith in
-        let a = to_test s ls labels loc next true ar ix lt q in
-        let there = at_code s (sized ls) (plain unreachable done) (block_label 0 0 (behind_test next) done ∷ labels) in
-        let b : C (running s fn under (sized ls) (V.I32 1 ∷ []) (branch None (plain unreachable done) done (behind_test next)) labels) 1 there = walks (keeps g area) p 1 _ _ refl in
+        let a = to_test s ls labels loc next true ar ix q in
+        let there = at_code s (located loc ls) (plain unreachable done) (block_label 0 0 (behind_test next) done ∷ labels) in
+        let b : C (running s fn under (located loc ls) (V.I32 1 ∷ []) (branch None (plain unreachable done) done (behind_test next)) labels) 1 there = walks (keeps g area) p 1 _ _ refl in
         let w = within_on g area p _ _ _ (f.sizing_cost + 7) 1 (save_bound_at f k) a (within_of g area p _ _ 1 b) (omega arith) in
         record { cost = w.cost; within = w.within; at = there; goes = w.goes; traps_there = refl }
 
@@ -273,23 +276,14 @@ module _ (g : ℕ) (area : Area) (p : Module) (fn : ℕ) (under : List Activatio
         let r = fields_size fields in
         let sum = sizes_at k f.parts in
         let q : nat_lt (area.at + area.len - loc) total ≡ false = grind arith in
-        let head = to_test s ls labels loc next false ar sv.index sv.scratch q in
-        let ls0 = sized ls in
-        let ls1 = slice_set ls0 f.scratch (V.I32 loc) in
-        let n0 : length ls0 ≡ length ls = length-set ls f.scratch (V.I32 total) in
-        let n1 : length ls1 ≡ length ls0 = length-set ls0 f.scratch (V.I32 loc) in
+        let head = to_test s ls labels loc next false ar sv.index q in
+        let ls1 = located loc ls in
+        let n1 : length ls1 ≡ length ls = length-set ls f.scratch (V.I32 loc) in
         let lt = sv.scratch in
-        let same1 : (x : ℕ) → x ≢ f.scratch → value_at ls1 x ≡ value_at ls x =
-        λ x ne. get_or-set_other ls0 f.scratch x (V.I32 loc) (V.I32 0) ne ∙ get_or-set_other ls f.scratch x (V.I32 total) (V.I32 0) ne in
-        let z : area.at ≡ area.at + 0 = omega arith in
+        let same1 : (x : ℕ) → x ≢ f.scratch → value_at ls1 x ≡ value_at ls x = λ x ne. get_or-set_other ls f.scratch x (V.I32 loc) (V.I32 0) ne in
         let z0 : loc + 0 ≡ loc = omega arith in
-        let c2 : Code = plain (local_set f.scratch) (frame_stored_by_call f next) in
-        let b1 : C (running s fn under ls0 (V.I32 0 ∷ []) (branch None (plain unreachable done) done (behind_test next)) labels) 2 (at_code s ls0 (behind_test next) labels) =
+        let begin : C (running s fn under ls1 (V.I32 0 ∷ []) (branch None (plain unreachable done) done (behind_test next)) labels) 2 (at_code s ls1 (frame_stored_by_call f next) labels) =
         walks (keeps g area) p 2 _ _ refl in
-        let b2 = get_global g area p fn under l s ls0 [] labels f.address (V.I32 area.at) (loaded_value I32 0 c2) ar.address in
-        let b3 = load_value g area p fn under s ls0 [] labels area.at 0 (V.I32 loc) I32 c2 refl (omega arith) (subst (λ a. HoldsBytes s.memory a (word loc)) z ar.location) (omega arith) in
-        let b4 : C (running s fn under ls0 (V.I32 loc ∷ []) c2 labels) 1 (at_code s ls1 (frame_stored_by_call f next) labels) = walks (keeps g area) p 1 _ _ refl in
-        let begin = on (keeps g area) p 2 3 _ _ _ b1 (on (keeps g area) p 1 2 _ _ _ b2 (on (keeps g area) p 1 1 _ _ _ b3 b4)) in
         let d6 : Code = stored_value I32 0 next in
         let d5 : Code = plain (basic (const (V.I32 (shared + 4)))) (plain (basic (num I32Add)) d6) in
         let d4 : Code = plain (local_get f.scratch) d5 in
@@ -297,11 +291,11 @@ module _ (g : ℕ) (area : Area) (p : Module) (fn : ℕ) (under : List Activatio
         let d2 : Code = stored_value I32 shared d3 in
         let d1 : Code = plain (local_get f.index) d2 in
         let d0 : Code = plain (local_get f.scratch) d1 in
-        let fit1 = fit_others f.scratch ls ls1 fields (n1 ∙ n0) same1 sv.fields in
+        let fit1 = fit_others f.scratch ls ls1 fields n1 same1 sv.fields in
         let ix1 : value_at ls1 f.index ≡ V.I32 k = same1 f.index apart ∙ sv.index in
         let st = stored s ls1 labels loc 0 f.parts d0 tell.parts
         (record {
-          scratch = get_or-set_same ls0 f.scratch (V.I32 loc) (V.I32 0) (omega arith);
+          scratch = get_or-set_same ls f.scratch (V.I32 loc) (V.I32 0) lt;
           index = ix1;
           there = omega arith;
           fit = fit1;
@@ -341,9 +335,9 @@ module _ (g : ℕ) (area : Area) (p : Module) (fn : ℕ) (under : List Activatio
         let tail : C (at_code s1 lz d0 labels) 8 (at_code (with_memory s m3) lz next labels) =
         on (keeps g area) p 1 7 _ _ _ e1 (on (keeps g area) p 1 6 _ _ _ e2
         (on (keeps g area) p 1 5 _ _ _ e3 (on (keeps g area) p 1 4 _ _ _ f1 (on (keeps g area) p 1 3 _ _ _ f2 (on (keeps g area) p 2 1 _ _ _ f3 f4))))) in
-        let w1 = within_on g area p _ _ _ (f.sizing_cost + 7) 5 (f.sizing_cost + 12) head (within_of g area p _ _ 5 begin) (omega arith) in
-        let w2 = within_on g area p _ _ _ (f.sizing_cost + 12) (parts_cost_at k f.parts) (f.sizing_cost + 12 + parts_cost_at k f.parts) w1 st.goes (omega arith) in
-        let whole = within_on g area p _ _ _ (f.sizing_cost + 12 + parts_cost_at k f.parts) 8 (save_bound_at f k) w2 (within_of g area p _ _ 8 tail) (omega arith) in
+        let w1 = within_on g area p _ _ _ (f.sizing_cost + 7) 2 (f.sizing_cost + 9) head (within_of g area p _ _ 2 begin) (omega arith) in
+        let w2 = within_on g area p _ _ _ (f.sizing_cost + 9) (parts_cost_at k f.parts) (f.sizing_cost + 9 + parts_cost_at k f.parts) w1 st.goes (omega arith) in
+        let whole = within_on g area p _ _ _ (f.sizing_cost + 9 + parts_cost_at k f.parts) 8 (save_bound_at f k) w2 (within_of g area p _ _ 8 tail) (omega arith) in
         let up : (x w : ℕ) → area.at + 4 ≤ x → bytes_at m3 x w ≡ bytes_at m2 x w = λ x w h. bytes_at-overwritten_behind m2 area.at (word (loc + total)) x w h (omega arith) in
         let out : (x w : ℕ) → (x + w ≤ area.at) ⊎ (area.at + 4 ≤ x) → bytes_at m3 x w ≡ bytes_at m2 x w =
         λ x w h. ⊎_elim (λ lo. bytes_at-overwritten_below m2 area.at (word (loc + total)) x w lo (omega arith)) (λ hi. up x w hi) h in
@@ -370,4 +364,4 @@ pub saves_law : SavesByCall
 saves_law g area p fn under labels f s ls loc k next tell few ar fits sv = saves g area p fn under f k few tell.apart tell s ls labels loc next ar fits sv
 
 pub overflows_law : OverflowsByCall
-overflows_law g area p fn under labels f s ls loc k next tell few ar over ix lt = overflows g area p fn under f k few tell.apart tell s ls labels loc next ar over ix lt
+overflows_law g area p fn under labels f s ls loc k next tell few ar over ix = overflows g area p fn under f k few tell.apart tell s ls labels loc next ar over ix

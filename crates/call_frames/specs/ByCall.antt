@@ -1,5 +1,5 @@
 -- What the code of frames that differ by call does: at call k that of its layout.
-use Rattle.std.specs.Prelude.{◌≡◌, ◌≢◌, ℕ, ◌+◌, ◌^◌, ◌≤◌, ◌<◌, List, [], ◌∷◌, length, Option, Bool, slice_set}
+use Rattle.std.specs.Prelude.{◌≡◌, ◌≢◌, ℕ, ◌+◌, ◌^◌, ◌≤◌, ◌<◌, List, [], ◌∷◌, length, Option, Bool}
 use Rattle.wa_types.specs.Syntax.{Code, done, Module}
 use Rattle.wa_types.specs.declared.values.Value.{Value}
 use Rattle.wa_types.specs.declared.values.Value.TheVariants as V
@@ -26,13 +26,12 @@ PartsTell count index [] = Unit {0}
 PartsTell count index (at_all fs ∷ ps) = PartsTell count index ps
 PartsTell count index (at_some calls test cost fs ∷ ps) = TestTells count index calls test cost × PartsTell count index ps
 
--- The scratch local becomes the size of the call's frame.
+-- The size of the call's frame is left on top, and nothing else changes.
 abbrev pub SizingTells : CallFrames → Type 0
 SizingTells f =
     (g : ℕ) (area : Area) (p : Module) (fn : ℕ) (under : List Activation) (labels : List Label) (s : Store) (ls : List Value) (k : ℕ) (next : Code)
-    → k < f.count → value_at ls f.index ≡ V.I32 k → f.scratch < length ls
-    → KeptWithin g area p (running s fn under ls [] (f.sizing next) labels) f.sizing_cost
-    (running s fn under (slice_set ls f.scratch (V.I32 (frame_size (layout_at f k)))) [] next labels)
+    → k < f.count → value_at ls f.index ≡ V.I32 k
+    → KeptWithin g area p (running s fn under ls [] (f.sizing next) labels) f.sizing_cost (running s fn under ls (V.I32 (frame_size (layout_at f k)) ∷ []) next labels)
 
 pub record FramesTell (f : CallFrames) : Type 0 where
   pub sizing : SizingTells f
@@ -59,7 +58,7 @@ SavesByCall =
 abbrev pub OverflowsByCall : Type 0
 OverflowsByCall =
     (g : ℕ) (area : Area) (p : Module) (fn : ℕ) (under : List Activation) (labels : List Label) (f : CallFrames) (s : Store) (ls : List Value) (loc k : ℕ) (next : Code)
-    → FramesTell f → k < f.count → AreaAt f.address area s loc → area.at + area.len < loc + frame_size (layout_at f k) → value_at ls f.index ≡ V.I32 k → f.scratch < length ls
+    → FramesTell f → k < f.count → AreaAt f.address area s loc → area.at + area.len < loc + frame_size (layout_at f k) → value_at ls f.index ≡ V.I32 k
     → TrapsAt g area p (running s fn under ls [] (saving_by_call f next) labels) (save_bound_at f k) s
 
 -- ---- restoring

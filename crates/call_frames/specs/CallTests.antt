@@ -1,13 +1,8 @@
--- Tests of the call index, and code that tells the size of a call's frame by them.
-use Rattle.std.specs.Prelude.{◌≡◌, ◌≢◌, ℕ, ◌+◌, ◌^◌, ◌≤◌, ◌<◌, List, [], ◌∷◌, length, None, Bool, true, false, ◌&&◌, ◌||◌, not, nat_eq, nat_le, if◌then◌else◌, slice_set}
+-- Tests of the call index.
+use Rattle.std.specs.Prelude.{ℕ, ◌+◌, ◌^◌, ◌≤◌, ◌<◌, Bool, true, false, ◌&&◌, ◌||◌, not, nat_eq, nat_le}
 use Rattle.wa_types.specs.declared.operators.NumOp.TheVariants.{I32Eq, I32Eqz, I32LeU, I32Or, I32Sub}
-use Rattle.wa_types.specs.declared.values.Value.{Value}
 use Rattle.wa_types.specs.declared.values.Value.TheVariants as V
-use Rattle.wa_types.specs.Syntax.{const, num, basic, local_get, local_set, Code, done, plain, branch, Module}
-use Rattle.wa_model.specs.Configuration.{Label, Activation, running}
-use Rattle.wa_model.specs.Store.{Store, value_at}
-use Rattle.wa_model.specs.declared.answers.Area.{Area}
-use Rattle.frame_laws.specs.Function.{KeptWithin}
+use Rattle.wa_types.specs.Syntax.{const, num, basic, local_get, Code, plain}
 use Rattle.call_frames.specs.ByCall.{TestTells}
 
 -- one call
@@ -52,32 +47,6 @@ at_either test test2 next = test (test2 (plain (basic (num I32Or)) next))
 abbrev pub elsewhere : (Code → Code) → Code → Code
 elsewhere test next = test (plain (basic (num I32Eqz)) next)
 
--- ---- sizes
-
--- Calls whose frames have one size, with their test and its cost.
-pub record SizeClass : Type 0 where
-  pub calls : ℕ → Bool
-  pub test : Code → Code
-  pub cost : ℕ
-  pub size : ℕ
-
--- the size that is told in the end, where it is this one so far
-abbrev pub size_told : (k so_far : ℕ) → List SizeClass → ℕ
-size_told k n [] = n
-size_told k n (c ∷ cs) = size_told k (if c.calls k then c.size else n) cs
-
-abbrev pub classes_told : (scratch : ℕ) → List SizeClass → Code → Code
-classes_told sp [] next = next
-classes_told sp (c ∷ cs) next = c.test (branch None (plain (basic (const (V.I32 c.size))) (plain (local_set sp) done)) done (classes_told sp cs next))
-
--- the size of most frames, then that of the call's class
-abbrev pub sizes_told : (scratch first : ℕ) → List SizeClass → Code → Code
-sizes_told sp n cs next = plain (basic (const (V.I32 n))) (plain (local_set sp) (classes_told sp cs next))
-
-abbrev pub classes_cost : List SizeClass → ℕ
-classes_cost [] = 0
-classes_cost (c ∷ cs) = c.cost + 4 + classes_cost cs
-
 -- ---- laws
 
 abbrev pub CallsTell : Type 0
@@ -94,17 +63,3 @@ EitherTells =
 abbrev pub ElsewhereTells : Type 0
 ElsewhereTells = (count index : ℕ) (calls : ℕ → Bool) (test : Code → Code) (cost : ℕ) → TestTells count index calls test cost
     → TestTells count index (λ k. not (calls k)) (elsewhere test) (cost + 1)
-
--- each class has a test that tells
-abbrev pub ClassesTell : (count index : ℕ) → List SizeClass → Type 0
-ClassesTell count index [] = Unit {0}
-ClassesTell count index (c ∷ cs) = TestTells count index c.calls c.test c.cost × ClassesTell count index cs
-
--- The scratch local becomes the size that is told.
-abbrev pub SizesTell : Type 0
-SizesTell =
-    (count index scratch first : ℕ) (cs : List SizeClass) → ClassesTell count index cs → index ≢ scratch
-    → (g : ℕ) (area : Area) (p : Module) (fn : ℕ) (under : List Activation) (labels : List Label) (s : Store) (ls : List Value) (k : ℕ) (next : Code)
-    → k < count → value_at ls index ≡ V.I32 k → scratch < length ls
-    → KeptWithin g area p (running s fn under ls [] (sizes_told scratch first cs next) labels) (2 + classes_cost cs)
-    (running s fn under (slice_set ls scratch (V.I32 (size_told k first cs))) [] next labels)

@@ -2,7 +2,7 @@
 -- frames. A part that some calls keep stands behind a test of the call index. With parts for all calls alone the code is that of
 -- one layout but for the room's test.
 use Rattle.std.specs.Prelude.{ℕ, ◌+◌, ◌*◌, List, [], ◌∷◌, ◌++◌, None, Bool, if◌then◌else◌}
-use Rattle.wa_types.specs.declared.operators.NumOp.TheVariants.{I32Add, I32Sub, I32LtU}
+use Rattle.wa_types.specs.declared.operators.NumOp.TheVariants.{I32Add, I32Sub, I32GtU}
 use Rattle.wa_types.specs.declared.values.ValType.TheVariants.{I32}
 use Rattle.wa_types.specs.declared.values.Value.TheVariants as V
 use Rattle.wa_types.specs.Syntax.{const, num, global_get, load, basic, local_get, local_set, local_tee, unreachable, Code, done, plain, branch}
@@ -34,7 +34,7 @@ own_size k (at_all fs ∷ ps) = own_size k ps
 own_size k (at_some calls test cost fs ∷ ps) = (if calls k then fields_size fs else 0) + own_size k ps
 
 -- How many calls have frames, the global of the area's address, the local of the call index, an i32 local for the frame's address, code
--- that sets it to the size of the call's frame, with what that costs at most, and the parts.
+-- that leaves the size of the call's frame on top, with what that costs at most, and the parts.
 pub record CallFrames : Type 0 where
   pub count : ℕ
   pub address : ℕ
@@ -82,12 +82,12 @@ frame_stored_by_call f next =
 -- SAVE: nothing is written before it is known that the call's frame fits.
 abbrev pub saving_by_call : CallFrames → Code → Code
 saving_by_call f next =
-    f.sizing (plain (basic (global_get f.address)) (plain (basic (load 0x28 2 4)) (location_of f.address (plain (basic (num I32Sub)) (plain (local_get f.scratch)
-    (plain (basic (num I32LtU)) (branch None (plain unreachable done) done (location_of f.address (plain (local_set f.scratch) (frame_stored_by_call f next))))))))))
+    f.sizing (plain (basic (global_get f.address)) (plain (basic (load 0x28 2 4)) (location_of f.address (plain (local_tee f.scratch) (plain (basic (num I32Sub))
+    (plain (basic (num I32GtU)) (branch None (plain unreachable done) done (frame_stored_by_call f next))))))))
 
 -- what it costs at call k at most
 abbrev pub save_bound_at : CallFrames → ℕ → ℕ
-save_bound_at f k = f.sizing_cost + 20 + parts_cost_at k f.parts
+save_bound_at f k = f.sizing_cost + 17 + parts_cost_at k f.parts
 
 -- the location becomes the scratch local
 abbrev pub location_lowered : (address scratch : ℕ) → Code → Code

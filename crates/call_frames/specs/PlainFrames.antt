@@ -1,11 +1,12 @@
 -- Frames that differ by call, as plain data: fields in a row, and the numbers of the calls that keep them. The tests of the call index
 -- and the code that tells the size of the call's frame are made from these.
-use Rattle.std.specs.Prelude.{◌<◌, ◌^◌, ℕ, suc, ◌+◌, List, [], ◌∷◌, ◌++◌, None, Bool, false, ◌||◌, nat_eq, if◌then◌else◌}
+use Rattle.std.specs.Prelude.{◌<◌, ◌^◌, ℕ, suc, ◌+◌, List, [], ◌∷◌, ◌++◌, Bool, false, ◌||◌, nat_eq, if◌then◌else◌}
 use Rattle.wa_types.specs.declared.values.Value.TheVariants as V
-use Rattle.wa_types.specs.Syntax.{const, basic, local_set, Code, done, plain, branch}
+use Rattle.wa_types.specs.declared.operators.NumOp.TheVariants.{I32Add, I32Mul}
+use Rattle.wa_types.specs.Syntax.{const, num, basic, Code, plain}
 use Rattle.frame_laws.specs.Layout.{FrameField, fields_size, frame_size}
 use Rattle.call_frames.specs.CallTests.{CallRow, at_either, at_row, row_size}
-use Rattle.call_frames.specs.FrameParts.{FramePart, at_all, at_some, shared_size, CallFrames, layout_at, scratch_raised}
+use Rattle.call_frames.specs.FrameParts.{FramePart, at_all, at_some, shared_size, CallFrames, layout_at}
 
 -- Fields in a row that all calls keep, or that the calls with these numbers keep.
 pub data SavedPart : Type 0 where
@@ -79,22 +80,25 @@ abbrev pub parts_of : (index : ℕ) → List SavedPart → List FramePart
 parts_of index [] = []
 parts_of index (p ∷ ps) = part_of index p ∷ parts_of index ps
 
--- the scratch local is raised by the size of each part that the call keeps and others don't
-abbrev pub sizes_added : (index scratch : ℕ) → List SavedPart → Code → Code
-sizes_added index sp [] next = next
-sizes_added index sp (at_every fs ∷ ps) next = sizes_added index sp ps next
-sizes_added index sp (at_these ks fs ∷ ps) next = at_calls index ks (branch None (scratch_raised sp (fields_size fs) done) done (sizes_added index sp ps next))
+-- so many bytes for each 1 on top are added to what lies below
+abbrev pub weighed : (size : ℕ) → Code → Code
+weighed n next = plain (basic (const (V.I32 n))) (plain (basic (num I32Mul)) (plain (basic (num I32Add)) next))
+
+-- the size of each part that the call keeps and others don't is added to the number on top
+abbrev pub sizes_added : (index : ℕ) → List SavedPart → Code → Code
+sizes_added index [] next = next
+sizes_added index (at_every fs ∷ ps) next = sizes_added index ps next
+sizes_added index (at_these ks fs ∷ ps) next = at_calls index ks (weighed (fields_size fs) (sizes_added index ps next))
 
 -- what that costs at most
 abbrev pub sizes_cost : List SavedPart → ℕ
 sizes_cost [] = 0
 sizes_cost (at_every fs ∷ ps) = sizes_cost ps
-sizes_cost (at_these ks fs ∷ ps) = test_size ks + 6 + sizes_cost ps
+sizes_cost (at_these ks fs ∷ ps) = test_size ks + 3 + sizes_cost ps
 
 -- the size of what all calls keep, and then that of the call's own parts
 abbrev pub sizes_summed : SavedParts → Code → Code
-sizes_summed f next =
-    plain (basic (const (V.I32 (shared_size (parts_of f.index f.parts) + 4)))) (plain (local_set f.scratch) (sizes_added f.index f.scratch f.parts next))
+sizes_summed f next = plain (basic (const (V.I32 (shared_size (parts_of f.index f.parts) + 4)))) (sizes_added f.index f.parts next)
 
 abbrev pub frames_of : SavedParts → CallFrames
 frames_of f = record {
@@ -103,7 +107,7 @@ frames_of f = record {
   index = f.index;
   scratch = f.scratch;
   sizing = λ next. sizes_summed f next;
-  sizing_cost = 2 + sizes_cost f.parts;
+  sizing_cost = 1 + sizes_cost f.parts;
   parts = parts_of f.index f.parts;
 }
 

@@ -50,13 +50,13 @@ named_calls (at_these ks fs ∷ ps) = length ks + named_calls ps
 abbrev pub tests_cost : List SavedPart → ℕ
 tests_cost [] = 0
 tests_cost (at_every fs ∷ ps) = tests_cost ps
-tests_cost (at_these ks fs ∷ ps) = 3 * test_size ks + 18 + tests_cost ps
+tests_cost (at_these ks fs ∷ ps) = 3 * test_size ks + 15 + tests_cost ps
 
 -- The bound at call k counts all tests, and of the fields those that the call keeps.
 abbrev pub PlainFramesCost : Type 0
 PlainFramesCost =
     (f : SavedParts) (k : ℕ)
-    → save_bound_at (frames_of f) k + restore_bound_at (frames_of f) k ≤ 32 + tests_cost f.parts + 6 * kept_count (call_fields k f.parts)
+    → save_bound_at (frames_of f) k + restore_bound_at (frames_of f) k ≤ 28 + tests_cost f.parts + 6 * kept_count (call_fields k f.parts)
 
 -- Tests cost at most 27 for each name.
 abbrev pub NamesCostLittle : Type 0
@@ -68,7 +68,7 @@ NamesCostLittle = (ps : List SavedPart) → NameCalls ps → tests_cost ps ≤ 2
 abbrev pub sizes_size : List SavedPart → ℕ
 sizes_size [] = 0
 sizes_size (at_every fs ∷ ps) = sizes_size ps
-sizes_size (at_these ks fs ∷ ps) = test_size ks + 5 + sizes_size ps
+sizes_size (at_these ks fs ∷ ps) = test_size ks + 3 + sizes_size ps
 
 -- the instructions that store parts, and as many load them
 abbrev pub parts_size : List SavedPart → ℕ
@@ -77,7 +77,7 @@ parts_size (at_every fs ∷ ps) = 3 * kept_count fs + parts_size ps
 parts_size (at_these ks fs ∷ ps) = test_size ks + 5 + 3 * kept_count fs + parts_size ps
 
 pub record PlainFramesSize : Type 0 where
-  pub saving : (f : SavedParts) → instructions_and_labels (saving_by_call (frames_of f) done) ≡ 22 + sizes_size f.parts + parts_size f.parts
+  pub saving : (f : SavedParts) → instructions_and_labels (saving_by_call (frames_of f) done) ≡ 18 + sizes_size f.parts + parts_size f.parts
   pub restoring : (f : SavedParts) → instructions_and_labels (restoring_by_call (frames_of f) done) ≡ 10 + parts_size f.parts
 
 -- ---- types

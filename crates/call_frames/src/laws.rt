@@ -1,7 +1,7 @@
 //! Laws of the code. Each is the contract of a function that does nothing.
 
 ghost use Rattle.call_frames.specs.ByCall.{CodesByCall, OverflowsByCall, RestoresByCall, SavesByCall};
-ghost use Rattle.call_frames.specs.CallTests.{CallsTell, EitherTells, ElsewhereTells, RowsTell, SizesTell};
+ghost use Rattle.call_frames.specs.CallTests.{CallsTell, EitherTells, ElsewhereTells, RowsTell};
 
 /// At each call exactly its frame is put at the location, and nothing else changes; or, where that doesn't fit, the code traps
 /// before any byte has changed.
@@ -21,12 +21,10 @@ pub fn codes_save_and_restore()
     ensures { CodesByCall }
 {}
 
-/// A comparison of the index tells one call, and one behind a subtraction calls in a row; tests joined by `or` tell the calls of both, and one turned by `eqz` all others; and
-/// with a test for each class the size of the call's frame is told.
+/// A comparison of the index tells one call, and one behind a subtraction calls in a row; tests joined by `or` tell the calls of both, and one turned by `eqz` all others.
 pub fn tests_tell()
     ensures one { CallsTell }
     ensures row { RowsTell }
     ensures either { EitherTells }
     ensures elsewhere { ElsewhereTells }
-    ensures sizes { SizesTell }
 {}

@@ -9,7 +9,7 @@ pub fn plain_frames_tell()
     ensures fields { PlainFieldsAt }
 {}
 
-/// At each call both codes together cost at most what the tests do, 6 for each field that this call keeps, and 32; and tests cost
+/// At each call both codes together cost at most what the tests do, 6 for each field that this call keeps, and 28; and tests cost
 /// at most 27 for each number of a call.
 pub fn plain_frames_cost_little()
     ensures call { PlainFramesCost }

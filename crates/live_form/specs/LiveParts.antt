@@ -1,5 +1,5 @@
 -- The module that the policy `live` emits: its pieces are slim, its frames are told by numbers of calls, and keep at each call what the policy saves there.
-use Rattle.std.specs.Prelude.{◌≡◌, ◌≤◌, ◌<◌, ℕ, suc, ◌+◌, ◌*◌, List, [], ◌∷◌, length, map, Some, Bool, true, slice_get}
+use Rattle.std.specs.Prelude.{◌≡◌, ◌≤◌, ℕ, suc, ◌+◌, ◌*◌, List, length, map, Some, Bool, true, slice_get}
 use Rattle.std.specs.List.{sum_by}
 use Rattle.wa_types.specs.Frames.{Saved}
 use Rattle.wa_types.specs.Modules.{defined_at}
@@ -9,8 +9,9 @@ use Rattle.wa_types.specs.Syntax.{done, Func, Module}
 use Rattle.flat_laws.specs.Flatten.{flattened}
 use Rattle.call_frames.specs.Layout.{FrameField}
 use Rattle.call_classes.specs.CallParts.{call_parts, tests_most}
+use Rattle.call_classes.specs.Classes.{NumbersBelow}
 use Rattle.call_frames.specs.FrameParts.{restoring_by_call, saving_by_call}
-use Rattle.call_frames.specs.PlainFrames.{SavedPart, at_every, at_these, SavedParts, call_fields, frames_of}
+use Rattle.call_frames.specs.PlainFrames.{SavedParts, call_fields, frames_of}
 use Rattle.call_frames.specs.PlainLaws.{NameCalls, parts_size, sizes_size, tests_cost}
 use Rattle.live_guards.specs.LiveFrames.{fields_at}
 use Rattle.live_guards.specs.SlimModule.{Pieces}
@@ -27,17 +28,6 @@ abbrev pub live_asyncified : Module → Settings → (which : List Bool) → (pi
 live_asyncified m s which pieces parts = asyncified_by m s which (live_codes pieces parts)
 
 -- ---- what parts owe
-
--- each number is below this one
-abbrev pub AllBelow : ℕ → List ℕ → Type 0
-AllBelow n [] = Unit {0}
-AllBelow n (k ∷ ks) = (k < n) × AllBelow n ks
-
--- .. in each part
-abbrev pub NumbersBelow : ℕ → List SavedPart → Type 0
-NumbersBelow n [] = Unit {0}
-NumbersBelow n (at_every fs ∷ ps) = NumbersBelow n ps
-NumbersBelow n (at_these ks fs ∷ ps) = AllBelow n ks × NumbersBelow n ps
 
 -- how many locals the frames of these calls save together
 abbrev pub saved_total : Module → Func → (places : List ℕ) → ℕ

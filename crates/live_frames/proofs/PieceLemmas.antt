@@ -10,9 +10,8 @@ use Rattle.local_spill.specs.Spilling.{stored_value, loaded_value}
 use Rattle.frame_laws.specs.Layout.{FrameField, kept, gap, fields_size, stores, loads}
 use Rattle.call_frames.specs.CallTests.{CallRow, at_either, at_row}
 use Rattle.call_frames.specs.FrameParts.{parts_stored, parts_loaded, scratch_raised, scratch_lowered, shared_size}
-use Rattle.call_frames.specs.PlainFrames.{SavedPart, at_every, at_these, or_rows, at_calls, parts_of, sizes_added}
+use Rattle.call_frames.specs.PlainFrames.{SavedPart, at_every, at_these, or_rows, at_calls, parts_of, weighed, sizes_added}
 use Rattle.call_frames.proofs.FieldRows.{join_size}
-use Rattle.call_classes.specs.declared.frames.CallClass.{CallClass}
 use Rattle.call_classes.specs.declared.frames.KeptLocal.{KeptLocal}
 use Rattle.call_classes.specs.declared.frames.KeptPart.{KeptPart}
 use Rattle.call_classes.specs.Classes.{FewParts, part_fields, shared_fields}
@@ -89,19 +88,6 @@ joined_is index (r ∷ rs) test c = joined_is index rs (at_either test (at_row i
 
 -- ---- parts
 
--- code under the test of these calls
-abbrev pub class_code : (index : ℕ) → CallClass → (arm rest : Code) → Code
-class_code index x arm rest = at_calls index x.calls.items (branch None arm done rest)
-
-abbrev pub raised_arm : (sp : ℕ) → CallClass → Code
-raised_arm sp x = scratch_raised sp (fields_size (fields_of x.fields.items)) done
-
-abbrev pub stored_arm : (sp off : ℕ) → CallClass → Code
-stored_arm sp off x = stores sp off (fields_of x.fields.items) (scratch_raised sp (fields_size (fields_of x.fields.items)) done)
-
-abbrev pub loaded_arm : (sp off : ℕ) → CallClass → Code
-loaded_arm sp off x = scratch_lowered sp (fields_size (fields_of x.fields.items)) (loads sp off (fields_of x.fields.items) done)
-
 -- the bytes of parts that all calls keep
 abbrev pub shared_bytes : (index : ℕ) → List SavedPart → ℕ
 shared_bytes index ps = shared_size (parts_of index ps)
@@ -150,10 +136,10 @@ every_few fields le = let l = length-map fields kept_field in omega (arith, l, l
 
 -- ---- one more part
 
-added_behind : (index sp : ℕ) (ps : List SavedPart) (p : SavedPart) (c : Code) → sizes_added index sp (ps ++ p ∷ []) c ≡ sizes_added index sp ps (sizes_added index sp (p ∷ []) c)
-added_behind index sp [] p c = refl
-added_behind index sp (at_every fs ∷ ps) p c = added_behind index sp ps p c
-added_behind index sp (at_these ks fs ∷ ps) p c = ap (λ z. at_calls index ks (branch None (scratch_raised sp (fields_size fs) done) done z)) (added_behind index sp ps p c)
+added_behind : (index : ℕ) (ps : List SavedPart) (p : SavedPart) (c : Code) → sizes_added index (ps ++ p ∷ []) c ≡ sizes_added index ps (sizes_added index (p ∷ []) c)
+added_behind index [] p c = refl
+added_behind index (at_every fs ∷ ps) p c = added_behind index ps p c
+added_behind index (at_these ks fs ∷ ps) p c = ap (λ z. at_calls index ks (weighed (fields_size fs) z)) (added_behind index ps p c)
 
 stored_behind : (index sp off : ℕ) (ps : List SavedPart) (p : SavedPart) (c : Code)
     → parts_stored sp off (parts_of index (ps ++ p ∷ [])) c ≡ parts_stored sp off (parts_of index ps) (parts_stored sp (off + shared_bytes index ps) (parts_of index (p ∷ [])) c)
@@ -173,10 +159,11 @@ loaded_front index sp off (at_these ks fs) ps c =
     let z : off + 0 ≡ off = omega arith in
     ap (λ n. parts_loaded sp n (parts_of index ps) (at_calls index ks (branch None (scratch_lowered sp (fields_size fs) (loads sp off fs done)) done c))) z
 
-module _ (index sp : ℕ) (xs : List KeptPart) (i : ℕ) (d : KeptPart) (lt : i < length xs) where
-  pub part_added : (c : Code) → sizes_added index sp (part_views (take i xs)) (sizes_added index sp (part_view (get_or xs i d) ∷ []) c) ≡ sizes_added index sp (part_views (take (i + 1) xs)) c
-  part_added c = sym (added_behind index sp (part_views (take i xs)) (part_view (get_or xs i d)) c) ∙ ap (λ ps. sizes_added index sp ps c) (sym (map_more part_view xs i d lt))
+pub part_added : (index : ℕ) (xs : List KeptPart) (i : ℕ) (d : KeptPart) (c : Code) → i < length xs
+    → sizes_added index (part_views (take i xs)) (sizes_added index (part_view (get_or xs i d) ∷ []) c) ≡ sizes_added index (part_views (take (i + 1) xs)) c
+part_added index xs i d c lt = sym (added_behind index (part_views (take i xs)) (part_view (get_or xs i d)) c) ∙ ap (λ ps. sizes_added index ps c) (sym (map_more part_view xs i d lt))
 
+module _ (index sp : ℕ) (xs : List KeptPart) (i : ℕ) (d : KeptPart) (lt : i < length xs) where
   pub part_stored : (o : ℕ) (c : Code) → o ≡ shared_bytes index (part_views (take i xs))
       → parts_stored sp 0 (parts_of index (part_views (take i xs))) (parts_stored sp o (parts_of index (part_view (get_or xs i d) ∷ [])) c)
       ≡ parts_stored sp 0 (parts_of index (part_views (take (i + 1) xs))) c

@@ -1,10 +1,10 @@
 -- What is put behind a list of instructions, loop by loop.
-use Rattle.std.proofs.Common.{◌≡◌, ℕ, Bool, nat_eq, ◌+◌, ◌-◌, ◌<◌, ◌≤◌, List, [], ◌∷◌, length, take, drop, get_or, None, refl, sym, ap, ◌∙◌, arith}
+use Rattle.std.proofs.Common.{◌≡◌, ℕ, Bool, nat_eq, ◌+◌, ◌-◌, ◌<◌, ◌≤◌, List, [], ◌∷◌, length, take, drop, get_or, refl, sym, ap, ◌∙◌, arith}
 use Rattle.std.proofs.lemmas.List.{take_all, drop_all}
 use Rattle.wa_types.specs.declared.instrs.Instr.{Instr}
 use Rattle.wa_types.specs.declared.operators.NumOp.TheVariants.{I32Or}
 use Rattle.wa_types.specs.declared.values.Value.TheVariants as V
-use Rattle.wa_types.specs.Syntax.{const, num, basic, local_get, local_set, Code, done, plain, branch}
+use Rattle.wa_types.specs.Syntax.{const, num, basic, local_get, local_set, Code, plain}
 use Rattle.wa_types.specs.View.{onto}
 use Rattle.local_spill.specs.Putting.{Puts}
 use Rattle.local_spill.specs.Spilling.{stored_value, loaded_value}
@@ -12,12 +12,11 @@ use Rattle.frame_laws.specs.Layout.{fields_size, stores, loads}
 use Rattle.call_frames.specs.CallTests.{CallRow, at_row, row_test}
 use Rattle.call_frames.specs.FrameParts.{parts_stored, parts_loaded}
 use Rattle.call_frames.specs.PlainFrames.{SavedPart, rows_of, at_rows, at_calls, parts_of, sizes_added}
-use Rattle.call_classes.specs.declared.frames.CallClass.{CallClass}
 use Rattle.call_classes.specs.declared.frames.KeptLocal.{KeptLocal}
 use Rattle.call_classes.specs.declared.frames.KeptPart.{KeptPart}
 use Rattle.live_frames.specs.Putting.{rows_joined}
 use Rattle.call_classes.specs.Views.{fields_of, part_view, part_views}
-use Rattle.live_frames.proofs.PieceLemmas.{stored_more, loaded_more, joined_is, class_code, shared_bytes, part_added, part_stored, part_loaded}
+use Rattle.live_frames.proofs.PieceLemmas.{stored_more, loaded_more, joined_is, shared_bytes, part_added, part_stored, part_loaded}
 
 -- what is put, told otherwise
 pub put_same : {X : Type 0} (old new : List Instr) (f : X → Code → Code) (x y : X) → x ≡ y → Puts old new (f x) → Puts old new (f y)
@@ -85,17 +84,11 @@ none_put old new index (k ∷ ks) e h rest = absurd (omega (arith, e))
 
 -- ---- parts
 
--- under the test of these calls, told otherwise
-pub under_class : (old new : List Instr) (index : ℕ) (x : CallClass) (calls : List ℕ) (arm code : Code) → calls ≡ x.calls.items → arm ≡ code
-    → Puts old new (λ c. at_calls index calls (branch None arm done c)) → Puts old new (λ c. class_code index x code c)
-under_class old new index x calls arm code ec ea h rest =
-    h rest ∙ ap (λ js. onto old (at_calls index js (branch None arm done rest))) ec ∙ ap (λ a. onto old (at_calls index x.calls.items (branch None a done rest))) ea
+pub added_step : (old mid new : List Instr) (index : ℕ) (xs : List KeptPart) (i : ℕ) (d : KeptPart) → i < length xs → Puts old mid (sizes_added index (part_views (take i xs)))
+    → Puts mid new (sizes_added index (part_view (get_or xs i d) ∷ [])) → Puts old new (sizes_added index (part_views (take (i + 1) xs)))
+added_step old mid new index xs i d lt h k rest = k rest ∙ h (sizes_added index (part_view (get_or xs i d) ∷ []) rest) ∙ ap (onto old) (part_added index xs i d rest lt)
 
 module _ (old mid new : List Instr) (index sp : ℕ) (xs : List KeptPart) (i : ℕ) (d : KeptPart) (lt : i < length xs) where
-  pub added_step : Puts old mid (sizes_added index sp (part_views (take i xs))) → Puts mid new (sizes_added index sp (part_view (get_or xs i d) ∷ []))
-      → Puts old new (sizes_added index sp (part_views (take (i + 1) xs)))
-  added_step h k rest = k rest ∙ h (sizes_added index sp (part_view (get_or xs i d) ∷ []) rest) ∙ ap (onto old) (part_added index sp xs i d lt rest)
-
   pub part_stored_step : (o : ℕ) → o ≡ shared_bytes index (part_views (take i xs)) → Puts old mid (parts_stored sp 0 (parts_of index (part_views (take i xs))))
       → Puts mid new (parts_stored sp o (parts_of index (part_view (get_or xs i d) ∷ []))) → Puts old new (parts_stored sp 0 (parts_of index (part_views (take (i + 1) xs))))
   part_stored_step o e h k rest = k rest ∙ h (parts_stored sp o (parts_of index (part_view (get_or xs i d) ∷ [])) rest) ∙ ap (onto old) (part_stored index sp xs i d lt o rest e)
@@ -105,10 +98,11 @@ module _ (old mid new : List Instr) (index sp : ℕ) (xs : List KeptPart) (i : �
   part_loaded_step off o e h k rest = k rest ∙ h (parts_loaded sp off (parts_of index (part_view (get_or xs i d) ∷ [])) rest) ∙ ap (onto old) (part_loaded index sp xs i d lt off o rest e)
 
 -- all parts
-module _ (old new : List Instr) (index sp : ℕ) (xs : List KeptPart) (i : ℕ) (le : length xs ≤ i) where
-  pub added_end : Puts old new (sizes_added index sp (part_views (take i xs))) → Puts old new (sizes_added index sp (part_views xs))
-  added_end h rest = h rest ∙ ap (λ ys. onto old (sizes_added index sp (part_views ys) rest)) (take_all i xs le)
+pub added_end : (old new : List Instr) (index : ℕ) (xs : List KeptPart) (i : ℕ) → length xs ≤ i → Puts old new (sizes_added index (part_views (take i xs)))
+    → Puts old new (sizes_added index (part_views xs))
+added_end old new index xs i le h rest = h rest ∙ ap (λ ys. onto old (sizes_added index (part_views ys) rest)) (take_all i xs le)
 
+module _ (old new : List Instr) (index sp : ℕ) (xs : List KeptPart) (i : ℕ) (le : length xs ≤ i) where
   pub part_stored_end : Puts old new (parts_stored sp 0 (parts_of index (part_views (take i xs)))) → Puts old new (parts_stored sp 0 (parts_of index (part_views xs)))
   part_stored_end h rest = h rest ∙ ap (λ ys. onto old (parts_stored sp 0 (parts_of index (part_views ys)) rest)) (take_all i xs le)
 

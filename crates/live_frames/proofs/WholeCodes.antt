@@ -10,8 +10,8 @@ use Rattle.live_frames.specs.Putting.{location_noted, room_tested}
 
 abbrev pub saved_with : (base address : ℕ) → List SavedPart → (shared : ℕ) → Code → Code
 saved_with base address ps n rest =
-    plain (basic (const (V.I32 (n + 4)))) (plain (local_set (base + 1)) (sizes_added base (base + 1) ps (room_tested address (base + 1)
-    (parts_stored (base + 1) 0 (parts_of base ps) (index_saved base (base + 1) n (location_raised address (base + 1) (n + 4) rest))))))
+    plain (basic (const (V.I32 (n + 4)))) (sizes_added base ps (room_tested address (base + 1)
+    (parts_stored (base + 1) 0 (parts_of base ps) (index_saved base (base + 1) n (location_raised address (base + 1) (n + 4) rest)))))
 
 abbrev pub restored_with : (base address : ℕ) → List SavedPart → (shared : ℕ) → Code → Code
 restored_with base address ps n rest =

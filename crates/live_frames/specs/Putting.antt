@@ -1,7 +1,7 @@
 -- Pieces of the codes that stand between the parts.
 use Rattle.std.specs.Prelude.{ℕ, List, [], ◌∷◌, None}
 use Rattle.wa_types.specs.declared.operators.NumOp.{NumOp}
-use Rattle.wa_types.specs.declared.operators.NumOp.TheVariants.{I32Or, I32Sub, I32LtU}
+use Rattle.wa_types.specs.declared.operators.NumOp.TheVariants.{I32Or, I32Sub, I32GtU}
 use Rattle.wa_types.specs.declared.values.Value.TheVariants as V
 use Rattle.wa_types.specs.Syntax.{const, num, global_get, load, basic, local_get, local_set, local_tee, unreachable, Code, done, plain, branch}
 use Rattle.local_spill.specs.Spilling.{location_of}
@@ -16,11 +16,11 @@ rows_joined index (r ∷ rs) next = at_row index r (plain (basic (num I32Or)) (r
 abbrev pub scratch_moved : (scratch n : ℕ) → NumOp → Code → Code
 scratch_moved sp n op next = plain (local_get sp) (plain (basic (const (V.I32 n))) (plain (basic (num op)) (plain (local_set sp) next)))
 
--- The code traps where the area has fewer bytes from the location on than the scratch local tells; else that becomes the location.
+-- The code traps where the area has fewer bytes from the location on than the number on top; else the scratch local becomes the location.
 abbrev pub room_tested : (address scratch : ℕ) → Code → Code
 room_tested adr sp next =
-    plain (basic (global_get adr)) (plain (basic (load 0x28 2 4)) (location_of adr (plain (basic (num I32Sub)) (plain (local_get sp)
-    (plain (basic (num I32LtU)) (branch None (plain unreachable done) done (location_of adr (plain (local_set sp) next))))))))
+    plain (basic (global_get adr)) (plain (basic (load 0x28 2 4)) (location_of adr (plain (local_tee sp) (plain (basic (num I32Sub))
+    (plain (basic (num I32GtU)) (branch None (plain unreachable done) done next))))))
 
 -- the scratch local becomes the location, lowered by so many bytes
 abbrev pub location_noted : (address scratch n : ℕ) → Code → Code

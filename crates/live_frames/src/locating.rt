@@ -21,7 +21,7 @@ fn put_location(out: &mut Vec<Instr>, address: u32) -> Result<(), AllocError>
     Ok(())
 }
 
-/// Puts what traps where a frame of the size that the scratch local tells doesn't fit; else that local becomes the location.
+/// Puts what traps where a frame of the size on top doesn't fit; else the scratch local becomes the location.
 pub(crate) fn put_room_test(
     alloc: Global,
     out: &mut Vec<Instr>,
@@ -35,16 +35,14 @@ pub(crate) fn put_room_test(
     out.push(Instr::GlobalGet(address))?;
     out.push(load_of(ValType::I32, 4))?;
     put_location(out, address)?;
+    out.push(Instr::LocalTee(scratch))?;
     out.push(Instr::Num(NumOp::I32Sub))?;
-    out.push(Instr::LocalGet(scratch))?;
-    out.push(Instr::Num(NumOp::I32LtU))?;
+    out.push(Instr::Num(NumOp::I32GtU))?;
     out.push(Instr::If {
         result: None,
         then_arm: trap,
         else_arm: Vec::new(alloc),
     })?;
-    put_location(out, address)?;
-    out.push(Instr::LocalSet(scratch))?;
     Ok(())
 }
 

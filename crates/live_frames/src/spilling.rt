@@ -1,12 +1,10 @@
 //! The codes that save and that restore the frames of a function.
 
-ghost use Rattle.std.specs.Prelude.{◌≡◌, ◌≤◌, ◌+◌, ℕ, IfOk, OnOk};
-ghost use Rattle.wa_types.specs.Syntax.{Code, basic, const, local_set, plain};
+ghost use Rattle.std.specs.Prelude.{◌≡◌, ◌≤◌, ◌+◌, ℕ, IfOk};
+ghost use Rattle.wa_types.specs.Syntax.{Code};
 ghost use Rattle.wa_types.specs.View.{onto};
-ghost use Rattle.wa_types.specs.declared.values.Value.TheVariants.{I32 as value_32};
 ghost use Rattle.call_frames.specs.FrameParts.{restoring_by_call, saving_by_call};
 ghost use Rattle.call_frames.specs.PlainFrames.{frames_of};
-ghost use Rattle.local_spill.specs.Putting.{Puts};
 ghost use Rattle.call_classes.specs.Classes.{FewParts};
 ghost use Rattle.call_classes.specs.Views.{parts_view, told_frames};
 
@@ -16,20 +14,11 @@ use crate::locating::{
     put_location_raised, put_room_test,
 };
 use crate::putting::shared_of;
-use crate::sizing::put_sizes_added;
+use crate::sizing::put_size;
 use crate::storing::put_parts_stored;
 use call_classes::FrameParts;
 use std::alloc::{AllocError, Global};
-use wa_types::{Instr, Value};
-
-/// Puts what sets a local to a number.
-fn put_number_set(out: &mut Vec<Instr>, local: u32, number: u32) -> Result<(), AllocError>
-    ensures { OnOk result (Puts out.old.items out.new.items (λ c. plain (basic (const (value_32 number))) (plain (local_set local) c))) }
-{
-    out.push(Instr::Const(Value::I32(number)))?;
-    out.push(Instr::LocalSet(local))?;
-    Ok(())
-}
+use wa_types::Instr;
 
 /// The code that saves the frame of the call that the index tells, at the location, which is raised to the frame's end. A frame that
 /// doesn't fit traps before anything is written. The call index is local `base`, and the scratch local stands behind it.
@@ -46,8 +35,7 @@ pub fn saving(
     let mut out = Vec::new(alloc);
     let scratch = base + 1;
     let shared = shared_of(&parts.parts);
-    put_number_set(&mut out, scratch, shared + 4)?;
-    put_sizes_added(alloc, &mut out, base, scratch, &parts.parts)?;
+    put_size(&mut out, base, shared + 4, &parts.parts)?;
     put_room_test(alloc, &mut out, address, scratch)?;
     put_parts_stored(alloc, &mut out, base, scratch, &parts.parts)?;
     put_index_saved(&mut out, base, scratch, shared)?;

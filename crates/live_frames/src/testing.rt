@@ -59,7 +59,7 @@ fn put_row(out: &mut Vec<Instr>, index: u32, row: RowAt) -> Result<(), AllocErro
 }
 
 /// Puts the test of the index that is 1 at these calls and 0 at all others.
-fn put_test(out: &mut Vec<Instr>, index: u32, calls: &[u32]) -> Result<(), AllocError>
+pub(crate) fn put_test(out: &mut Vec<Instr>, index: u32, calls: &[u32]) -> Result<(), AllocError>
     ensures { OnOk result (Puts out.old.items out.new.items (at_calls index calls.now)) }
 {
     if calls.is_empty() {

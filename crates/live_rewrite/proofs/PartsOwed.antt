@@ -1,5 +1,5 @@
 -- The parts that are made from the sets are those of the policy `live`, and the function is as it is written with them.
-use Rattle.std.proofs.Common.{◌≡◌, ◌∙◌, ℕ, suc, ◌+◌, ◌<◌, List, [], ◌∷◌, ◌++◌, length, map, drop, Bool, refl, ap, arith}
+use Rattle.std.proofs.Common.{◌≡◌, ◌∙◌, ℕ, suc, ◌+◌, ◌<◌, List, [], ◌∷◌, ◌++◌, length, map, drop, Bool, refl, ap, subst, arith}
 use Rattle.std.specs.Prelude.{slice_get}
 use Rattle.std.proofs.lemmas.Option.{slice_get_within}
 use Rattle.wa_types.specs.declared.syntax.Run.{Run}
@@ -24,13 +24,13 @@ use Rattle.live_form.proofs.SlimModules.{plain_slim}
 use Rattle.save_laws.specs.LiveAt.{LiveAtCalls}
 use Rattle.call_classes.specs.declared.frames.FrameParts.{FrameParts}
 use Rattle.call_classes.specs.CallParts.{call_parts, kept_by_sets}
-use Rattle.call_classes.specs.Classes.{KeepCheaply}
+use Rattle.call_classes.specs.Classes.{KeepCheaply, NumbersBelow}
 use Rattle.call_classes.specs.Views.{parts_view, told_frames}
 use Rattle.live_form.specs.EmittedAs.{IsLiveWritten, live_written}
 use Rattle.live_form.specs.LiveParts.{LiveParts}
 use Rattle.func_rewrite.specs.Frames.{IsFlattened}
 use Rattle.func_rewrite.proofs.WrittenFuncs.{func_is, mk_func, runs_same}
-use Rattle.live_rewrite.proofs.SetFields.{fields_saved, numbers_below, rows_saved, total_saved}
+use Rattle.live_rewrite.proofs.SetFields.{fields_saved, rows_saved, total_saved}
 
 module _ (m : Module) (s : Settings) (which : List Bool) (f : Func) (v : Flattened) (valid : Valid m) (sizes : StrictSizeRule m) (h : IsFlattened m f v)
     (ns : List ℕ) (sets : List (List Bool)) (en : ns ≡ Numbered m s which f) (live : LiveAtCalls (flat_func_of v.func) ns sets)
@@ -67,7 +67,7 @@ module _ (m : Module) (s : Settings) (which : List Bool) (f : Func) (v : Flatten
         let lt = slice_get_within ns k place here in
         let few : k < length sets = (let c = live.calls in omega (arith, lt, c)) in
         cheap.keep.fields k few ∙ fields_saved m s which f v valid h ns sets en live k place here;
-    below = numbers_below (length sets) (length (Numbered m s which f)) (parts_view parts) many cheap.keep.below;
+    below = subst (λ n. NumbersBelow n (parts_view parts)) many cheap.keep.below;
     named = cheap.keep.named;
     tests = (let a = cheap.tests in let e = many in let l = base_is in omega (arith, a, e, l));
     size = (let a = cheap.size in let e = total_saved m s which f v valid h ns sets en live in omega (arith, a, e));

@@ -14,16 +14,14 @@ use Rattle.wa_model.specs.FlatView.{flat_func_of}
 use Rattle.flat_laws.specs.Flatten.{flattened}
 use Rattle.func_rewrite.specs.Flattened.{Flattened}
 use Rattle.live_frames.specs.Layout.{FrameField, kept, kept_count}
-use Rattle.call_frames.specs.PlainFrames.{SavedPart, at_every, at_these}
 use Rattle.live_form.specs.LiveFrames.{fields_at}
 use Rattle.save_laws.specs.LiveAt.{KeepsAt, LiveAtCalls}
 use Rattle.live_passes.specs.Sets.{has}
 use Rattle.save_laws.proofs.SavedLive.{live_is_saved}
 use Rattle.call_classes.specs.CallParts.{kept_by_sets}
-use Rattle.call_classes.specs.Classes as Made
 use Rattle.call_classes.specs.Views.{fields_in, kept_total, kept_where}
 use Rattle.live_form.specs.LiveParts.{kept_by_calls}
-use Rattle.live_form.specs.LiveParts as Owed
+use Rattle.live_form.specs.LiveParts.{saved_total}
 use Rattle.func_rewrite.specs.Frames.{IsFlattened}
 
 abbrev kept_place : Place → FrameField
@@ -74,17 +72,6 @@ all_at bound [] k p h e = cc
 all_at bound (q ∷ ps) zero p h e = let z : q ≡ p = cc in let a = h 0 0 (omega arith) in omega (arith, a, z)
 all_at bound (q ∷ ps) (suc k) p h e = all_at bound ps k p (λ j d lt. h (suc j) d (omega (arith, lt))) e
 
--- ---- the two names of what parts owe
-
-all_below : (n m : ℕ) (ks : List ℕ) → n ≡ m → Made.AllBelow n ks → Owed.AllBelow m ks
-all_below n m [] e h = tt
-all_below n m (k ∷ ks) e h = (let lt = h.0 in omega (arith, lt, e), all_below n m ks e h.1)
-
-pub numbers_below : (n m : ℕ) (ps : List SavedPart) → n ≡ m → Made.NumbersBelow n ps → Owed.NumbersBelow m ps
-numbers_below n m [] e h = tt
-numbers_below n m (at_every fs ∷ ps) e h = numbers_below n m ps e h
-numbers_below n m (at_these ks fs ∷ ps) e h = (all_below n m ks e h.0, numbers_below n m ps e h.1)
-
 -- ---- the calls of a function
 
 module _ (m : Module) (s : Settings) (which : List Bool) (f : Func) (v : Flattened) (valid : Valid m) (h : IsFlattened m f v)
@@ -122,7 +109,7 @@ module _ (m : Module) (s : Settings) (which : List Bool) (f : Func) (v : Flatten
   count_saved k place at = ap kept_count (fields_saved k place at) ∙ all_count (Saved m save_live f place)
 
 total_same : (m : Module) (f : Func) (types : List ValType) (ns : List ℕ) (sets : List (List Bool)) → length sets ≡ length ns
-    → ((k place : ℕ) → slice_get ns k ≡ Some place → kept_count (fields_in 0 (get_or sets k []) types) ≡ length (Saved m save_live f place)) → kept_total types sets ≡ Owed.saved_total m f ns
+    → ((k place : ℕ) → slice_get ns k ≡ Some place → kept_count (fields_in 0 (get_or sets k []) types) ≡ length (Saved m save_live f place)) → kept_total types sets ≡ saved_total m f ns
 total_same m f types [] [] e h = refl
 total_same m f types [] (set ∷ sets) e h = absurd (omega (arith, e))
 total_same m f types (n ∷ ns) [] e h = absurd (omega (arith, e))
@@ -133,9 +120,9 @@ total_same m f types (n ∷ ns) (set ∷ sets) e h =
 
 module _ (m : Module) (s : Settings) (which : List Bool) (f : Func) (v : Flattened) (valid : Valid m) (h : IsFlattened m f v)
     (ns : List ℕ) (sets : List (List Bool)) (en : ns ≡ Numbered m s which f) (live : LiveAtCalls (flat_func_of v.func) ns sets) where
-  pub total_saved : kept_total v.func.locals.items sets ≡ Owed.saved_total m f (Numbered m s which f)
+  pub total_saved : kept_total v.func.locals.items sets ≡ saved_total m f (Numbered m s which f)
   total_saved =
-      total_same m f v.func.locals.items ns sets live.calls (count_saved m s which f v valid h ns sets en live) ∙ ap (Owed.saved_total m f) en
+      total_same m f v.func.locals.items ns sets live.calls (count_saved m s which f v valid h ns sets en live) ∙ ap (saved_total m f) en
 
 rows_same : (m : Module) (f : Func) (types : List ValType) (ns : List ℕ) (sets : List (List Bool)) → length sets ≡ length ns
     → ((k place : ℕ) → slice_get ns k ≡ Some place → fields_in 0 (get_or sets k []) types ≡ fields_at m f place) → kept_by_sets types sets ≡ map (fields_at m f) ns

@@ -10,8 +10,5 @@ returns-clause-either c = T.either_law
 pub returns-clause-elsewhere : goal.returns-clause-elsewhere
 returns-clause-elsewhere c = T.elsewhere_law
 
-pub returns-clause-sizes : goal.returns-clause-sizes
-returns-clause-sizes c = T.sizes_law
-
 pub returns-clause-row : goal.returns-clause-row
 returns-clause-row c = T.row_law

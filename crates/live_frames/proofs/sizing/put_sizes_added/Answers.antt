@@ -16,8 +16,8 @@ pub loop-part-preserved : goal.loop-part-preserved
 loop-part-preserved c =
     let i = c.loop-part.part-index in
     let lt : i < length c.args.parts.now = omega (arith, c.loop-part-test.true) in
-    added_step c.args.out.now.items c.loop-part.out.items c.put_size_added.new.out.items c.args.index c.args.scratch c.args.parts.now i c.part-item.result lt c.loop-part.invariant
-    (part_same _ _ (λ p. sizes_added c.args.index c.args.scratch (p ∷ [])) _ c.part-item.result (sym c.part-item.is) c.in_ok-put_size_added.ensures)
+    added_step c.args.out.now.items c.loop-part.out.items c.put_size_added.new.out.items c.args.index c.args.parts.now i c.part-item.result lt c.loop-part.invariant
+    (part_same _ _ (λ p. sizes_added c.args.index (p ∷ [])) _ c.part-item.result (sym c.part-item.is) c.in_ok-put_size_added.ensures)
 
 pub returns : goal.returns
-returns c = added_end _ _ c.args.index c.args.scratch c.args.parts.now c.loop-part.part-index (omega (arith, c.loop-part-test.false)) c.loop-part.invariant
+returns c = added_end _ _ c.args.index c.args.parts.now c.loop-part.part-index (omega (arith, c.loop-part-test.false)) c.loop-part.invariant
