@@ -7,4 +7,4 @@ pub mod LiveHold
 pub mod LiveModules
 pub mod PartRows
 pub mod PolicyCases
-pub mod OneEmitted
+pub mod CodeAlone
