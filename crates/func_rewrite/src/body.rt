@@ -1,4 +1,4 @@
-ghost use Rattle.std.specs.Prelude.{◌≤◌, ◌<◌, ◌^◌, ◌-◌, length, IfOk, OnOk};
+ghost use Rattle.std.specs.Prelude.{◌≡◌, ◌≤◌, ◌<◌, ◌^◌, ◌-◌, length, IfOk, OnOk};
 ghost use Rattle.wa_types.specs.Syntax.{Code, Func as PlainFunc, Module as PlainModule, done};
 ghost use Rattle.wa_types.specs.View.{code, onto};
 ghost use Rattle.wa_model.specs.FlatFits.{FlatFits};

@@ -1,4 +1,3 @@
-pub use Rattle.live_guards.proofs.SlimModules
 pub use Rattle.rewrite_runs.proofs.Asyncified
 pub use Rattle.rewrite_runs.proofs.EmittedSo
 pub use Rattle.rewrite_runs.proofs.FitsBy
