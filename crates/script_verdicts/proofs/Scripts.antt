@@ -1,13 +1,12 @@
 -- A script has one answer: it can be played, or is refused for one cause.
 use Rattle.std.proofs.Common.{arith, ◌≡◌, ◌⊎◌, inl, inr, ℕ, suc, List, [], ◌∷◌, ◌++◌, length, map, Option, Some, Bool, Result, Ok, Err, refl, sym, ap, ◌∙◌, subst}
-use Rattle.std.specs.Prelude.{All, ◌<◌}
+use Rattle.std.specs.Prelude.{All}
 use Rattle.std.proofs.lemmas.List.Elements.{All-nil, All-cons, All-head, All-tail}
 use Rattle.vault_port.specs.Files.{Files, bytes_of}
 use Rattle.wa_types.specs.Syntax.{Module}
 use Rattle.wa_model.specs.Script.{ProgramText, Script, ScriptFault, breaks}
 use Rattle.wa_model.specs.Transcript.{Refusal}
-use Rattle.host_files.specs.Scripts.{HasFault, IsNoScript, IsScript, most_bytes, refusal_for}
-use Rattle.host_files.specs.Views.{Holds}
+use Rattle.host_files.specs.Scripts.{IsNoScript, IsScript, refusal_for}
 use Rattle.host_files.proofs.Fronts.{own_bytes}
 use Rattle.script_setup.specs.SetUpRules.{SetUp, set_up_rules}
 use Rattle.script_opening.specs.Worlds.{Part}
