@@ -8,6 +8,7 @@ ghost use Rattle.flow_calls.specs.Emitting.{Rises};
 ghost use Rattle.slim_pieces.specs.Functions.{SlimTold};
 
 use crate::walk::write_sequence;
+use slim_guesses::heights_apart;
 use slim_walk::Walk;
 use std::alloc::{AllocError, Global};
 use unit_pieces::Pieces;
@@ -37,7 +38,8 @@ pub fn slim_pieces(
         floor: 0,
         piece: Vec::new(alloc),
     };
-    let Some(written) = write_sequence(numbers, &func.locals, &mut at, &func.body, 0)? else {
+    let apart = heights_apart(alloc, func, low, slots)?;
+    let Some(written) = write_sequence(numbers, &apart, &mut at, &func.body, 0, None)? else {
         return Ok(None);
     };
     Ok(Some(written.pieces))

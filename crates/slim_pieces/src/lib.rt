@@ -5,7 +5,6 @@
 #![tactic(auto)]
 
 mod function;
-mod guesses;
 mod walk;
 
 pub use function::slim_pieces;

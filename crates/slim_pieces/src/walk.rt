@@ -10,24 +10,24 @@ ghost use Rattle.slim_steps.specs.Coming.{Ready};
 ghost use Rattle.slim_steps.specs.Inside.{InsideTold, WrittenTold};
 ghost use Rattle.slim_steps.specs.Steps.{Put};
 
-use crate::guesses::reads_again;
+use slim_guesses::{following, reads_again, taken_behind};
 use slim_steps::{
-    Sequence, Written, enter, finish, leave, put_block, put_call, put_if, put_loop, put_single,
-    stays, take_condition,
+    Sequence, Written, claim, enter, finish, leave, put_block, put_call, put_if, put_loop,
+    put_single, stays, take_condition, unreached,
 };
 use slim_walk::{Walk, flush};
 use std::alloc::AllocError;
 use wa_model::{Operand, Stmt};
-use wa_types::ValType;
 
-/// The statements of a body or of an arm in pieces and units. Nothing where they don't use slots as a stack.
+/// The statements of a body or of an arm in pieces and units, and the one that is run behind them, where that is known. Nothing where they don't use slots as a stack.
 #[cycle(write)]
 pub(crate) fn write_sequence(
     numbers: &[u32],
-    types: &[ValType],
+    apart: &[bool],
     at: &mut Walk,
     body: &[Stmt],
     place: u32,
+    after: Option<&Stmt>,
 ) -> Result<Option<Written>, AllocError>
     requires rises { Rises numbers.now }
     requires good { Good at.old }
@@ -45,8 +45,8 @@ pub(crate) fn write_sequence(
     let mut next = 0;
     for stmt in body {
         next += 1;
-        let again = reads_again(at, types, stmt, body.get(next));
-        if !write_stmt(numbers, types, at, &mut all, stmt, again)? {
+        let coming = following(body, next, after);
+        if !write_stmt(numbers, apart, at, &mut all, stmt, coming)? {
             return Ok(None);
         }
     }
@@ -54,15 +54,17 @@ pub(crate) fn write_sequence(
     Ok(Some(written))
 }
 
-/// The body of a construct, in front of which all slots are set. Those that its end leaves stay behind it where so told.
+/// The body of a construct, in front of which all slots are set. Those that its end leaves stay behind it where so told; where
+/// that isn't reached, a slot that is told counts as set.
 #[cycle(write)]
 fn write_inside(
     numbers: &[u32],
-    types: &[ValType],
+    apart: &[bool],
     at: &mut Walk,
     body: &[Stmt],
     place: u32,
     kept: bool,
+    after: Option<&Stmt>,
 ) -> Result<Option<Written>, AllocError>
     requires rises { Rises numbers.now }
     requires good { Good at.old }
@@ -71,23 +73,33 @@ fn write_inside(
     ensures { IfOk result (λ o. InsideTold numbers.now at.old place (stmts body.now) kept at.new o) }
 {
     let outside = enter(at);
-    let Some(written) = write_sequence(numbers, types, at, body, place)? else {
+    let Some(written) = write_sequence(numbers, apart, at, body, place, after)? else {
         return Ok(None);
     };
     let left = stays(kept, &written);
     leave(at, outside, left);
+    let Some(slot) = unreached(
+        kept,
+        &written,
+        taken_behind(&at.stack, at.low, &at.places, after),
+    ) else {
+        return Ok(Some(written));
+    };
+    if !claim(at, slot)? {
+        return Ok(None);
+    }
     Ok(Some(written))
 }
 
-/// Puts a statement. False where it can't be put, behind a jump too.
+/// Puts a statement, in front of the next one. False where it can't be put, behind a jump too.
 #[cycle(write)]
 fn write_stmt(
     numbers: &[u32],
-    types: &[ValType],
+    apart: &[bool],
     at: &mut Walk,
     all: &mut Sequence,
     stmt: &Stmt,
-    again: bool,
+    next: Option<&Stmt>,
 ) -> Result<bool, AllocError>
     requires rises { Rises numbers.now }
     requires good { Good at.old }
@@ -106,7 +118,7 @@ fn write_stmt(
         } => put_call(numbers, at, all, op, stack, *args, *to),
         Stmt::Block(body) => {
             flush(at)?;
-            let Some(inner) = write_inside(numbers, types, at, body, all.place, false)? else {
+            let Some(inner) = write_inside(numbers, apart, at, body, all.place, false, None)? else {
                 return Ok(false);
             };
             put_block(at, all, inner)?;
@@ -114,7 +126,7 @@ fn write_stmt(
         }
         Stmt::Loop(body) => {
             flush(at)?;
-            let Some(inner) = write_inside(numbers, types, at, body, all.place, true)? else {
+            let Some(inner) = write_inside(numbers, apart, at, body, all.place, true, next)? else {
                 return Ok(false);
             };
             put_loop(at, all, inner)?;
@@ -128,9 +140,12 @@ fn write_stmt(
             let Operand::Local(x) = *cond else {
                 return Ok(false);
             };
-            write_if(numbers, types, at, all, x, then_arm, else_arm)
+            write_if(numbers, apart, at, all, x, then_arm, else_arm)
         }
-        _ => put_single(at, all, stmt, again),
+        _ => {
+            let again = reads_again(&at.stack, at.low, apart, stmt, next);
+            put_single(at, all, stmt, again)
+        }
     }
 }
 
@@ -138,7 +153,7 @@ fn write_stmt(
 #[cycle(write)]
 fn write_if(
     numbers: &[u32],
-    types: &[ValType],
+    apart: &[bool],
     at: &mut Walk,
     all: &mut Sequence,
     x: u32,
@@ -154,10 +169,10 @@ fn write_if(
     let Some(direct) = take_condition(at, x)? else {
         return Ok(false);
     };
-    let Some(first) = write_inside(numbers, types, at, then_arm, all.place, false)? else {
+    let Some(first) = write_inside(numbers, apart, at, then_arm, all.place, false, None)? else {
         return Ok(false);
     };
-    let Some(second) = write_inside(numbers, types, at, else_arm, first.place, false)? else {
+    let Some(second) = write_inside(numbers, apart, at, else_arm, first.place, false, None)? else {
         return Ok(false);
     };
     put_if(at, all, x, direct, first, second)?;

@@ -139,12 +139,12 @@ block_put ps m d b p q body w goes bare inside (in_piece none same q_is puts) =
     (in_piece_put ps m d b p q body false w goes bare inside a_block none same puts (λ t among n ts out around c c' fixed sl.
     let covers : Covers (free_at t m) (free_at t d) = subst (λ f. Covers (free_at t m) f) (sym (free_before ps m d b p q body false w goes bare inside t refl)) (λ y e. e) in
     S.blocks None (free_at t d) plainly (body_slim t ps p.place (length (calls_of c) + n) body (free_at t d ∷ ts) (free_at t d) (free_at t m) w none
-    (inside.slim t among (length (calls_of c) + n) ts around (free_at t d) covers fixed)) sl))
+    (inside.slim t among (length (calls_of c) + n) ts around (free_at t d) covers fixed (free_at t d) (λ z y e. e))) sl))
 block_put ps m d b p q body w goes bare inside (as_unit head some is opened) =
     as_unit_put ps m d b p q body false w goes bare inside a_block head some is opened (λ t among n ts out around s fixed c' us' rest.
     λ f sh c c2 go sl.
     let covers : Covers (free_at t m) (free_at t d) = subst (λ f. Covers (free_at t m) f) (sym (free_before ps m d b p q body false w goes bare inside t refl)) (λ y e. e) in
-    let inner = inside.slim t among (calls_in s + n) ts around (free_at t d) covers fixed in
+    let inner = inside.slim t among (calls_in s + n) ts around (free_at t d) covers fixed (free_at t d) (λ z y e. e) in
     before_block (free_at t m) (free_at t d) go sl
     (subst (λ i. SlimUnits t i (free_at t d ∷ ts) (free_at t d) (free_at t m) [] (first_piece ps p.place body) (units ps p.place body) (first_code w.pieces) (units_in w.pieces))
     (calls_behind ps w.place n s) inner) rest)
@@ -156,11 +156,11 @@ loop_put ps m d b p q body w goes bare inside (in_piece none same q_is puts) =
     (in_piece_put ps m d b p q body true w goes bare inside a_loop none same puts (λ t among n ts out around c c' fixed sl.
     S.loops None (free_at t m) (free_at t d) plainly (λ y e. e)
     (body_slim t ps p.place (length (calls_of c) + n) body (free_at t m ∷ ts) (free_at t d) (free_at t m) w none
-    (inside.slim t among (length (calls_of c) + n) ts around (free_at t m) (λ y e. e) fixed)) sl))
+    (inside.slim t among (length (calls_of c) + n) ts around (free_at t m) (λ y e. e) fixed (free_at t d) (λ z y e. e))) sl))
 loop_put ps m d b p q body w goes bare inside (as_unit head some is opened) =
     as_unit_put ps m d b p q body true w goes bare inside a_loop head some is opened (λ t among n ts out around s fixed c' us' rest.
     λ f sh c c2 go sl.
-    let inner = inside.slim t among (calls_in s + n) ts around (free_at t m) (λ y e. e) fixed in
+    let inner = inside.slim t among (calls_in s + n) ts around (free_at t m) (λ y e. e) fixed (free_at t d) (λ z y e. e) in
     before_loop (free_at t m) (free_at t m) (free_at t d) go sl (λ y e. e)
     (subst (λ i. SlimUnits t i (free_at t m ∷ ts) (free_at t d) (free_at t m) [] (first_piece ps p.place body) (units ps p.place body) (first_code w.pieces) (units_in w.pieces))
     (calls_behind ps w.place n s) inner) rest)

@@ -169,7 +169,7 @@ module _ (ps : List ℕ) (a m d1 d2 b : Walk) (p q : Sequence) (x : ℕ) (direct
     then_slim : (k : ℕ) → CallsFixed t ps p.place k sa → SlimUnits t k (h ∷ ts) h h [] (first_piece ps p.place sa) (units ps p.place sa) (first_code v.pieces) (units_in v.pieces)
     then_slim k fixed =
         subst (λ f. SlimUnits t k (h ∷ ts) f h [] (first_piece ps p.place sa) (units ps p.place sa) (first_code v.pieces) (units_in v.pieces)) (free1 t)
-        (i1.slim t (among_next t a m c0.alike among) k ts (around_next t a m ts c0.alike around) h (λ y e. e) fixed)
+        (i1.slim t (among_next t a m c0.alike among) k ts (around_next t a m ts c0.alike around) h (λ y e. e) fixed (free_at t d1) (λ z y e. e))
 
     else_slim : (k : ℕ) → CallsFixed t ps n1 k sb → SlimUnits t k (h ∷ ts) h h [] (first_piece ps n1 sb) (units ps n1 sb) (first_code w.pieces) (units_in w.pieces)
     else_slim k fixed =
@@ -177,7 +177,7 @@ module _ (ps : List ℕ) (a m d1 d2 b : Walk) (p q : Sequence) (x : ℕ) (direct
         let ar = around_next t m d1 ts i1.alike (around_next t a m ts c0.alike around) in
         subst (λ f. SlimUnits t k (h ∷ ts) h f [] (first_piece ps n1 sb) (units ps n1 sb) (first_code w.pieces) (units_in w.pieces)) (free1 t)
         (subst (λ f. SlimUnits t k (h ∷ ts) f (free_at t d1) [] (first_piece ps n1 sb) (units ps n1 sb) (first_code w.pieces) (units_in w.pieces)) (free2 t)
-        (second.slim t am k ts ar h (subst (λ f. Covers f h) (sym (free1 t)) (λ y e. e)) fixed))
+        (second.slim t am k ts ar h (subst (λ f. Covers f h) (sym (free1 t)) (λ y e. e)) fixed (free_at t d2) (λ z y e. e)))
 
   arms_count : unit_count (units_in v.pieces) ≡ unit_count (units ps p.place sa)
   arms_count = inside_count ps m p.place sa false d1 v i1

@@ -13,14 +13,14 @@ use Rattle.slim_form.proofs.EmittedCode as E
 use Rattle.slim_units.specs.SlimUnits.{SlimUnits}
 use Rattle.slim_units.proofs.UnitsAlike.{alike_law}
 use Rattle.slim_walk.specs.declared.stack.Walk.{Walk}
-use Rattle.slim_walk.specs.Walking.{slot_in, free_at, shape_at, Among, Good}
+use Rattle.slim_walk.specs.Walking.{slot_in, free_at, shape_at, Among, Good, Kept}
 use Rattle.slim_walk.proofs.BranchLemmas.{bare_shape, reaches_at}
 use Rattle.slim_walk.proofs.StackLemmas.{cut_below, good_by}
-use Rattle.slim_walk.proofs.StepLemmas.{alike_same, elem_take}
+use Rattle.slim_walk.proofs.StepLemmas.{alike_same, alike_then, elem_take}
 use Rattle.slim_steps.specs.declared.constructs.Outside.{Outside}
 use Rattle.slim_steps.specs.declared.sequence.Written.{Written}
 use Rattle.slim_steps.specs.Coming.{Around, CallsFixed, FixedFor}
-use Rattle.slim_steps.specs.Inside.{first_code, units_in, Entered, IsInside, IsWritten, Left}
+use Rattle.slim_steps.specs.Inside.{first_code, units_in, Claimed, Entered, IsInside, IsWritten, Left}
 
 -- ---- terms that fix nothing
 
@@ -49,7 +49,7 @@ pub inside_count : (ps : List ℕ) (a : Walk) (n : ℕ) (s : Stmts) (kept : Bool
 inside_count ps a n s kept b w h =
     let t = free_terms a in
     let among : Among t a = record { slots = λ x. refl; size = omega arith } in
-    let sl = h.slim t among 0 [] (λ l. tt) (free_at t a) (λ y e. e) (nothing_fixed t (λ k. refl) ps n 0 s) in
+    let sl = h.slim t among 0 [] (λ l. tt) (free_at t a) (λ y e. e) (nothing_fixed t (λ k. refl) ps n 0 s) (free_at t b) (λ z y e. e) in
     (alike_law t 0 (free_at t a ∷ []) (free_at t b) (free_at t a) [] (first_piece ps n s) (first_code w.pieces) (units ps n s) (units_in w.pieces) sl).count
 
 -- ---- into a construct
@@ -98,7 +98,7 @@ module _ (ps : List ℕ) (a m b d : Walk) (o : Outside) (place : ℕ) (s : Stmts
         bare = c.set ∙ sym count;
         same = λ z. c.stack ∙ ap (λ k. take k b.stack.items) (c.least z) ∙ below_is;
         place = h.place;
-        slim = λ t among k ts around g co fixed.
+        slim = λ t among k ts around g co fixed out reached.
             let am : Among t m = record {
               slots = λ x. among.slots x ∙ (λ j. slot_at x (sym e.low j) (sym e.places j));
               size = let z = among.size in let f = e.low in let y = ap length e.places in omega arith;
@@ -108,13 +108,13 @@ module _ (ps : List ℕ) (a m b d : Walk) (o : Outside) (place : ℕ) (s : Stmts
             λ j. free_by t.slot (take ((e.floor ∙ sym bare) j) (e.stack j)) in
             let inner : Around t m (g ∷ ts) = labels t ts g (free_by t.slot (take m.floor m.stack.items)) (subst (λ f. Covers f g) (sym base) co)
             (λ i. subst (λ f. Reaches f ts i) (sym base) (reaches_at t a a ts i good (alike_same a) (around i))) in
-            let cov : w.ended ≡ false → Covers (free_at t b) (free_at t d) = λ z. E.covers_by t (take b.set b.stack.items) (take d.set d.stack.items)
+            let cov : Covers (free_at t b) (free_at t d) = E.covers_by t (take b.set b.stack.items) (take d.set d.stack.items)
             (λ y x. elem_take y n (take b.set b.stack.items)
             (subst (λ ys. elem y ys ≡ true) (c.stack ∙ sym (cut_below b.stack.items n b.set hi)) (elem_take y d.set d.stack.items x))) in
-            let sl = h.slim t am k (g ∷ ts) (free_at t d) inner fixed cov in
-            subst (λ sh. SlimUnits t k (g ∷ ts) (free_at t d) (free_at t a) sh (first_piece ps place s) (units ps place s) (first_code w.pieces) (units_in w.pieces))
+            let sl = h.slim t am k (g ∷ ts) out inner fixed (λ z y q. cov y (reached z y q)) in
+            subst (λ sh. SlimUnits t k (g ∷ ts) out (free_at t a) sh (first_piece ps place s) (units ps place s) (first_code w.pieces) (units_in w.pieces))
             (bare_shape m (e.set ∙ bare ∙ ap length (sym e.stack)))
-            (subst (λ f. SlimUnits t k (g ∷ ts) (free_at t d) f (shape_at m) (first_piece ps place s) (units ps place s) (first_code w.pieces) (units_in w.pieces)) here sl);
+            (subst (λ f. SlimUnits t k (g ∷ ts) out f (shape_at m) (first_piece ps place s) (units ps place s) (first_code w.pieces) (units_in w.pieces)) here sl);
       }
     where
       slot_at : ℕ → ℕ → List ℕ → Bool
@@ -168,3 +168,32 @@ module _ (ps : List ℕ) (a m b d : Walk) (o : Outside) (place : ℕ) (s : Stmts
           never false e f = cc
       by true true ke ze = cut (right kept w.ended ze)
       by false z ke ze = cut (left kept w.ended ke)
+
+-- ---- behind what is never left
+
+pub claimed_is : (a b : Walk) (x n : ℕ) → Kept a b x → n ≡ length b.stack.items → Claimed a (record b { set = n })
+claimed_is a b x n kept is =
+    let g = kept.good in
+    let f = g.floor in let s = g.set in
+    record {
+      good = record { slots = g.slots; places = g.places; set = omega arith; floor = omega arith };
+      alike = record { alloc = kept.alike.alloc; low = kept.alike.low; places = kept.alike.places; floor = kept.alike.floor; below = kept.alike.below };
+      piece = kept.piece;
+      bare = is;
+    }
+
+pub claimed_inside : (ps : List ℕ) (a : Walk) (n : ℕ) (s : Stmts) (kept : Bool) (b d : Walk) (w : Written) → kept ≡ true → w.ended ≡ true → IsInside ps a n s kept b w → Claimed b d
+    → IsInside ps a n s kept d w
+claimed_inside ps a n s kept b d w kept_is ended h c = record {
+  good = c.good;
+  alike = alike_then a b d h.alike c.alike;
+  piece = c.piece ∙ h.piece;
+  bare = c.bare;
+  same = λ z. absurd (never kept kept_is z);
+  place = h.place;
+  slim = λ t among k ts around g co fixed out reached. h.slim t among k ts around g co fixed out (λ z. absurd (never w.ended ended z));
+}
+  where
+    never : (x : Bool) → x ≡ true → x ≡ false → ⊥
+    never true e f = cc
+    never false e f = cc

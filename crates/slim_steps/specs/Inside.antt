@@ -93,7 +93,8 @@ pub record Left (a b : Walk) (o : Outside) (kept : Bool) : Type 0 where
   pub all : kept ≡ true → (b.stack.items ≡ a.stack.items) × (b.set ≡ a.set)
   pub cut : kept ≡ false → (b.stack.items ≡ take o.height a.stack.items) × (b.set ≡ o.height)
 
--- The body of a construct was written, in front of which all slots are set; behind it they are, and those in front stand, unless so told.
+-- The body of a construct was written, in front of which all slots are set; behind it they are, and those in front stand, unless so
+-- told. Where its end isn't reached, anything may be free behind it.
 pub record IsInside (ps : List ℕ) (a : Walk) (n : ℕ) (s : Stmts) (kept : Bool) (b : Walk) (w : Written) : Type 0 where
   pub good : Good b
   pub alike : Alike a b
@@ -101,8 +102,15 @@ pub record IsInside (ps : List ℕ) (a : Walk) (n : ℕ) (s : Stmts) (kept : Boo
   pub bare : b.set ≡ length b.stack.items
   pub same : kept ≡ false → b.stack.items ≡ a.stack.items
   pub place : w.place ≡ n + call_total s
-  pub slim : (t : Terms) → Among t a → (k : ℕ) (ts : List Free) → Around t a ts → (g : Free) → Covers (free_at t a) g → CallsFixed t ps n k s
-      → SlimUnits t k (g ∷ ts) (free_at t b) (free_at t a) [] (first_piece ps n s) (units ps n s) (first_code w.pieces) (units_in w.pieces)
+  pub slim : (t : Terms) → Among t a → (k : ℕ) (ts : List Free) → Around t a ts → (g : Free) → Covers (free_at t a) g → CallsFixed t ps n k s → (out : Free)
+      → (w.ended ≡ false → Covers (free_at t b) out) → SlimUnits t k (g ∷ ts) out (free_at t a) [] (first_piece ps n s) (units ps n s) (first_code w.pieces) (units_in w.pieces)
+
+-- A slot counts as set, behind what is never left.
+pub record Claimed (a b : Walk) : Type 0 where
+  pub good : Good b
+  pub alike : Alike a b
+  pub piece : b.piece.items ≡ a.piece.items
+  pub bare : b.set ≡ length b.stack.items
 
 abbrev pub InsideTold : (ps : List ℕ) → Walk → ℕ → Stmts → Bool → Walk → Option Written → Type 0
 InsideTold ps a n s kept b None = Prim.Unit {0}

@@ -1,15 +1,15 @@
 //! Blocks, loops and ifs.
 
-ghost use Rattle.std.specs.Prelude.{◌≡◌, ◌&&◌, not, IfOk, OnOk};
+ghost use Rattle.std.specs.Prelude.{◌≡◌, ◌&&◌, ℕ, true, not, Some, IfOk, OnOk};
 ghost use Rattle.wa_types.specs.Syntax.{a_block, a_loop, branch};
 ghost use Rattle.wa_types.specs.View.{code};
 ghost use Rattle.flat_pieces.specs.Putting.{Puts};
 ghost use Rattle.slim_walk.specs.Walking.{Good};
-ghost use Rattle.slim_steps.specs.Inside.{condition_got, AreFree, ConditionTold, Decided, Entered, Left, Nested, Same, SetAgain};
+ghost use Rattle.slim_steps.specs.Inside.{condition_got, AreFree, Claimed, ConditionTold, Decided, Entered, Left, Nested, Same, SetAgain};
 
 use crate::sequence::{Head, Sequence, Written, open_unit};
 use flat_pieces::put_operand;
-use slim_walk::{Walk, flush, is_top};
+use slim_walk::{Walk, flush, is_top, keep};
 use std::alloc::AllocError;
 use std::mem;
 use wa_model::Operand;
@@ -55,6 +55,31 @@ pub fn stays(kept: bool, written: &Written) -> bool
     ensures { result ≡ (kept && not written.now.ended) }
 {
     kept && !written.ended
+}
+
+/// The slot that is told, behind a loop whose end isn't reached.
+pub fn unreached(kept: bool, written: &Written, behind: Option<u32>) -> Option<u32>
+    ensures { (x : ℕ) → result ≡ Some x → (kept ≡ true) × (written.now.ended ≡ true) }
+{
+    if !kept {
+        return None;
+    }
+    if !written.ended {
+        return None;
+    }
+    behind
+}
+
+/// Counts a slot as set, behind what is never left. False where it isn't one, or stands for another operand.
+pub fn claim(at: &mut Walk, slot: u32) -> Result<bool, AllocError>
+    requires { Good at.old }
+    ensures { IfOk result (λ claimed. claimed ≡ true → Claimed at.old at.new) }
+{
+    if !keep(at, slot)? {
+        return Ok(false);
+    }
+    at.set = at.stack.len();
+    Ok(true)
 }
 
 /// Puts a block: in the piece, or as a unit where it holds a numbered call.

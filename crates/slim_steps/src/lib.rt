@@ -11,6 +11,8 @@ mod sequence;
 mod single;
 
 pub use calls::put_call;
-pub use constructs::{Outside, enter, leave, put_block, put_if, put_loop, stays, take_condition};
+pub use constructs::{
+    Outside, claim, enter, leave, put_block, put_if, put_loop, stays, take_condition, unreached,
+};
 pub use sequence::{Head, Sequence, Written, finish};
 pub use single::put_single;

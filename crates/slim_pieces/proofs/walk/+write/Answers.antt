@@ -10,7 +10,7 @@ use Rattle.slim_steps.specs.Coming.{Ready}
 use Rattle.slim_steps.specs.Inside.{ConditionTold, InsideTold, Left, WrittenTold}
 use Rattle.slim_steps.proofs.ConstructLemmas.{block_put, flushed_put, loop_put}
 use Rattle.slim_steps.proofs.IfLemmas.{if_put}
-use Rattle.slim_steps.proofs.InsideLemmas.{inside_is}
+use Rattle.slim_steps.proofs.InsideLemmas.{claimed_inside, inside_is}
 use Rattle.slim_steps.proofs.SingleLemmas.{put_as}
 use Rattle.slim_pieces.proofs.WalkLemmas.{walked_start, walked_ready, walked_next, walked_end, one_lighter, nest_ready, weight}
 use Rattle.slim_pieces.proofs.walk.+write.Goals as goal
@@ -47,6 +47,17 @@ write_sequence-returns t c = walked_end c.args.numbers.now c.args.at.now c.args.
 
 pub write_inside-returns : goal.write_inside-returns
 write_inside-returns t c =
+    let ps = c.args.numbers.now in
+    let s = stmts c.args.body.now in
+    let told = c.unreached.ensures c.in-Some-unreached.slot c.in-Some-unreached.is in
+    let h =
+    inside_is ps c.args.at.now c.enter-outside.new.at c.write_sequence.new.at c.leave.new.at c.enter-outside.result c.args.place s c.args.kept c.in-Some.written c.requires.good c.requires.bare
+    c.enter-outside.ensures (subst (WrittenTold ps c.enter-outside.new.at c.args.place s c.write_sequence.new.at) c.in-Some.is c.in_ok-written.ensures)
+    (subst (Left c.write_sequence.new.at c.leave.new.at c.enter-outside.result) c.stays-left.ensures c.leave.ensures) in
+    claimed_inside ps c.args.at.now c.args.place s c.args.kept c.leave.new.at c.claim.new.at c.in-Some.written told.0 told.1 h (c.in_ok-claim.ensures c.if-not-branch.false)
+
+pub write_inside-returns-in_default-unreached : goal.write_inside-returns-in_default-unreached
+write_inside-returns-in_default-unreached t c =
     let ps = c.args.numbers.now in
     let s = stmts c.args.body.now in
     inside_is ps c.args.at.now c.enter-outside.new.at c.write_sequence.new.at c.leave.new.at c.enter-outside.result c.args.place s c.args.kept c.in-Some.written c.requires.good c.requires.bare
