@@ -14,7 +14,7 @@ use Rattle.wa_model.specs.Flat.{result_got}
 use Rattle.wa_model.specs.FlatFits.{one_run}
 use Rattle.local_spill.proofs.PutLemmas.{get_is}
 use Rattle.local_spill.specs.Putting.{Puts}
-use Rattle.func_rewrite.specs.Putting.{body_got}
+use Rattle.func_rewrite.specs.Bodies.{body_got}
 
 onto_both : (xs ys : List Instr) (rest : Code) → onto (xs ++ ys) rest ≡ onto xs (onto ys rest)
 unfolding onto

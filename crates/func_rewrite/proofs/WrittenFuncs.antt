@@ -27,17 +27,24 @@ use Rattle.local_spill.specs.Spilling.{SpillIndices, spill_indices, restoring, s
 use Rattle.local_spill.specs.declared.RuntimeIds.{RuntimeIds}
 use Rattle.local_spill.specs.declared.frames.Layout.{Layout as LayoutValue}
 use Rattle.local_spill.specs.declared.frames.Place.{Place}
-use Rattle.frame_laws.specs.Layout.{FrameField, fields_size, placed, spilled_by}
-use Rattle.guard_form.specs.Guarded.{function_body, guarded_code}
+use Rattle.frame_laws.specs.Layout.{FrameField, Layout as FrameLayout, fields_size, placed, spilled_by}
+use Rattle.guard_form.specs.Guarded.{front, function_body}
 use Rattle.guard_form.specs.Pieces.{call_total}
 use Rattle.written_frames.specs.Numbering.{callees, gets_number}
-use Rattle.written_frames.specs.Emitted.{holds_operand, is_kept, field_where, frame_layout}
-use Rattle.func_rewrite.specs.Written.{plain_written}
+use Rattle.written_frames.specs.Emitted.{IsAllWritten, holds_operand, is_kept, field_where, frame_layout, written_func}
+use Rattle.written_frames.specs.SlimModule.{Pieces, SlimPieces}
 use Rattle.written_frames.specs.Frames.{numbered_places, AllFrames}
 use Rattle.written_frames.specs.Marking.{StacksFit}
+use Rattle.func_rewrite.specs.Bodies.{IsSlimBody}
 use Rattle.func_rewrite.specs.Frames.{IsFlattened, FramesUnder}
 use Rattle.func_rewrite.proofs.CallNumbers.{total_is, numbers_are, stacks_fit}
 use Rattle.func_rewrite.proofs.FrameChoice.{saved_are, chosen_places, chosen_size, row_below, frames_at}
+
+abbrev pub mk_func : ℕ → List Run → Code → Func
+mk_func sort locals body = record { sort = sort; locals = locals; body = body }
+
+pub func_is : (g : Func) (sort : ℕ) (locals : List Run) (body : Code) → sort ≡ g.sort → locals ≡ g.locals → body ≡ g.body → mk_func sort locals body ≡ g
+func_is g sort locals body a b c = λ i. record { sort = a i; locals = b i; body = c i }
 
 module _ (m : Module) (s : Settings) (which : List Bool) (f : Func) (v : Flattened) (valid : Valid m) (sizes : StrictSizeRule m) (h : IsFlattened m f v) where
   abbrev x : ℕ
@@ -73,6 +80,9 @@ module _ (m : Module) (s : Settings) (which : List Bool) (f : Func) (v : Flatten
   pub numbers : places_from (gets_number which (Listed m s) s.ignore_indirect) 0 (callees flat.body) ≡ Numbered m s which f
   numbers = numbers_are m s which f (length flat.locals) 1 flat.body fits.statements calls
 
+  pub slots_told : v.first_slot ≤ v.first_result
+  slots_told = let a = h.first_slot in let b = h.first_result in omega arith
+
   pub own_few : v.first_slot ≤ length v.func.locals.items
   own_few =
       let e = h.first_slot in
@@ -99,6 +109,14 @@ module _ (m : Module) (s : Settings) (which : List Bool) (f : Func) (v : Flatten
   numbered_count : (k : ℕ) (ts : List ValType) → length (numbered_places k ts) ≡ length ts
   numbered_count k [] = refl
   numbered_count k (t ∷ ts) = ap suc (numbered_count (suc k) ts)
+
+  -- ---- the locals
+
+  pub runs_same : (own : ℕ) → own ≡ v.first_slot → f.locals ++ map one_run (drop own v.func.locals.items ++ I32 ∷ I32 ∷ I64 ∷ []) ≡ f.locals ++ map one_run (extra_types m f ++ I32 ∷ I32 ∷ I64 ∷ [])
+  runs_same own e =
+      let rest : drop own v.func.locals.items ≡ extra_types m f =
+      ap (λ n. drop n v.func.locals.items) (e ∙ h.first_slot) ∙ ap (drop (length (locals_of m f))) (same_locals ∙ append_assoc (locals_of m f) slots results) ∙ drop-append_seam (locals_of m f) (slots ++ results) in
+      ap (λ ts. f.locals ++ map one_run (ts ++ I32 ∷ I32 ∷ I64 ∷ [])) rest
 
   module _ (places : List Place) (ep : map saved_local places ≡ numbered_places 0 (take v.first_result v.func.locals.items)) where
     same_saved : map saved_local places ≡ Saved m save_all f 0
@@ -135,38 +153,40 @@ module _ (m : Module) (s : Settings) (which : List Bool) (f : Func) (v : Flatten
         ∙ ap (λ (g : FlatFunc). nat_lt y (length (locals_of m f)) || holds_operand g ns y) h.flat
         ∙ ap (λ ks. nat_lt y (length (locals_of m f)) || holds_operand (flattened m x f) ks y) en
 
-    abbrev whole : ℕ → SpillIndices → ℕ → List Place → List ℕ → FlatFunc → Code
-    whole g i k ps ns fl = function_body g (restoring i k ps done) (saving i k ps done) (result_got fl.result) (guarded_code g ns fl)
+    abbrev whole : ℕ → SpillIndices → ℕ → List Place → Code → Code
+    whole g i k ps guarded = function_body g (restoring i k ps done) (saving i k ps done) (result_got (flattened m x f).result) guarded
 
-    pub body_same : (ids : RuntimeIds) (numbers : List ℕ) (chosen row : List Place) (kept : Place → Bool) (size rows : ℕ) → ids ≡ ids_behind m → numbers ≡ Numbered m s which f → row ≡ in_a_row 0 places → rows ≡ row_size places + 4 → size ≡ rows
-        → ((p : Place) → kept p ≡ keep p.local) → chosen ≡ filter kept row
-        → whole ids.state (spill_indices (length v.func.locals.items) ids) (size - 4) chosen numbers flat ≡ (plain_written m s which x f).body
-    body_same ids ns chosen row kept size rows ei en er es ez same ec =
+    abbrev front_of : Pieces → (state : ℕ) → Code
+    front_of p state = front (record { state = state; index = length (flattened m x f).locals }) 0 0 p.first p.units
+
+    abbrev layout : FrameLayout
+    layout = frame_layout m s which x f
+
+    pub is_written : (ids : RuntimeIds) (numbers : List ℕ) (chosen row : List Place) (kept : Place → Bool) (size rows : ℕ) (locals : List Run) (body : Code) → ids ≡ ids_behind m
+        → numbers ≡ Numbered m s which f → row ≡ in_a_row 0 places → rows ≡ row_size places + 4 → size ≡ rows → ((p : Place) → kept p ≡ keep p.local) → chosen ≡ filter kept row
+        → locals ≡ f.locals ++ map one_run (drop v.first_slot v.func.locals.items ++ I32 ∷ I32 ∷ I64 ∷ [])
+        → IsSlimBody m numbers ids.state x f (restoring (spill_indices (length v.func.locals.items) ids) (size - 4) chosen done)
+        (saving (spill_indices (length v.func.locals.items) ids) (size - 4) chosen done) body
+        → IsAllWritten m s which x f (mk_func f.sort locals body)
+    is_written ids ns chosen row kept size rows locals body ei en er es ez same ec el b =
         let n : ℕ = length (flattened m x f).locals in
         let g : ℕ = global_space m in
+        let p : Pieces = b.slim.pieces in
         let one : g + 1 ≡ suc g = omega arith in
         let two : n + 1 ≡ suc n = omega arith in
         let bytes : size - 4 ≡ fields_size fields = (let z = chosen_size keep places (Saved m save_all f 0) same_saved in omega arith) in
         let spots : chosen ≡ placed 0 fields = ec ∙ ap (filter kept) er ∙ chosen_places keep places (Saved m save_all f 0) same_saved kept same in
-        let indices : spill_indices (length v.func.locals.items) (ids_behind m) ≡ spilled_by (frame_layout m s which x f) =
+        let indices : spill_indices (length v.func.locals.items) (ids_behind m) ≡ spilled_by layout =
         ap (λ k. spill_indices k (ids_behind m)) (ap (λ (q : FlatFunc). length q.locals) h.flat) ∙ (λ i. record { address = one i; index = n; scratch = two i }) in
-        ap (λ (j : RuntimeIds). whole j.state (spill_indices (length v.func.locals.items) j) (size - 4) chosen ns flat) ei
-        ∙ ap (λ j. whole g j (size - 4) chosen ns flat) indices
-        ∙ ap (λ k. whole g (spilled_by (frame_layout m s which x f)) k chosen ns flat) bytes
-        ∙ ap (λ ps. whole g (spilled_by (frame_layout m s which x f)) (fields_size fields) ps ns flat) spots
-        ∙ ap (λ ks. whole g (spilled_by (frame_layout m s which x f)) (fields_size fields) (placed 0 fields) ks flat) en
-        ∙ ap (whole g (spilled_by (frame_layout m s which x f)) (fields_size fields) (placed 0 fields) (Numbered m s which f)) h.flat
-
-  -- ---- the locals
-
-  pub runs_same : (own : ℕ) → own ≡ v.first_slot → f.locals ++ map one_run (drop own v.func.locals.items ++ I32 ∷ I32 ∷ I64 ∷ []) ≡ (plain_written m s which x f).locals
-  runs_same own e =
-      let rest : drop own v.func.locals.items ≡ extra_types m f =
-      ap (λ n. drop n v.func.locals.items) (e ∙ h.first_slot) ∙ ap (drop (length (locals_of m f))) (same_locals ∙ append_assoc (locals_of m f) slots results) ∙ drop-append_seam (locals_of m f) (slots ++ results) in
-      ap (λ ts. f.locals ++ map one_run (ts ++ I32 ∷ I32 ∷ I64 ∷ [])) rest
-
-abbrev pub mk_func : ℕ → List Run → Code → Func
-mk_func sort locals body = record { sort = sort; locals = locals; body = body }
-
-pub func_is : (g : Func) (sort : ℕ) (locals : List Run) (body : Code) → sort ≡ g.sort → locals ≡ g.locals → body ≡ g.body → mk_func sort locals body ≡ g
-func_is g sort locals body a b c = λ i. record { sort = a i; locals = b i; body = c i }
+        let code =
+        b.is
+        ∙ ap (whole ids.state (spill_indices (length v.func.locals.items) ids) (size - 4) chosen) b.slim.code
+        ∙ ap (λ (j : RuntimeIds). whole j.state (spill_indices (length v.func.locals.items) j) (size - 4) chosen (front_of p j.state)) ei
+        ∙ ap (λ j. whole g j (size - 4) chosen (front_of p g)) indices
+        ∙ ap (λ k. whole g (spilled_by layout) k chosen (front_of p g)) bytes
+        ∙ ap (λ ps. whole g (spilled_by layout) (fields_size fields) ps (front_of p g)) spots in
+        record {
+          pieces = p;
+          slim = subst (λ ks. SlimPieces m ks x f p) en b.slim.slim;
+          is = func_is (written_func m s which x f p) f.sort locals body refl (el ∙ runs_same v.first_slot refl) code;
+        }

@@ -5,7 +5,7 @@ ghost use Rattle.wa_types.specs.Validity.{Valid as IsValid};
 ghost use Rattle.wa_types.specs.View.{func_of, module_of};
 ghost use Rattle.call_graph.specs.Settings.{settings_of};
 ghost use Rattle.asyncify_runtime.specs.Ids.{ids_behind};
-ghost use Rattle.func_rewrite.specs.Written.{plain_written};
+ghost use Rattle.written_frames.specs.Emitted.{IsAllWritten};
 ghost use Rattle.func_rewrite.specs.Frames.{IsFlattened, FramesUnder};
 
 use crate::body::written_body;
@@ -41,7 +41,7 @@ pub fn write_func(
     requires listed { listed.now ≡ Listed (module_of «module».now) (settings_of settings.now) }
     requires ids { ids.now ≡ ids_behind (module_of «module».now) }
     requires flat { IsFlattened (module_of «module».now) (func_of source.now) flat.now }
-    ensures func { IfOk result (λ w. func_of w.func ≡ plain_written (module_of «module».now) (settings_of settings.now) which.now flat.now.func.func (func_of source.now)) }
+    ensures func { IfOk result (λ w. IsAllWritten (module_of «module».now) (settings_of settings.now) which.now flat.now.func.func (func_of source.now) (func_of w.func)) }
     ensures frames { IfOk result (λ w. FramesUnder save_all (module_of «module».now) (settings_of settings.now) which.now (func_of source.now) w.frames.items) }
 {
     let func = emit_func(alloc, module, settings, which, listed, source, flat, ids)?;
@@ -66,7 +66,7 @@ pub fn emit_func(
     requires listed { listed.now ≡ Listed (module_of _module.now) (settings_of settings.now) }
     requires ids { ids.now ≡ ids_behind (module_of _module.now) }
     requires flat { IsFlattened (module_of _module.now) (func_of source.now) flat.now }
-    ensures { IfOk result (λ f. func_of f ≡ plain_written (module_of _module.now) (settings_of settings.now) which.now flat.now.func.func (func_of source.now)) }
+    ensures { IfOk result (λ f. IsAllWritten (module_of _module.now) (settings_of settings.now) which.now flat.now.func.func (func_of source.now) (func_of f)) }
 {
     let own = flat.first_slot;
     let flat_func = &flat.func;
@@ -74,7 +74,7 @@ pub fn emit_func(
     let kept = kept_locals(alloc, flat_func, &numbers, own)?;
     let saved = saved_places(alloc, &flat_func.locals, flat.first_result)?;
     let frame = chosen_frame(alloc, layout(alloc, 0, &saved)?, &kept)?;
-    let body = written_body(alloc, flat_func, &numbers, frame, ids)?;
+    let body = written_body(alloc, flat, &numbers, frame, ids)?;
     let locals = written_locals(alloc, &source.locals, &flat_func.locals, own)?;
     Ok(Func {
         sort: source.sort,

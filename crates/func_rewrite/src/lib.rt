@@ -1,5 +1,5 @@
-//! One function as it is written under the policy `all`: flat, guarded, with the code that restores and saves its frame, and its
-//! frames. What doesn't look at the policy, the body around that code and the locals, serves `live_rewrite` too.
+//! One function as it is written under the policy `all`: flat, in slim pieces, guarded, with the code that restores and saves its frame,
+//! and its frames. What doesn't look at the policy, the body around that code and the locals, serves `live_rewrite` too.
 #![tactic(auto)]
 
 mod body;

@@ -15,7 +15,7 @@ use Rattle.wa_types.specs.Validity.{Valid}
 use Rattle.file_laws.proofs.FileWriting.{written_spells}
 use Rattle.wasm_encode.specs.Modules.{FewLocals}
 use Rattle.wasm_reader.specs.Answers.{IsAccepted}
-use Rattle.prepared_modules.specs.Emitted.{asyncified}
+use Rattle.prepared_modules.specs.Emitted.{IsAllWritten, asyncified}
 use Rattle.prepared_modules.proofs.EmittedBy.{defined_where}
 use Rattle.prepared_modules.proofs.EmittedFits.{emitted_fits}
 use Rattle.prepared_modules.proofs.EmittedLength as All
@@ -23,7 +23,7 @@ use Rattle.prepared_modules.proofs.FitsBy.{one_of_all}
 use Rattle.prepared_modules.proofs.LengthBy.{entry}
 use Rattle.prepared_modules.proofs.LengthBy as By
 use Rattle.prepared_modules.proofs.Prepared.{emitted_prepared}
-use Rattle.live_form.specs.EmittedAs.{EmittedUnder, IsAllWritten, IsLiveWritten, IsWrittenUnder}
+use Rattle.live_form.specs.EmittedAs.{EmittedUnder, IsLiveWritten, IsWrittenUnder}
 use Rattle.live_form.specs.LiveParts.{live_codes}
 use Rattle.live_form.proofs.CallCounts.{told_calls}
 use Rattle.live_form.proofs.LiveHold.{live_few}

@@ -1,4 +1,4 @@
-pub use Rattle.live_form.proofs.OneEmitted
+pub use Rattle.live_form.proofs.CodeAlone
 pub use Rattle.live_form.proofs.PolicyCases
 pub use Rattle.prepared_modules.proofs.EmittedBy
 pub use Rattle.prepared_modules.proofs.FitsBy

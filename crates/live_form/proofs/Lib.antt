@@ -1,4 +1,3 @@
-pub use Rattle.live_guards.proofs.SlimModules
 pub use Rattle.rewrite_runs.proofs.Asyncified
 pub use Rattle.rewrite_runs.proofs.EmittedSo
 pub use Rattle.rewrite_runs.proofs.FitsBy
@@ -7,4 +6,4 @@ pub mod LiveHold
 pub mod LiveModules
 pub mod PartRows
 pub mod PolicyCases
-pub mod OneEmitted
+pub mod CodeAlone

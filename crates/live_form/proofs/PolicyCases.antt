@@ -12,13 +12,13 @@ use Rattle.wa_model.specs.Rewrites.{Rewrites}
 use Rattle.rewrite_runs.specs.Pieces.{no_unit}
 use Rattle.call_frames.specs.PlainFrames.{SavedParts}
 use Rattle.live_guards.specs.SlimModule.{Pieces, SlimPieces}
-use Rattle.rewrite_runs.specs.Emitted.{ChosenPieces, layout_codes}
+use Rattle.rewrite_runs.specs.Emitted.{IsAllWritten, layout_codes}
 use Rattle.rewrite_runs.specs.EmittedBy.{FrameCode, funcs_by, written_by}
 use Rattle.rewrite_runs.specs.Rewritten.{RewritesButRuns}
 use Rattle.rewrite_runs.proofs.EmittedRewritten as Rewritten
 use Rattle.rewrite_runs.proofs.EmittedSizes as Sized
 use Rattle.rewrite_runs.proofs.Asyncified.{asyncified_law}
-use Rattle.live_form.specs.EmittedAs.{AreEmitted, EmittedUnder, FunctionsAreEmitted, IsAllAsyncified, IsAllWritten, IsEmittedWhere, IsLiveAsyncified, IsLiveWritten, IsWritten, IsWrittenUnder}
+use Rattle.live_form.specs.EmittedAs.{AreEmitted, EmittedUnder, FunctionsAreEmitted, IsAllAsyncified, IsEmittedWhere, IsLiveAsyncified, IsLiveWritten, IsWritten, IsWrittenUnder}
 use Rattle.live_form.specs.Laws.{LiveRewriting}
 use Rattle.live_form.specs.LiveParts.{LiveParts, live_codes}
 use Rattle.live_form.specs.PolicyLaws.{CanBeEmitted, EmittedAsIsRewritten, EmittedAsIsValid, EmittedAsKeepsSizes, EmittedAsRewrites}
@@ -134,13 +134,13 @@ module _ (m : Module) (s : Settings) (which : List Bool) (gs : List Func) (h : A
   -- under `all` by their pieces
   module _ (policy : s.policy ≡ save_all) where
     abbrev AllOwed : ℕ → Func → Pieces → Type 0
-    AllOwed x f p = SlimPieces m (Numbered m s which f) x f p × ChosenPieces m s which x f p
+    AllOwed x f p = SlimPieces m (Numbered m s which f) x f p
 
     abbrev all_codes : Pieces → (index : ℕ) → Func → FrameCode
     all_codes p = layout_codes m s which (λ y. p)
 
     abbrev from_all : (x : ℕ) (f g : Func) → IsWritten m s which x f g → (p : Pieces) × AllOwed x f p × (g ≡ written_by m s which (all_codes p) x f)
-    from_all x f g h = let w : IsAllWritten m s which x f g = subst (λ (p : Policy). IsWrittenUnder p m s which x f g) policy h in (w.pieces, (w.slim, w.chosen), w.is)
+    from_all x f g h = let w : IsAllWritten m s which x f g = subst (λ (p : Policy). IsWrittenUnder p m s which x f g) policy h in (w.pieces, w.slim, w.is)
 
     abbrev all_pieces : (index : ℕ) → Pieces
     all_pieces = told_at m s which Pieces no_pieces all_codes AllOwed from_all gs h
@@ -151,8 +151,7 @@ module _ (m : Module) (s : Settings) (which : List Bool) (gs : List Func) (h : A
         let funcs = all_funcs m s which Pieces no_pieces all_codes AllOwed from_all gs h in
         record {
           pieces = all_pieces;
-          slim = λ x f is told. (owed x f is told).0;
-          chosen = λ x f is told. (owed x f is told).1;
+          slim = owed;
           is = ap (λ fs. with_runtime (record m { funcs = fs })) (sym funcs);
         }
 
@@ -165,14 +164,14 @@ module _ (m : Module) (s : Settings) (which : List Bool) (gs : List Func) (h : A
     none = (no_pieces, record { count = 0; address = 0; index = 0; scratch = 0; parts = [] })
 
     abbrev LiveOwed : ℕ → Func → Told → Type 0
-    LiveOwed x f p = SlimPieces m (Numbered m s which f) x f p.0 × ChosenPieces m s which x f p.0 × LiveParts m s which x f p.1
+    LiveOwed x f p = SlimPieces m (Numbered m s which f) x f p.0 × LiveParts m s which x f p.1
 
     abbrev codes_of : Told → (index : ℕ) → Func → FrameCode
     codes_of p = live_codes (λ y. p.0) (λ y. p.1)
 
     abbrev from_live : (x : ℕ) (f g : Func) → IsWritten m s which x f g → (p : Told) × LiveOwed x f p × (g ≡ written_by m s which (codes_of p) x f)
     from_live x f g h =
-        let w : IsLiveWritten m s which x f g = subst (λ (p : Policy). IsWrittenUnder p m s which x f g) policy h in ((w.pieces, w.parts), (w.slim, w.chosen, w.live), w.is)
+        let w : IsLiveWritten m s which x f g = subst (λ (p : Policy). IsWrittenUnder p m s which x f g) policy h in ((w.pieces, w.parts), (w.slim, w.live), w.is)
 
     abbrev told : (index : ℕ) → Told
     told = told_at m s which Told none codes_of LiveOwed from_live gs h
@@ -184,9 +183,8 @@ module _ (m : Module) (s : Settings) (which : List Bool) (gs : List Func) (h : A
         record {
           pieces = λ x. (told x).0;
           slim = λ x f is told. (owed x f is told).0;
-          chosen = λ x f is told. (owed x f is told).1;
           parts = λ x. (told x).1;
-          live = λ x f is told. (owed x f is told).2;
+          live = λ x f is told. (owed x f is told).1;
           is = ap (λ fs. with_runtime (record m { funcs = fs })) (sym funcs);
         }
 

@@ -1,34 +1,26 @@
--- What is emitted, by the policy of the settings: functions are written from the slim pieces that are chosen, and under `live` with the frames of the policy.
-use Rattle.std.specs.Prelude.{◌≡◌, ℕ, suc, List, [], ◌∷◌, Some, Bool, true, false, slice_get}
-use Rattle.wa_types.specs.Modules.{defined_at, func_imports}
+-- What is emitted, by the policy of the settings: functions are written from some slim pieces, and under `live` with the frames of the policy.
+use Rattle.std.specs.Prelude.{◌≡◌, ℕ, suc, List, [], ◌∷◌, Bool, true, false, slice_get}
+use Rattle.wa_types.specs.Modules.{func_imports}
 use Rattle.wa_types.specs.Pausing.{Numbered, Policy, Settings, is_told, save_all, save_live}
 use Rattle.wa_types.specs.Runtime.{with_runtime}
 use Rattle.wa_types.specs.Syntax.{Func, Module}
 use Rattle.call_frames.specs.PlainFrames.{SavedParts}
 use Rattle.live_guards.specs.SlimModule.{Pieces, SlimPieces}
 use Rattle.rewrite_runs.specs.CodesHold.{AllSlim}
-use Rattle.rewrite_runs.specs.Emitted.{ChosenPieces, asyncified, written_func}
+use Rattle.rewrite_runs.specs.Emitted.{IsAllWritten, asyncified}
 use Rattle.rewrite_runs.specs.EmittedBy.{written_by}
 use Rattle.live_form.specs.LiveParts.{AllLiveParts, LiveParts, live_asyncified, live_codes}
 
 -- ---- one function
 
--- It is written from the slim pieces that are chosen.
-pub record IsAllWritten (m : Module) (s : Settings) (which : List Bool) (x : ℕ) (f g : Func) : Type 0 where
-  pub pieces : Pieces
-  pub slim : SlimPieces m (Numbered m s which f) x f pieces
-  pub chosen : ChosenPieces m s which x f pieces
-  pub is : g ≡ written_func m s which x f pieces
-
 -- as it is written from these pieces, with frames of these parts
 abbrev pub live_written : Module → Settings → (which : List Bool) → (index : ℕ) → Func → Pieces → SavedParts → Func
 live_written m s which x f ps p = written_by m s which (live_codes (λ y. ps) (λ y. p)) x f
 
--- It is written from the slim pieces that are chosen, with frames that keep at each call what the policy saves there.
+-- It is written from some slim pieces, with frames that keep at each call what the policy saves there.
 pub record IsLiveWritten (m : Module) (s : Settings) (which : List Bool) (x : ℕ) (f g : Func) : Type 0 where
   pub pieces : Pieces
   pub slim : SlimPieces m (Numbered m s which f) x f pieces
-  pub chosen : ChosenPieces m s which x f pieces
   pub parts : SavedParts
   pub live : LiveParts m s which x f parts
   pub is : g ≡ live_written m s which x f pieces parts
@@ -60,20 +52,14 @@ AreEmitted m s which x (f ∷ fs) (g ∷ gs) = IsEmitted m s which x f g × AreE
 
 -- ---- the module
 
--- The pieces of each told function are those that are chosen.
-abbrev pub AllChosen : Module → Settings → (which : List Bool) → (pieces : (index : ℕ) → Pieces) → Type 0
-AllChosen m s which pieces = (x : ℕ) (f : Func) → defined_at m x ≡ Some f → is_told (slice_get which x) ≡ true → ChosenPieces m s which x f (pieces x)
-
 pub record IsAllAsyncified (m : Module) (s : Settings) (which : List Bool) (q : Module) : Type 0 where
   pub pieces : (index : ℕ) → Pieces
   pub slim : AllSlim m s which pieces
-  pub chosen : AllChosen m s which pieces
   pub is : q ≡ asyncified m s which pieces
 
 pub record IsLiveAsyncified (m : Module) (s : Settings) (which : List Bool) (q : Module) : Type 0 where
   pub pieces : (index : ℕ) → Pieces
   pub slim : AllSlim m s which pieces
-  pub chosen : AllChosen m s which pieces
   pub parts : (index : ℕ) → SavedParts
   pub live : AllLiveParts m s which parts
   pub is : q ≡ live_asyncified m s which pieces parts

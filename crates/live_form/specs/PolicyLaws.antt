@@ -1,8 +1,8 @@
 -- Laws of what is emitted, for both policies.
-use Rattle.std.specs.Prelude.{◌≡◌, List, Bool}
+use Rattle.std.specs.Prelude.{◌≡◌, List, map, Bool}
 use Rattle.wa_types.specs.Pausing.{Settings, TellsMayPause}
 use Rattle.wa_types.specs.Sizes.{SizeRule, StrictSizeRule}
-use Rattle.wa_types.specs.Syntax.{Module}
+use Rattle.wa_types.specs.Syntax.{done, Func, Module}
 use Rattle.wa_types.specs.Validity.{Valid}
 use Rattle.wa_model.specs.Quiet.{FreeOfNames}
 use Rattle.wa_model.specs.Rewrites.{Rewrites}
@@ -33,6 +33,10 @@ EmittedAsRewrites = (m : Module) (s : Settings) (which : List Bool) (q : Module)
 abbrev pub EmittedAsKeepsSizes : Type 0
 EmittedAsKeepsSizes = (m : Module) (s : Settings) (which : List Bool) (q : Module) → CanBeEmitted m s which → EmittedAs m s which q → SizeRule q
 
--- One module is emitted.
-abbrev pub OneIsEmitted : Type 0
-OneIsEmitted = (m : Module) (s : Settings) (which : List Bool) (p q : Module) → EmittedAs m s which p → EmittedAs m s which q → p ≡ q
+-- a module with no code in its functions
+abbrev pub without_code : Module → Module
+without_code m = record m { funcs = map (λ (f : Func). record f { body = done }) m.funcs }
+
+-- Modules that are emitted of one differ in code alone.
+abbrev pub EmittedDifferInCode : Type 0
+EmittedDifferInCode = (m : Module) (s : Settings) (which : List Bool) (p q : Module) → EmittedAs m s which p → EmittedAs m s which q → without_code p ≡ without_code q

@@ -13,6 +13,6 @@ pub use laws::{
     live_module_keeps_sizes, live_module_rewrites,
 };
 pub use policies::{
-    emitted_is_one, emitted_is_rewritten, emitted_is_valid, emitted_keeps_sizes, emitted_rewrites,
-    functions_are_emitted,
+    emitted_differ_in_code, emitted_is_rewritten, emitted_is_valid, emitted_keeps_sizes,
+    emitted_rewrites, functions_are_emitted,
 };

@@ -1,7 +1,7 @@
 //! Laws of what is emitted, for both policies. Each is the contract of a function that does nothing.
 
 ghost use Rattle.live_form.specs.EmittedAs.{FunctionsAreEmitted};
-ghost use Rattle.live_form.specs.PolicyLaws.{EmittedAsIsRewritten, EmittedAsIsValid, EmittedAsKeepsSizes, EmittedAsRewrites, OneIsEmitted};
+ghost use Rattle.live_form.specs.PolicyLaws.{EmittedAsIsRewritten, EmittedAsIsValid, EmittedAsKeepsSizes, EmittedAsRewrites, EmittedDifferInCode};
 
 /// Functions that are emitted one by one are those of an emitted module.
 pub fn functions_are_emitted()
@@ -28,7 +28,7 @@ pub fn emitted_keeps_sizes()
     ensures { EmittedAsKeepsSizes }
 {}
 
-/// One module is emitted, by either policy.
-pub fn emitted_is_one()
-    ensures { OneIsEmitted }
+/// Modules that are emitted of one differ in code alone, by either policy.
+pub fn emitted_differ_in_code()
+    ensures { EmittedDifferInCode }
 {}

@@ -3,7 +3,6 @@ pub use Rattle.func_rewrite.proofs.ToldLemmas
 pub use Rattle.live_form.proofs.Asyncified
 pub use Rattle.live_form.proofs.FitsBy
 pub use Rattle.live_form.proofs.PolicyCases
-pub mod AllWritten
 pub mod CallFacts
 pub mod LayoutSteps
 pub mod PartsOwed

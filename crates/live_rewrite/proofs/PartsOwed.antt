@@ -1,5 +1,5 @@
 -- The parts that are made from the sets are those of the policy `live`, and the function is as it is written with them.
-use Rattle.std.proofs.Common.{◌≡◌, ◌∙◌, ℕ, suc, ◌+◌, ◌<◌, List, [], ◌∷◌, ◌++◌, length, map, drop, Bool, refl, ap, arith}
+use Rattle.std.proofs.Common.{◌≡◌, ◌∙◌, ℕ, suc, ◌+◌, ◌<◌, List, [], ◌∷◌, ◌++◌, length, map, drop, Bool, refl, ap, subst, arith}
 use Rattle.std.specs.Prelude.{slice_get}
 use Rattle.std.proofs.lemmas.Option.{slice_get_within}
 use Rattle.wa_types.specs.declared.syntax.Run.{Run}
@@ -16,11 +16,10 @@ use Rattle.flat_laws.specs.Flatten.{flattened}
 use Rattle.func_rewrite.specs.Flattened.{Flattened}
 use Rattle.asyncify_runtime.specs.Ids.{ids_behind}
 use Rattle.local_spill.specs.declared.RuntimeIds.{RuntimeIds}
-use Rattle.guard_form.specs.Guarded.{function_body, guarded_code}
+use Rattle.guard_form.specs.Guarded.{front, function_body}
 use Rattle.call_frames.specs.FrameParts.{restoring_by_call, saving_by_call}
 use Rattle.call_frames.specs.PlainFrames.{SavedParts, frames_of}
-use Rattle.live_form.specs.SlimModule.{Pieces, plain_pieces}
-use Rattle.live_form.proofs.SlimModules.{plain_slim}
+use Rattle.live_form.specs.SlimModule.{Pieces, SlimPieces}
 use Rattle.save_laws.specs.LiveAt.{LiveAtCalls}
 use Rattle.call_classes.specs.declared.frames.FrameParts.{FrameParts}
 use Rattle.call_classes.specs.CallParts.{call_parts, kept_by_sets}
@@ -28,6 +27,7 @@ use Rattle.call_classes.specs.Classes.{KeepCheaply}
 use Rattle.call_classes.specs.Views.{parts_view, told_frames}
 use Rattle.live_form.specs.EmittedAs.{IsLiveWritten, live_written}
 use Rattle.live_form.specs.LiveParts.{LiveParts}
+use Rattle.func_rewrite.specs.Bodies.{IsSlimBody}
 use Rattle.func_rewrite.specs.Frames.{IsFlattened}
 use Rattle.func_rewrite.proofs.WrittenFuncs.{func_is, mk_func, runs_same}
 use Rattle.live_rewrite.proofs.SetFields.{fields_saved, numbers_below, rows_saved, total_saved}
@@ -73,26 +73,21 @@ module _ (m : Module) (s : Settings) (which : List Bool) (f : Func) (v : Flatten
     size = (let a = cheap.size in let e = total_saved m s which f v valid h ns sets en live in omega (arith, a, e));
   }
 
-  abbrev whole : ℕ → SavedParts → List ℕ → FlatFunc → Code
-  whole g p ks fl = function_body g (restoring_by_call (frames_of p) done) (saving_by_call (frames_of p) done) (result_got fl.result) (guarded_code g ks fl)
+  abbrev whole : ℕ → Code → Code
+  whole g guarded = function_body g (restoring_by_call (frames_of told) done) (saving_by_call (frames_of told) done) (result_got (flattened m x f).result) guarded
 
-  -- pieces as flattening gives them
-  abbrev plain : Pieces
-  plain = plain_pieces (Numbered m s which f) (flattened m x f)
-
-  body_same : whole ids.state told ns (flat_func_of v.func) ≡ (live_written m s which x f plain told).body
-  body_same =
-      ap (λ (i : RuntimeIds). whole i.state told ns (flat_func_of v.func)) ei
-      ∙ ap (λ ks. whole (global_space m) told ks (flat_func_of v.func)) en
-      ∙ ap (whole (global_space m) told (Numbered m s which f)) h.flat
+  abbrev front_of : Pieces → (state : ℕ) → Code
+  front_of p state = front (record { state = state; index = length (flattened m x f).locals }) 0 0 p.first p.units
 
   pub live_is : (locals : List Run) (body : Code) → locals ≡ f.locals ++ map one_run (drop v.first_slot v.func.locals.items ++ I32 ∷ I32 ∷ I64 ∷ [])
-      → body ≡ whole ids.state told ns (flat_func_of v.func) → IsLiveWritten m s which x f (mk_func f.sort locals body)
-  live_is locals body el eb = record {
-    pieces = plain;
-    slim = plain_slim m (Numbered m s which f) x f;
-    chosen = refl;
-    parts = told;
-    live = owed;
-    is = func_is (live_written m s which x f plain told) f.sort locals body refl (el ∙ runs_same m s which f v valid sizes h v.first_slot refl) (eb ∙ body_same);
-  }
+      → IsSlimBody m ns ids.state x f (restoring_by_call (frames_of told) done) (saving_by_call (frames_of told) done) body → IsLiveWritten m s which x f (mk_func f.sort locals body)
+  live_is locals body el b =
+      let p : Pieces = b.slim.pieces in
+      record {
+        pieces = p;
+        slim = subst (λ ks. SlimPieces m ks x f p) en b.slim.slim;
+        parts = told;
+        live = owed;
+        is = func_is (live_written m s which x f p told) f.sort locals body refl (el ∙ runs_same m s which f v valid sizes h v.first_slot refl)
+            (b.is ∙ ap (whole ids.state) b.slim.code ∙ ap (λ (i : RuntimeIds). whole i.state (front_of p i.state)) ei);
+      }

@@ -1,12 +1,11 @@
 //! The function as it is written, and its frames.
 
-ghost use Rattle.std.specs.Prelude.{◌≡◌, ◌≤◌, ◌<◌, ◌+◌, ◌^◌, ℕ, length, IfOk};
+ghost use Rattle.std.specs.Prelude.{◌≡◌, ◌≤◌, ◌<◌, ◌^◌, ℕ, length, IfOk};
 ghost use Rattle.wa_types.specs.Pausing.{Listed, save_live};
 ghost use Rattle.wa_types.specs.Sizes.{StrictSizeRule};
-ghost use Rattle.wa_types.specs.Syntax.{done};
+ghost use Rattle.wa_types.specs.Syntax.{Func as PlainFunc, Module as PlainModule, done};
 ghost use Rattle.wa_types.specs.Validity.{Valid as IsValid};
 ghost use Rattle.wa_types.specs.View.{code, func_of, module_of};
-ghost use Rattle.wa_model.specs.Flat.{result_got};
 ghost use Rattle.wa_model.specs.FlatFits.{FlatFits};
 ghost use Rattle.wa_model.specs.FlatView.{flat_func_of};
 ghost use Rattle.call_graph.specs.Settings.{settings_of};
@@ -14,8 +13,8 @@ ghost use Rattle.asyncify_runtime.specs.Ids.{ids_behind};
 ghost use Rattle.call_frames.specs.FrameParts.{restoring_by_call, saving_by_call};
 ghost use Rattle.call_frames.specs.PlainFrames.{frames_of};
 ghost use Rattle.save_laws.specs.Emitting.{Rises};
+ghost use Rattle.func_rewrite.specs.Bodies.{IsSlimBody};
 ghost use Rattle.func_rewrite.specs.Frames.{FramesUnder, IsFlattened};
-ghost use Rattle.guard_form.specs.Guarded.{function_body, guarded_code};
 ghost use Rattle.guard_form.specs.Pieces.{call_total};
 ghost use Rattle.live_form.specs.EmittedAs.{IsLiveWritten};
 ghost use Rattle.call_classes.specs.Classes.{FewParts};
@@ -30,24 +29,24 @@ use func_rewrite::{Flattened, Written, body_around, unless_normal, written_local
 use live_frames::{restoring, saving};
 use local_spill::{Layout, RuntimeIds};
 use std::alloc::{AllocError, Global};
-use wa_model::FlatFunc;
 use wa_types::{Func, Instr, Module};
 
 /// The body of the written function, whose numbered calls have these places and whose frames have these parts.
 fn live_body(
     alloc: Global,
-    flat: &FlatFunc,
+    flat: &Flattened,
     numbers: &[u32],
     parts: &FrameParts,
     ids: &RuntimeIds,
 ) -> Result<Vec<Instr>, AllocError>
-    requires fits { FlatFits (flat_func_of flat.now) }
+    requires fits { FlatFits (flat_func_of flat.now.func) }
     requires rises { Rises numbers.now }
-    requires few { call_total (flat_func_of flat.now).body < 2 ^ 32 }
+    requires few { call_total (flat_func_of flat.now.func).body < 2 ^ 32 }
+    requires slots { flat.now.first_slot ≤ flat.now.first_result }
     requires parts { FewParts (parts_view parts.now) }
-    ensures { IfOk result (λ v. (count : ℕ) → code v.items ≡ function_body ids.now.state (restoring_by_call (frames_of (told_frames count (length flat.now.locals.items) ids.now.address parts.now)) done) (saving_by_call (frames_of (told_frames count (length flat.now.locals.items) ids.now.address parts.now)) done) (result_got flat.now.result) (guarded_code ids.now.state numbers.now (flat_func_of flat.now))) }
+    ensures { IfOk result (λ v. (m : PlainModule) (f : PlainFunc) (count : ℕ) → IsFlattened m f flat.now → IsSlimBody m numbers.now ids.now.state flat.now.func.func f (restoring_by_call (frames_of (told_frames count (length flat.now.func.locals.items) ids.now.address parts.now)) done) (saving_by_call (frames_of (told_frames count (length flat.now.func.locals.items) ids.now.address parts.now)) done) (code v.items)) }
 {
-    let base = flat.locals.len() as u32;
+    let base = flat.func.locals.len() as u32;
     let restored = restoring(alloc, parts, base, ids.address)?;
     let start = unless_normal(alloc, ids.state, restored)?;
     let saved = saving(alloc, parts, base, ids.address)?;
@@ -74,7 +73,7 @@ fn live_func(
     ensures { IfOk result (λ f. IsLiveWritten (module_of _module.now) (settings_of _settings.now) _which.now flat.now.func.func (func_of source.now) (func_of f)) }
 {
     let parts = saved_parts(alloc, &calls.sets, &flat.func.locals)?;
-    let body = live_body(alloc, &flat.func, &calls.numbers, &parts, ids)?;
+    let body = live_body(alloc, flat, &calls.numbers, &parts, ids)?;
     let locals = written_locals(alloc, &source.locals, &flat.func.locals, flat.first_slot)?;
     Ok(Func {
         sort: source.sort,

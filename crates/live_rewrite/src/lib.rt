@@ -1,6 +1,6 @@
 //! One function as it is written by the policy of the settings.
 //!
-//! Under `live` it is flat, guarded, with the code that restores and saves its frame, which differs by call, and its frames: the
+//! Under `live` it is flat, in slim pieces, guarded, with the code that restores and saves its frame, which differs by call, and its frames: the
 //! sets of locals that its numbered calls keep (`live_locals`) make the parts of its frames (`call_classes`), and these its code
 //! (`live_frames`).
 #![tactic(auto)]

@@ -1,6 +1,6 @@
 //! The module that rewriting emits: each function that may pause is written with guards and frames, every other stays, and the
 //! runtime's parts stand behind. The answer is what `live_form` says by the policy of the settings (`EmittedAs`): under `all`
-//! `asyncified` of `rewrite_form`, from the pieces that are chosen.
+//! `asyncified` of `rewrite_form`, from some slim pieces.
 #![tactic(auto)]
 
 mod emitting;

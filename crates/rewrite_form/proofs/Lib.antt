@@ -1,5 +1,4 @@
 pub use Rattle.slim_modules.proofs.Calls
-pub use Rattle.slim_modules.proofs.SlimModules
 pub use Rattle.slim_modules.proofs.UnitsAlike
 pub use Rattle.slim_modules.proofs.Whole
 pub mod EmittedBy

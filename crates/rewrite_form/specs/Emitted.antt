@@ -10,7 +10,7 @@ use Rattle.wa_model.specs.Flat.{FlatFunc}
 use Rattle.slim_modules.specs.Flatten.{flattened}
 use Rattle.slim_modules.specs.FlatModule.{stacks_in}
 use Rattle.frame_laws.specs.Layout.{FrameField, kept, gap, Layout, save_code, restore_code}
-use Rattle.slim_modules.specs.SlimModule.{Pieces, plain_pieces}
+use Rattle.slim_modules.specs.SlimModule.{Pieces, SlimPieces}
 use Rattle.rewrite_form.specs.EmittedBy.{FrameCode, asyncified_by, written_by}
 
 -- ---- frames
@@ -43,10 +43,6 @@ frame_layout m s which x f = record {
 
 -- ---- functions
 
--- Which slim pieces a function is written from: those that flattening gives.
-abbrev pub ChosenPieces : Module → Settings → (which : List Bool) → (index : ℕ) → Func → Pieces → Type 0
-ChosenPieces m s which x f p = p ≡ plain_pieces (Numbered m s which f) (flattened m x f)
-
 module _ (m : Module) (s : Settings) (which : List Bool) (pieces : (index : ℕ) → Pieces) where
   -- its pieces, and its codes
   abbrev pub layout_codes : (index : ℕ) → Func → FrameCode
@@ -59,3 +55,9 @@ module _ (m : Module) (s : Settings) (which : List Bool) (pieces : (index : ℕ)
 -- A function as it is written from these pieces. Behind its locals stand the slots, the result locals, the call index and a scratch local of each type.
 abbrev pub written_func : Module → Settings → (which : List Bool) → (index : ℕ) → Func → Pieces → Func
 written_func m s which x f p = written_by m s which (layout_codes m s which (λ y. p)) x f
+
+-- The second function is the first, of this index, as it is written from some slim pieces.
+pub record IsAllWritten (m : Module) (s : Settings) (which : List Bool) (x : ℕ) (f g : Func) : Type 0 where
+  pub pieces : Pieces
+  pub slim : SlimPieces m (Numbered m s which f) x f pieces
+  pub is : g ≡ written_func m s which x f pieces

@@ -1,9 +1,9 @@
--- A program has one module, or is refused for one cause.
-use Rattle.std.proofs.Common.{arith, ◌≡◌, ℕ, suc, ◌≤◌, List, Option, Some, None, Bool, sym, ap, ◌∙◌, subst}
+-- A program has one module but for its code, or is refused for one cause.
+use Rattle.std.proofs.Common.{arith, ◌≡◌, ℕ, suc, ◌≤◌, List, Option, Some, Bool, sym, ap, ◌∙◌, subst}
 use Rattle.vault_port.specs.Files.{Files, bytes_of}
 use Rattle.wa_types.specs.declared.bounds.LimitKind.{LimitKind}
 use Rattle.wa_types.specs.declared.bounds.LimitKind.TheVariants.{File}
-use Rattle.wa_types.specs.Pausing.{Settings, Listed}
+use Rattle.wa_types.specs.Pausing.{Settings}
 use Rattle.wa_types.specs.Syntax.{Module}
 use Rattle.wa_model.specs.Script.{ProgramText}
 use Rattle.wa_model.specs.Transcript.{Refusal}
@@ -11,6 +11,7 @@ use Rattle.host_files.proofs.Fronts.{own_bytes}
 use Rattle.host_modules.specs.Prepared.{IsPrepared, IsUnprepared}
 use Rattle.script_opening.specs.Running.{RunsAs}
 use Rattle.script_opening.specs.Sources.{Cause, malformed, float, deep, limit, reserved, invalid, rewritten_locals, long_output, IsRefusedFor}
+use Rattle.transform_command.specs.PolicyLaws.{without_code}
 use Rattle.transform_command.proofs.Verdicts as V
 use Rattle.script_opening.specs.declared.way.Way.{Way}
 use Rattle.script_opening.specs.declared.way.Way.TheVariants.{Host, Run}
@@ -43,41 +44,26 @@ run_passes s bytes listed p c r u h =
     let le = early c u in
     V.stops s bytes c h (V.below s bytes 7 (suc (V.stage c)) (omega (arith, le)) (r.source, r.which, r.rewritable))
 
--- two runs of one original
-pub record Same (p q : Module) (l k : List Bool) : Type 0 where
-  pub modules : p ≡ q
-  pub lists : l ≡ k
-
-one_run : (s : Settings) (bytes : List ℕ) (l k : List Bool) (p q : Module) → RunsAs s bytes l p → RunsAs s bytes k q → Same p q l k
-one_run s bytes l k p q a b =
-    let e = V.same_module bytes a.source b.source a.rewritable.accepted.unreserved.read b.rewritable.accepted.unreserved.read in
-    record {
-      modules = V.one_written s bytes a.source b.source a.which b.which p q a.rewritable b.rewritable a.written b.written;
-      lists = a.listed_is ∙ ap (λ (m : Module). Listed m s) e ∙ sym b.listed_is;
-    }
+-- runs of one original differ in code alone
+one_run : (s : Settings) (bytes : List ℕ) (l k : List Bool) (p q : Module) → RunsAs s bytes l p → RunsAs s bytes k q → without_code p ≡ without_code q
+one_run s bytes l k p q a b = V.one_written s bytes a.source b.source a.which b.which p q a.rewritable b.rewritable a.written b.written
 
 -- ---- modules
-
-pub record One (p q : Module) (l k : Option (List Bool)) : Type 0 where
-  pub modules : p ≡ q
-  pub lists : l ≡ k
 
 module _ (files : Files) (t : ProgramText) where
   -- the bytes of its file
   own : (P : List ℕ → Type 0) (bytes : List ℕ) → files t.path ≡ Some bytes → P bytes → P (bytes_of files t.path)
   own P bytes e h = subst P (own_bytes files t.path bytes e) h
 
-  pub one_module : (way : Way) (p q : Module) (l k : Option (List Bool)) → IsModule way (Some files) t p l → IsModule way (Some files) t q k → One p q l k
-  one_module Host p q l k a b = record {
-    modules = one_prepared (bytes_of files t.path) p q (own (λ (bs : List ℕ). IsPrepared bs p) a.0 a.1 a.2) (own (λ (bs : List ℕ). IsPrepared bs q) b.0 b.1 b.2);
-    lists = a.3 ∙ sym b.3;
-  }
+  -- modules of a program differ in code alone
+  pub one_module : (way : Way) (p q : Module) (l k : Option (List Bool)) → IsModule way (Some files) t p l → IsModule way (Some files) t q k → without_code p ≡ without_code q
+  one_module Host p q l k a b =
+      ap (λ (x : Module). without_code x) (one_prepared (bytes_of files t.path) p q (own (λ (bs : List ℕ). IsPrepared bs p) a.0 a.1 a.2) (own (λ (bs : List ℕ). IsPrepared bs q) b.0 b.1 b.2))
   one_module Run p q l k a b =
       let s = one_settings t a.3.0 b.3.0 a.3.1 b.3.1 in
-      let same = one_run b.3.0 (bytes_of files t.path) a.1 b.1 p q
+      one_run b.3.0 (bytes_of files t.path) a.1 b.1 p q
       (subst (λ (x : Settings). RunsAs x (bytes_of files t.path) a.1 p) s (own (λ (bs : List ℕ). RunsAs a.3.0 bs a.1 p) a.0 a.2 a.3.2))
-      (own (λ (bs : List ℕ). RunsAs b.3.0 bs b.1 q) b.0 b.2 b.3.2) in
-      record { modules = same.modules; lists = a.4 ∙ ap (λ (x : List Bool). Some x) same.lists ∙ sym b.4 }
+      (own (λ (bs : List ℕ). RunsAs b.3.0 bs b.1 q) b.0 b.2 b.3.2)
 
   -- a module isn't refused
   pub not_bad : (way : Way) (p : Module) (l : Option (List Bool)) (r : Refusal) → IsModule way (Some files) t p l → IsBadModule way (Some files) t r → ⊥

@@ -1,13 +1,12 @@
 -- A script has one answer: it can be played, or is refused for one cause.
 use Rattle.std.proofs.Common.{arith, ◌≡◌, ◌⊎◌, inl, inr, ℕ, suc, List, [], ◌∷◌, ◌++◌, length, map, Option, Some, Bool, Result, Ok, Err, refl, sym, ap, ◌∙◌, subst}
-use Rattle.std.specs.Prelude.{All, ◌<◌}
+use Rattle.std.specs.Prelude.{All}
 use Rattle.std.proofs.lemmas.List.Elements.{All-nil, All-cons, All-head, All-tail}
 use Rattle.vault_port.specs.Files.{Files, bytes_of}
 use Rattle.wa_types.specs.Syntax.{Module}
 use Rattle.wa_model.specs.Script.{ProgramText, Script, ScriptFault, breaks}
 use Rattle.wa_model.specs.Transcript.{Refusal}
-use Rattle.host_files.specs.Scripts.{HasFault, IsNoScript, IsScript, most_bytes, refusal_for}
-use Rattle.host_files.specs.Views.{Holds}
+use Rattle.host_files.specs.Scripts.{IsNoScript, IsScript, refusal_for}
 use Rattle.host_files.proofs.Fronts.{own_bytes}
 use Rattle.script_setup.specs.SetUpRules.{SetUp, set_up_rules}
 use Rattle.script_opening.specs.Worlds.{Part}
@@ -17,6 +16,7 @@ use Rattle.script_opening.specs.Playing.{AreStages, BreaksRule, Cause, HasScript
 use Rattle.script_opening.specs.Playing.{asks_all, bad_line, bad_module, bad_script}
 use Rattle.script_verdicts.specs.Laws.{CausesAreOne, PlayedIsNotRefused}
 use Rattle.script_verdicts.proofs.Modules.{not_bad, one_module, one_refused}
+use Rattle.script_verdicts.proofs.SameSetUp.{same_rules}
 
 -- ---- the script
 
@@ -97,17 +97,16 @@ module _ (way : Way) (files : Files) where
     | inl bad ↦ not_bad files t way s.source s.listed bad.0 s.module_is bad.1
     | inr line ↦
         let b = line.2 in
-        let same = (one_module files t way s.source b.0 s.listed b.1 s.module_is b.2).modules in
-        let both : ◌≡◌ {A = Result SetUp ScriptFault} (Ok s.given) (Err (breaks line.0 line.1)) = sym s.set_up ∙ ap (λ (p : Module). set_up_rules (asks_all way) p t) same ∙ b.3 in
+        let same = same_rules (asks_all way) s.source b.0 t (one_module files t way s.source b.0 s.listed b.1 s.module_is b.2) in
+        let both : ◌≡◌ {A = Result SetUp ScriptFault} (Ok s.given) (Err (breaks line.0 line.1)) = sym s.set_up ∙ same ∙ b.3 in
         absurd cc
   ]
 
   -- a line of a program breaks one rule
   one_line : (t : ProgramText) (line rule line' rule' : ℕ) → BreaksRule way (Some files) t line rule → BreaksRule way (Some files) t line' rule' → bad_line line rule ≡ bad_line line' rule'
   one_line t line rule line' rule' a b =
-      let same = (one_module files t way a.0 b.0 a.1 b.1 a.2 b.2).modules in
-      let both : ◌≡◌ {A = Result SetUp ScriptFault} (Err (breaks line rule)) (Err (breaks line' rule')) =
-      sym a.3 ∙ ap (λ (p : Module). set_up_rules (asks_all way) p t) same ∙ b.3 in
+      let same = same_rules (asks_all way) a.0 b.0 t (one_module files t way a.0 b.0 a.1 b.1 a.2 b.2) in
+      let both : ◌≡◌ {A = Result SetUp ScriptFault} (Err (breaks line rule)) (Err (breaks line' rule')) = sym a.3 ∙ same ∙ b.3 in
       cc
 
   one_fail : (number : ℕ) (t : ProgramText) (a b : Cause) → Fails number t a → Fails number t b → a ≡ b

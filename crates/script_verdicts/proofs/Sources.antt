@@ -1,5 +1,5 @@
 -- An original that is refused before anything is written is refused for one cause.
-use Rattle.std.proofs.Common.{arith, ◌≡◌, ◌<◌, ℕ, zero, suc, ◌≤◌, inl, inr, List, Bool, Option, Some, None, refl, sym, ap, ◌∙◌, subst}
+use Rattle.std.proofs.Common.{arith, ◌≡◌, ℕ, zero, suc, ◌≤◌, inl, inr, List, Bool, Option, Some, None, refl, sym, ap, ◌∙◌, subst}
 use Rattle.std.proofs.lemmas.Bool.{cases_lt}
 use Rattle.wa_types.specs.declared.bounds.LimitKind.TheVariants.{Locals}
 use Rattle.wa_types.specs.FirstFault.{FirstFault}

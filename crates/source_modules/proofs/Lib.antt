@@ -1,4 +1,4 @@
-pub use Rattle.module_bytes.proofs.OneEmitted
+pub use Rattle.module_bytes.proofs.CodeAlone
 pub mod Accepted
 pub mod FreeNames
 pub mod Fronts

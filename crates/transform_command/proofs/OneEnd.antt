@@ -1,14 +1,14 @@
 -- A call's end, from what is known of its status.
-use Rattle.std.proofs.Common.{◌≡◌, ◌⊎◌, inl, inr, ℕ, List, Option, Some, None, ◌∙◌}
+use Rattle.std.proofs.Common.{◌≡◌, ◌⊎◌, inl, inr, ℕ, List, Option, Some, None, refl, ◌∙◌, subst}
 use Rattle.std.specs.Prelude.{IsSome}
 use Rattle.vault_port.specs.Counts.{HasRisen}
 use Rattle.vault_port.specs.Files.{Files, bytes_of, IsMissing}
 use Rattle.vault_port.specs.Told.{WhereTold, Becomes}
 use Rattle.wa_types.specs.Pausing.{Settings}
-use Rattle.source_modules.specs.Sources.{Cause, IsRefusedFor, refusal_for}
+use Rattle.source_modules.specs.Sources.{Cause, malformed, float, deep, limit, reserved, invalid, rewritten_locals, long_output, IsRefusedFor, refusal_for}
 use Rattle.printing.specs.Refused.{status_of}
-use Rattle.transform_command.specs.Transforms.{HasCause, HoldsSource, IsTransformed}
-use Rattle.transform_command.specs.Ends.{End, done, memory, read_fault, write_fault, sink_fault, refused, Call, IsWhy, ToldThat, NothingFails, HasOneEnd, status_of_end, IsRefusal}
+use Rattle.transform_command.specs.Transforms.{HasCause, HoldsRewritable, HoldsSource, IsTransformed}
+use Rattle.transform_command.specs.Ends.{End, done, memory, read_fault, write_fault, sink_fault, refused, Call, CanBeLong, IsLong, IsWhy, ToldThat, NothingFails, HasOneEnd, status_of_end, IsRefusal}
 use Rattle.transform_command.proofs.Verdicts.{one_status, source_passes}
 
 -- what is known of a `transform`'s status
@@ -29,64 +29,95 @@ source_held s input output None (Some b) h = tt
 source_held s input output (Some a) None h = absurd h
 source_held s input output (Some a) (Some b) h = (h.«module», h.which, h.emitted, h.source)
 
+-- a source that is written or run isn't refused, but for the length of what is emitted
 refused_not_held : (s : Settings) (input : List ℕ) (files : Option Files) (cause : Cause)
-    → WhereTold files (λ all. HoldsSource s (bytes_of all input)) → ToldThat files (λ all. IsRefusedFor s (bytes_of all input) cause) → ⊥
+    → WhereTold files (λ all. HoldsSource s (bytes_of all input)) → ToldThat files (λ all. IsRefusedFor s (bytes_of all input) cause) → (IsLong cause → ⊥) → ⊥
 unfolding HoldsSource
-refused_not_held s input None cause h r = r
-refused_not_held s input (Some a) cause h r = source_passes s (bytes_of a input) h.0 h.1 h.2 cause h.3 r
+refused_not_held s input None cause h r short = r
+refused_not_held s input (Some a) cause h r short = source_passes s (bytes_of a input) h.0 h.1 cause h.3.rewritable short r
 
 one_cause : (s : Settings) (input : List ℕ) (files : Option Files) (c d : Cause) → WhereTold files (λ all. IsRefusedFor s (bytes_of all input) c)
     → ToldThat files (λ all. IsRefusedFor s (bytes_of all input) d) → status_of (refusal_for c) ≡ status_of (refusal_for d)
 one_cause s input None c d h k = absurd k
 one_cause s input (Some a) c d h k = one_status s (bytes_of a input) c d h k
 
-held_not_refused : (s : Settings) (input : List ℕ) (files : Option Files) (cause : Cause)
-    → ToldThat files (λ all. IsSome (all input) × HoldsSource s (bytes_of all input))
-    → WhereTold files (λ all. IsRefusedFor s (bytes_of all input) cause) → ⊥
-unfolding HoldsSource
-held_not_refused s input None cause h r = h
-held_not_refused s input (Some a) cause h r = source_passes s (bytes_of a input) h.1.0 h.1.1 h.1.2 cause h.1.3 r
+-- .. so that it is refused for that alone
+held_is_long : (s : Settings) (input : List ℕ) (all : Files) (cause : Cause) → HoldsRewritable s (bytes_of all input) → IsRefusedFor s (bytes_of all input) cause
+    → (status_of (refusal_for cause) ≡ 6) × (found : ℕ) × IsRefusedFor s (bytes_of all input) (long_output found)
+unfolding HoldsRewritable
+held_is_long s input all (malformed at) h r = absurd (source_passes s (bytes_of all input) h.0 h.1 (malformed at) h.2 (λ l. l) r)
+held_is_long s input all (float at) h r = absurd (source_passes s (bytes_of all input) h.0 h.1 (float at) h.2 (λ l. l) r)
+held_is_long s input all (deep at) h r = absurd (source_passes s (bytes_of all input) h.0 h.1 (deep at) h.2 (λ l. l) r)
+held_is_long s input all (limit what found) h r = absurd (source_passes s (bytes_of all input) h.0 h.1 (limit what found) h.2 (λ l. l) r)
+held_is_long s input all (reserved name) h r = absurd (source_passes s (bytes_of all input) h.0 h.1 (reserved name) h.2 (λ l. l) r)
+held_is_long s input all (invalid func rule at) h r = absurd (source_passes s (bytes_of all input) h.0 h.1 (invalid func rule at) h.2 (λ l. l) r)
+held_is_long s input all (rewritten_locals found) h r = absurd (source_passes s (bytes_of all input) h.0 h.1 (rewritten_locals found) h.2 (λ l. l) r)
+held_is_long s input all (long_output found) h r = (refl, found, r)
+
+-- the status of a call that is refused, where IN can be rewritten
+long_refused : (c : Call) (status : ℕ) (files : Option Files) (cause : Cause) → files ≡ c.files → status ≡ status_of (refusal_for cause)
+    → ToldThat files (λ all. IsSome (all c.input) × HoldsRewritable c.settings (bytes_of all c.input))
+    → WhereTold files (λ all. IsRefusedFor c.settings (bytes_of all c.input) cause) → (status ≡ 6) × CanBeLong c
+long_refused c status None cause is e h r = absurd h
+long_refused c status (Some a) cause is e h r =
+    let l = held_is_long c.settings c.input a cause h.1 r in
+    (e ∙ l.0, subst (λ files. ToldThat files (λ all. (found : ℕ) × IsRefusedFor c.settings (bytes_of all c.input) (long_output found))) is (l.1, l.2))
 
 some_not_none : {X : Type 0} (o : Option X) → IsSome o → o ≡ None → ⊥
 some_not_none None h e = cc
 some_not_none (Some x) h e = cc
 
-held_not_missing : (s : Settings) (input : List ℕ) (files : Option Files) → ToldThat files (λ all. IsSome (all input) × HoldsSource s (bytes_of all input)) → IsMissing files input → ⊥
+held_not_missing : (s : Settings) (input : List ℕ) (files : Option Files) → ToldThat files (λ all. IsSome (all input) × HoldsRewritable s (bytes_of all input)) → IsMissing files input → ⊥
 held_not_missing s input None h m = h
 held_not_missing s input (Some a) h m = some_not_none (a input) h.0 m
 
+abbrev IsRefusedSo : (cause : Cause) → (status : ℕ) → Type 0
+IsRefusedSo cause status = (status ≡ status_of (refusal_for cause)) ⊎ (status ≡ 9) ⊎ (status ≡ 10) ⊎ (IsLong cause × ((status ≡ 0) ⊎ (status ≡ 11) ⊎ (status ≡ 12)))
+
+-- a status of an accepted source, beside a cause
+beside : (status : ℕ) (cause : Cause) → (status ≡ 0) ⊎ (status ≡ 11) ⊎ (status ≡ 12) → ((IsLong cause → ⊥) → ⊥) → IsRefusedSo cause status
+beside status (malformed at) taken h = absurd (h (λ l. l))
+beside status (float at) taken h = absurd (h (λ l. l))
+beside status (deep at) taken h = absurd (h (λ l. l))
+beside status (limit what found) taken h = absurd (h (λ l. l))
+beside status (reserved name) taken h = absurd (h (λ l. l))
+beside status (invalid func rule at) taken h = absurd (h (λ l. l))
+beside status (rewritten_locals found) taken h = absurd (h (λ l. l))
+beside status (long_output found) taken h = inr (inr (inr (tt, taken)))
+
 -- the refusals of a `transform`
 refusals_of : (s : Settings) (input output : List ℕ) (c : Call) (status : ℕ) → Known s input output c status → (cause : Cause)
-    → ToldThat c.files (λ all. IsRefusedFor s (bytes_of all input) cause) → (status ≡ status_of (refusal_for cause)) ⊎ (status ≡ 9) ⊎ (status ≡ 10)
+    → ToldThat c.files (λ all. IsRefusedFor s (bytes_of all input) cause) → IsRefusedSo cause status
 refusals_of s input output c status k cause r = elim k.statuses [
-  | inl zero ↦ absurd (refused_not_held s input c.files cause (source_held s input output c.files c.files' (k.done (inl zero))) r)
+  | inl zero ↦ beside status cause (inl zero) (refused_not_held s input c.files cause (source_held s input output c.files c.files' (k.done (inl zero))) r)
   | inr x ↦ elim x [
     | inl h ↦ let why = k.refused h in inl (why.1 ∙ one_cause s input c.files why.0 cause why.2 r)
     | inr y ↦ elim y [
       | inl nine ↦ inr (inl nine)
       | inr z ↦ elim z [
-        | inl ten ↦ inr (inr ten)
+        | inl ten ↦ inr (inr (inl ten))
         | inr w ↦ elim w [
-          | inl eleven ↦ absurd (refused_not_held s input c.files cause (k.held eleven) r)
-          | inr twelve ↦ absurd (refused_not_held s input c.files cause (source_held s input output c.files c.files' (k.done (inr twelve))) r)
+          | inl eleven ↦ beside status cause (inr (inl eleven)) (refused_not_held s input c.files cause (k.held eleven) r)
+          | inr twelve ↦
+              beside status cause (inr (inr twelve)) (refused_not_held s input c.files cause (source_held s input output c.files c.files' (k.done (inr twelve))) r)
         ]
       ]
     ]
   ]
 ]
 
-accepted_of : (s : Settings) (input output : List ℕ) (c : Call) (status : ℕ) → Known s input output c status
-    → ToldThat c.files (λ all. IsSome (all input) × HoldsSource s (bytes_of all input)) → NothingFails c → (status ≡ 0) ⊎ (status ≡ 9)
-accepted_of s input output c status k h n = elim k.statuses [
+accepted_of : (c : Call) (status : ℕ) → Known c.settings c.input c.output c status
+    → ToldThat c.files (λ all. IsSome (all c.input) × HoldsRewritable c.settings (bytes_of all c.input)) → NothingFails c → (status ≡ 0) ⊎ (status ≡ 9) ⊎ ((status ≡ 6) × CanBeLong c)
+accepted_of c status k h n = elim k.statuses [
   | inl zero ↦ inl zero
   | inr x ↦ elim x [
-    | inl r ↦ let why = k.refused r in absurd (held_not_refused s input c.files why.0 h why.2)
+    | inl r ↦ let why = k.refused r in inr (inr (long_refused c status c.files why.0 refl why.1 h why.2))
     | inr y ↦ elim y [
-      | inl nine ↦ inr nine
+      | inl nine ↦ inr (inl nine)
       | inr z ↦ elim z [
         | inl ten ↦ elim (k.read ten) [
           | inl risen ↦ absurd (n.fetches risen)
-          | inr missing ↦ absurd (held_not_missing s input c.files h missing)
+          | inr missing ↦ absurd (held_not_missing c.settings c.input c.files h missing)
         ]
         | inr w ↦ elim w [
           | inl eleven ↦ absurd (n.saves (k.write eleven))
@@ -129,9 +160,9 @@ transform_ends c status k =
       by_status = w.by_status;
       why = w.why;
       refusals = λ cause r. refusals_of c.settings c.input c.output c status k cause r;
-      accepted = λ h n. accepted_of c.settings c.input c.output c status k h n;
+      accepted = λ h n. accepted_of c status k h n;
     }
 
 -- Memory is wanting.
 pub memory_ends : (c : Call) (status : ℕ) → status ≡ 9 → HasOneEnd c status
-memory_ends c status nine = record { which = memory; by_status = nine; why = tt; refusals = λ cause r. inr (inl nine); accepted = λ r n. inr nine }
+memory_ends c status nine = record { which = memory; by_status = nine; why = tt; refusals = λ cause r. inr (inl nine); accepted = λ r n. inr (inl nine) }

@@ -1,9 +1,6 @@
 -- What was printed, piece after piece.
-use Rattle.std.proofs.Common.{ℕ, ◌++◌, List, Option, Some, None, Result, Ok, Err, refl, sym, ap, ◌∙◌, ◌≡◌, ◌⊎◌, subst, take, length, inl, inr, arith}
-use Rattle.std.specs.Prelude.{OnOk, OnErr}
-use Rattle.std.proofs.lemmas.List.{append-nil}
+use Rattle.std.proofs.Common.{ℕ, List, Option, Some, None, refl, sym, ◌∙◌, ◌≡◌, ◌⊎◌, inl, inr, arith}
 use Rattle.vault_port.specs.Told.{Becomes, WhereTold}
-use Rattle.vault_port.specs.Taken.{Appends, AppendsLess}
 use Rattle.wa_model.specs.Transcript.{refusal_line, read_fault}
 use Rattle.printing.specs.Refused.{status_of, EndsInMemory, Prints}
 use Rattle.printing.proofs.Printed.{memory_alone}

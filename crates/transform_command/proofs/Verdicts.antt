@@ -1,4 +1,5 @@
--- Bytes are an accepted source or refused for causes of one status: each cause stops at a stage that none behind it does.
+-- Bytes are a source that can be rewritten, or refused before for causes of one status: each cause stops at a stage that none behind it
+-- does. The last one, a module that is too long, doesn't bar another that is emitted.
 use Rattle.std.proofs.Common.{arith, ◌≡◌, ℕ, zero, suc, ◌≤◌, inl, inr, List, [], Bool, Option, Some, None, refl, sym, ap, ◌∙◌, subst, length, Contains}
 use Rattle.std.proofs.lemmas.Bool.{cases_lt}
 use Rattle.wa_types.specs.declared.bounds.LimitKind.{LimitKind}
@@ -8,11 +9,11 @@ use Rattle.wa_types.specs.Marks.{floats, opens, IsLeast, function_count, paramet
 use Rattle.wa_types.specs.ModuleBounds.{source_bounds}
 use Rattle.wa_types.specs.Reading.{IsModule}
 use Rattle.wa_types.specs.FirstFault.{FirstFault}
-use Rattle.wa_types.specs.Encoding.{Enc}
 use Rattle.wa_types.specs.Pausing.{Settings, TellsMayPause}
 use Rattle.slot_laws.proofs.Closed.{one_list}
 use Rattle.source_modules.specs.EmittedAs.{EmittedAs}
-use Rattle.source_modules.proofs.OneEmitted.{one_emitted}
+use Rattle.source_modules.specs.PolicyLaws.{without_code}
+use Rattle.source_modules.proofs.CodeAlone.{code_alone}
 use Rattle.wa_types.specs.Syntax.{Module}
 use Rattle.wa_types.proofs.FaultLemmas.{valid_no_fault}
 use Rattle.file_laws.proofs.OneFault.{fault_spells_none}
@@ -20,8 +21,9 @@ use Rattle.file_laws.proofs.OneModule.{one_module}
 use Rattle.file_laws.proofs.UniqueCode.{one_file}
 use Rattle.wasm_reader.specs.Answers.{IsFile, HasNoFloat, IsAccepted}
 use Rattle.asyncify_runtime.specs.Reserved.{reserved_at}
-use Rattle.source_modules.specs.Sources.{IsFree, IsValidSource, rewritten_counts, IsRewritable, IsSource, Cause, malformed, float, deep, limit, reserved, invalid, rewritten_locals, long_output, IsRefusedFor, refusal_for}
+use Rattle.source_modules.specs.Sources.{IsFree, IsValidSource, rewritten_counts, IsRewritable, Cause, malformed, float, deep, limit, reserved, invalid, rewritten_locals, long_output, IsRefusedFor, refusal_for}
 use Rattle.printing.specs.Refused.{status_of}
+use Rattle.transform_command.specs.Ends.{IsLong}
 
 -- how far bytes come
 abbrev pub Reached : Settings → List ℕ → ℕ → Type 0
@@ -33,8 +35,7 @@ Reached s bytes (suc (suc (suc (suc zero)))) = (m : Module) × IsAccepted source
 Reached s bytes (suc (suc (suc (suc (suc zero))))) = (m : Module) × IsFree bytes m
 Reached s bytes (suc (suc (suc (suc (suc (suc zero)))))) = (m : Module) × IsValidSource bytes m
 Reached s bytes (suc (suc (suc (suc (suc (suc (suc zero))))))) = (m : Module) × (which : List Bool) × IsRewritable s bytes m which
-Reached s bytes (suc (suc (suc (suc (suc (suc (suc (suc zero)))))))) = (m : Module) × (which : List Bool) × (p : Module) × IsSource s bytes m which p
-Reached s bytes (suc (suc (suc (suc (suc (suc (suc (suc (suc n))))))))) = ⊥
+Reached s bytes (suc (suc (suc (suc (suc (suc (suc (suc n)))))))) = ⊥
 
 down : (s : Settings) (bytes : List ℕ) (n : ℕ) → Reached s bytes (suc n) → Reached s bytes n
 down s bytes zero r = tt
@@ -44,8 +45,7 @@ down s bytes (suc (suc (suc zero))) r = (r.1.sections, r.1.within.before.before.
 down s bytes (suc (suc (suc (suc zero)))) r = (r.0, r.1.read)
 down s bytes (suc (suc (suc (suc (suc zero))))) r = (r.0, r.1.unreserved)
 down s bytes (suc (suc (suc (suc (suc (suc zero)))))) r = (r.0, r.2.accepted)
-down s bytes (suc (suc (suc (suc (suc (suc (suc zero))))))) r = (r.0, r.1, r.3.rewritable)
-down s bytes (suc (suc (suc (suc (suc (suc (suc (suc n)))))))) r = absurd r
+down s bytes (suc (suc (suc (suc (suc (suc (suc n))))))) r = absurd r
 
 pub below : (s : Settings) (bytes : List ℕ) (n k : ℕ) → k ≤ n → Reached s bytes n → Reached s bytes k
 below s bytes zero k h r = let e : 0 ≡ k = omega (arith, h) in subst (Reached s bytes) e r
@@ -100,13 +100,13 @@ same_module bytes m n a b =
     let e = same_sections bytes b.sections m b.within.before.before.before.before.before.file a in
     one_module b.sections m n (subst (λ (ss : List Section). IsModule ss m) e a.is_module) b.is_module
 
--- one module is emitted of a source
+-- modules that are emitted of a source differ in code alone
 pub one_written : (s : Settings) (bytes : List ℕ) (m n : Module) (which others : List Bool) (p q : Module) → IsRewritable s bytes m which → IsRewritable s bytes n others
-    → EmittedAs m s which p → EmittedAs n s others q → p ≡ q
+    → EmittedAs m s which p → EmittedAs n s others q → without_code p ≡ without_code q
 one_written s bytes m n which others p q a b h k =
     let e = same_module bytes m n a.accepted.unreserved.read b.accepted.unreserved.read in
     let t = one_list n s which others (subst (λ (m : Module). TellsMayPause m s which) e a.tells) b.tells in
-    one_emitted n s others p q (subst (λ which. EmittedAs n s which p) t (subst (λ (m : Module). EmittedAs m s which p) e h)) k
+    code_alone n s others p q (subst (λ which. EmittedAs n s which p) t (subst (λ (m : Module). EmittedAs m s which p) e h)) k
 
 pub stops : (s : Settings) (bytes : List ℕ) (c : Cause) → IsRefusedFor s bytes c → Reached s bytes (suc (stage c)) → ⊥
 stops s bytes (malformed at) h r = fault_spells_none bytes at r.0 h.1 r.1.spells
@@ -142,10 +142,7 @@ stops s bytes (rewritten_locals found) h r =
     let t = one_list r.0 s h.1 r.1 (subst (λ (m : Module). TellsMayPause m s h.1) e h.3) r.2.tells in
     no_some (first_above 50000 (rewritten_counts h.0 h.1)) found h.4
     (ap (λ (m : Module). first_above 50000 (rewritten_counts m h.1)) e ∙ ap (λ which. first_above 50000 (rewritten_counts r.0 which)) t ∙ r.2.few)
-stops s bytes (long_output found) h r =
-    let p = one_written s bytes h.0 r.0 h.1 r.1 h.2 r.2 h.3 r.3.rewritable h.4 r.3.emitted in
-    let same = ap (λ (p : Module). length (Enc p)) p in
-    absurd (omega (arith, same, h.5, h.6, r.3.short))
+stops s bytes (long_output found) h r = absurd r
 
 abbrev status_at : ℕ → ℕ
 status_at zero = 6
@@ -170,19 +167,19 @@ by_stage (invalid func rule at) = refl
 by_stage (rewritten_locals found) = refl
 by_stage (long_output found) = refl
 
-limit_early : (what : LimitKind) → limit_stage what ≤ 7
+limit_early : (what : LimitKind) → limit_stage what ≤ 6
 limit_early File = omega arith
 limit_early _ = omega arith
 
-early : (c : Cause) → stage c ≤ 7
-early (malformed at) = omega arith
-early (float at) = omega arith
-early (deep at) = omega arith
-early (limit what found) = limit_early what
-early (reserved name) = omega arith
-early (invalid func rule at) = omega arith
-early (rewritten_locals found) = omega arith
-early (long_output found) = omega arith
+early : (c : Cause) → (IsLong c → ⊥) → stage c ≤ 6
+early (malformed at) short = omega arith
+early (float at) short = omega arith
+early (deep at) short = omega arith
+early (limit what found) short = limit_early what
+early (reserved name) short = omega arith
+early (invalid func rule at) short = omega arith
+early (rewritten_locals found) short = omega arith
+early (long_output found) short = absurd (short tt)
 
 -- Two causes for which bytes are refused have one status.
 pub one_status : (s : Settings) (bytes : List ℕ) (c d : Cause) → IsRefusedFor s bytes c → IsRefusedFor s bytes d → status_of (refusal_for c) ≡ status_of (refusal_for d)
@@ -194,6 +191,7 @@ one_status s bytes c d h k = elim (cases_lt (stage c) (stage d)) [
   ]
 ]
 
--- An accepted source isn't refused.
-pub source_passes : (s : Settings) (bytes : List ℕ) (m : Module) (which : List Bool) (p : Module) (c : Cause) → IsSource s bytes m which p → IsRefusedFor s bytes c → ⊥
-source_passes s bytes m which p c src h = stops s bytes c h (below s bytes 8 (suc (stage c)) (omega (arith, early c)) (m, which, p, src))
+-- A source that can be rewritten isn't refused, but for the length of what is emitted.
+pub source_passes : (s : Settings) (bytes : List ℕ) (m : Module) (which : List Bool) (c : Cause) → IsRewritable s bytes m which → (IsLong c → ⊥) → IsRefusedFor s bytes c → ⊥
+source_passes s bytes m which c src short h =
+    let le = early c short in stops s bytes c h (below s bytes 7 (suc (stage c)) (omega (arith, le)) (m, which, src))

@@ -5,8 +5,8 @@ use Rattle.vault_port.specs.Files.{Files, bytes_of, IsMissing}
 use Rattle.vault_port.specs.Told.{WhereTold, Becomes}
 use Rattle.wa_types.specs.Pausing.{Settings}
 use Rattle.printing.specs.Refused.{status_of}
-use Rattle.source_modules.specs.Sources.{Cause, IsRefusedFor, refusal_for}
-use Rattle.transform_command.specs.Transforms.{HoldsSource, IsTransformed}
+use Rattle.source_modules.specs.Sources.{Cause, IsRefusedFor, long_output, refusal_for}
+use Rattle.transform_command.specs.Transforms.{HoldsRewritable, HoldsSource, IsTransformed}
 
 pub data End : Type 0 where
   done memory read_fault write_fault sink_fault : End
@@ -54,18 +54,27 @@ pub record NothingFails (c : Call) : Type 0 where
   pub saves : HasRisen c.save_faults c.save_faults' → ⊥
   pub puts : HasRisen c.sink_faults c.sink_faults' → ⊥
 
--- The call has one end, by its status, and the reason for it. Where the content of IN is told, a cause for which it is
--- refused has that status, and a source that is accepted is written where nothing fails: all but for want of memory, and for a
--- fault of reading, which comes first.
+-- a module that is emitted of IN is too long; another needn't be
+abbrev pub IsLong : Cause → Type 0
+IsLong (long_output found) = Unit {0}
+IsLong _ = ⊥
+
+-- IN is refused for that
+abbrev pub CanBeLong : Call → Type 0
+CanBeLong c = ToldThat c.files (λ all. (found : ℕ) × IsRefusedFor c.settings (bytes_of all c.input) (long_output found))
+
+-- The call has one end, by its status, and the reason for it. Where the content of IN is told, a cause for which it is refused has
+-- that status, and a source that can be rewritten is written where nothing fails: all but for want of memory, for a fault of reading,
+-- which comes first, and for a module that is too long where another that can be emitted isn't.
 pub record HasOneEnd (c : Call) (status : ℕ) : Type 0 where
   pub which : End
   pub by_status : status ≡ status_of_end which
   pub why : IsWhy c which
   pub refusals : (cause : Cause)
       → ToldThat c.files (λ all. IsRefusedFor c.settings (bytes_of all c.input) cause)
-      → (status ≡ status_of (refusal_for cause)) ⊎ (status ≡ 9) ⊎ (status ≡ 10)
-  pub accepted : ToldThat c.files (λ all. IsSome (all c.input) × HoldsSource c.settings (bytes_of all c.input))
-      → NothingFails c → (status ≡ 0) ⊎ (status ≡ 9)
+      → (status ≡ status_of (refusal_for cause)) ⊎ (status ≡ 9) ⊎ (status ≡ 10) ⊎ (IsLong cause × ((status ≡ 0) ⊎ (status ≡ 11) ⊎ (status ≡ 12)))
+  pub accepted : ToldThat c.files (λ all. IsSome (all c.input) × HoldsRewritable c.settings (bytes_of all c.input))
+      → NothingFails c → (status ≡ 0) ⊎ (status ≡ 9) ⊎ ((status ≡ 6) × CanBeLong c)
 
 -- the status of a refusal of IN
 abbrev pub IsRefusal : ℕ → Type 0

@@ -13,7 +13,7 @@ use Rattle.wasm_reader.specs.Answers.{IsAccepted}
 use Rattle.wa_model.specs.Rewrites.{Rewrites}
 use Rattle.wa_model.specs.Transcript.{refusal_line, read_fault, write_fault, line_end}
 use Rattle.printing.specs.Refused.{status_of, Prints, PrintsMemory}
-use Rattle.source_modules.specs.Sources.{IsSource, Cause, IsRefusedFor, refusal_for}
+use Rattle.source_modules.specs.Sources.{IsRewritable, IsSource, Cause, IsRefusedFor, refusal_for}
 
 -- what `transform` prints: how many functions the module defines, how many of them are instrumented, and how
 -- many bytes were written
@@ -51,6 +51,10 @@ IsDoneLine s files input line =
 -- there is an accepted source in IN
 unfoldable pub HoldsSource : Settings → List ℕ → Type 0
 HoldsSource s bytes = (m : Module) × (which : List Bool) × (p : Module) × IsSource s bytes m which p
+
+-- there is a source in IN that can be rewritten
+unfoldable pub HoldsRewritable : Settings → List ℕ → Type 0
+HoldsRewritable s bytes = (m : Module) × (which : List Bool) × IsRewritable s bytes m which
 
 -- a cause of this status; where the files are told, IN is refused for it
 abbrev pub HasCause : Settings → Option Files → List ℕ → ℕ → Type 0

@@ -8,6 +8,6 @@
 mod frames;
 mod kept;
 
-pub use flow_rewrite::{guard, number_calls};
+pub use flow_rewrite::number_calls;
 pub use frames::{call_frames, chosen_frame, saved_places};
 pub use kept::kept_locals;

@@ -4,16 +4,15 @@ use Rattle.wa_model.specs.FlatFits.{one_run}
 use Rattle.local_spill.specs.Laying.{in_a_row, row_size}
 use Rattle.written_frames.specs.Frames.{numbered_places}
 use Rattle.wa_types.specs.Pausing.{places_from}
-use Rattle.wa_types.specs.View.{func_of, module_of}
+use Rattle.wa_types.specs.View.{code, func_of, module_of}
 use Rattle.wa_model.specs.FlatView.{flat_func_of}
 use Rattle.call_graph.specs.Settings.{settings_of}
 use Rattle.written_frames.specs.Numbering.{callees, gets_number}
 use Rattle.written_frames.specs.Emitting.{Rises}
 use Rattle.local_spill.specs.declared.frames.Place.{Place}
 use Rattle.written_frames.specs.Emitted.{is_kept}
-use Rattle.func_rewrite.specs.Written.{plain_written}
 use Rattle.func_rewrite.proofs.CallNumbers.{places_rise}
-use Rattle.func_rewrite.proofs.WrittenFuncs.{fits, few_calls, stacks, numbers, own_few, saved_few, places_few, row_fits, kept_is, body_same, runs_same, func_is}
+use Rattle.func_rewrite.proofs.WrittenFuncs.{fits, few_calls, stacks, numbers, own_few, saved_few, places_few, row_fits, kept_is, slots_told, is_written}
 use Rattle.func_rewrite.proofs.function.emit_func.Goals as goal
 
 pub number_calls-requires : goal.number_calls-requires
@@ -53,15 +52,27 @@ written_body-requires-clause-rises c = subst Rises (sym (c.deref-5.ensures.value
 pub written_body-requires-clause-few : goal.written_body-requires-clause-few
 written_body-requires-clause-few c = few_calls (module_of c.args._module.now) (settings_of c.args.settings.now) c.args.which.now (func_of c.args.source.now) c.args.flat.now c.requires.valid c.requires.sizes c.requires.flat
 
+pub written_body-requires-clause-slots : goal.written_body-requires-clause-slots
+written_body-requires-clause-slots c = slots_told (module_of c.args._module.now) (settings_of c.args.settings.now) c.args.which.now (func_of c.args.source.now) c.args.flat.now c.requires.valid c.requires.sizes c.requires.flat
+
 pub returns : goal.returns
 returns c =
-    let g = plain_written (module_of c.args._module.now) (settings_of c.args.settings.now) c.args.which.now c.args.flat.now.func.func (func_of c.args.source.now) in
+    let m = module_of c.args._module.now in
+    let s = settings_of c.args.settings.now in
+    let which = c.args.which.now in
+    let f = func_of c.args.source.now in
+    let v = c.args.flat.now in
+    let named = c.in_ok-saved.ensures ∙ ap (λ xs. numbered_places 0 (take v.first_result xs)) c.deref-2.ensures.value in
+    let numbered = c.in_ok-numbers.ensures ∙ ap (λ l. places_from (gets_number which l c.args.settings.now.ignore_indirect) 0 (callees (flat_func_of v.func).body)) c.requires.listed
+    ∙ numbers m s which f v c.requires.valid c.requires.sizes c.requires.flat in
     let kept : Place → Bool = λ (p : Place). get_or c.deref-4.result.now p.local false in
     let row : c.in_ok-layout.field-0.places.items ≡ in_a_row 0 c.in_ok-saved.saved.items = c.in_ok-layout.ensures.places ∙ ap (in_a_row 0) c.deref-3.ensures.value in
     let rows : c.in_ok-layout.field-0.size ≡ row_size c.in_ok-saved.saved.items + 4 = c.in_ok-layout.ensures.size ∙ ap (λ xs. row_size xs + 4) c.deref-3.ensures.value in
-    let same : (p : Place) → kept p ≡ is_kept (module_of c.args._module.now) (settings_of c.args.settings.now) c.args.which.now c.args.flat.now.func.func (func_of c.args.source.now) p.local =
-    λ p. ap (λ xs. get_or xs p.local false) c.deref-4.ensures.value ∙ c.in_ok-kept.ensures.kept p.local ∙ kept_is (module_of c.args._module.now) (settings_of c.args.settings.now) c.args.which.now (func_of c.args.source.now) c.args.flat.now c.requires.valid c.requires.sizes c.requires.flat c.in_ok-saved.saved.items (c.in_ok-saved.ensures ∙ ap (λ xs. numbered_places 0 (take c.args.flat.now.first_result xs)) c.deref-2.ensures.value) c.args.flat.now.first_slot c.deref.result.now p.local refl (c.deref.ensures.value ∙ (c.in_ok-numbers.ensures ∙ ap (λ l. places_from (gets_number c.args.which.now l c.args.settings.now.ignore_indirect) 0 (callees (flat_func_of c.args.flat.now.func).body)) c.requires.listed ∙ numbers (module_of c.args._module.now) (settings_of c.args.settings.now) c.args.which.now (func_of c.args.source.now) c.args.flat.now c.requires.valid c.requires.sizes c.requires.flat)) in
-    let body = c.in_ok-body.ensures ∙ body_same (module_of c.args._module.now) (settings_of c.args.settings.now) c.args.which.now (func_of c.args.source.now) c.args.flat.now c.requires.valid c.requires.sizes c.requires.flat c.in_ok-saved.saved.items (c.in_ok-saved.ensures ∙ ap (λ xs. numbered_places 0 (take c.args.flat.now.first_result xs)) c.deref-2.ensures.value) c.args.ids.now c.deref-5.result.now c.in_ok-frame.frame.places.items c.in_ok-layout.field-0.places.items kept c.in_ok-frame.frame.size c.in_ok-layout.field-0.size c.requires.ids (c.deref-5.ensures.value ∙ (c.in_ok-numbers.ensures ∙ ap (λ l. places_from (gets_number c.args.which.now l c.args.settings.now.ignore_indirect) 0 (callees (flat_func_of c.args.flat.now.func).body)) c.requires.listed ∙ numbers (module_of c.args._module.now) (settings_of c.args.settings.now) c.args.which.now (func_of c.args.source.now) c.args.flat.now c.requires.valid c.requires.sizes c.requires.flat)) row rows c.in_ok-frame.ensures.size same c.in_ok-frame.ensures.places in
-    let locals = c.in_ok-locals.ensures ∙ ap (λ rs. rs ++ map one_run (drop c.args.flat.now.first_slot c.deref-7.result.now ++ I32 ∷ I32 ∷ I64 ∷ [])) c.deref-6.ensures.value
-    ∙ ap (λ ls. c.args.source.now.locals.items ++ map one_run (drop c.args.flat.now.first_slot ls ++ I32 ∷ I32 ∷ I64 ∷ [])) c.deref-7.ensures.value ∙ runs_same (module_of c.args._module.now) (settings_of c.args.settings.now) c.args.which.now (func_of c.args.source.now) c.args.flat.now c.requires.valid c.requires.sizes c.requires.flat c.args.flat.now.first_slot refl in
-    func_is g c.args.source.now.sort _ _ refl locals body
+    let same : (p : Place) → kept p ≡ is_kept m s which v.func.func f p.local =
+    λ p. ap (λ xs. get_or xs p.local false) c.deref-4.ensures.value ∙ c.in_ok-kept.ensures.kept p.local
+    ∙ kept_is m s which f v c.requires.valid c.requires.sizes c.requires.flat c.in_ok-saved.saved.items named v.first_slot c.deref.result.now p.local refl (c.deref.ensures.value ∙ numbered) in
+    let locals = c.in_ok-locals.ensures ∙ ap (λ rs. rs ++ map one_run (drop v.first_slot c.deref-7.result.now ++ I32 ∷ I32 ∷ I64 ∷ [])) c.deref-6.ensures.value
+    ∙ ap (λ ls. c.args.source.now.locals.items ++ map one_run (drop v.first_slot ls ++ I32 ∷ I32 ∷ I64 ∷ [])) c.deref-7.ensures.value in
+    is_written m s which f v c.requires.valid c.requires.sizes c.requires.flat c.in_ok-saved.saved.items named c.args.ids.now c.deref-5.result.now c.in_ok-frame.frame.places.items
+    c.in_ok-layout.field-0.places.items kept c.in_ok-frame.frame.size c.in_ok-layout.field-0.size c.in_ok-locals.locals.items (code c.in_ok-body.body.items) c.requires.ids
+    (c.deref-5.ensures.value ∙ numbered) row rows c.in_ok-frame.ensures.size same c.in_ok-frame.ensures.places locals (c.in_ok-body.ensures m f c.requires.flat)

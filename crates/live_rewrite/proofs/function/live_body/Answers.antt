@@ -12,14 +12,14 @@ use Rattle.live_rewrite.proofs.function.live_body.Goals as goal
 pub returns : goal.returns
 returns c =
     let ids = c.args.ids.now in
-    let v = c.args.flat.now.locals in
+    let v = c.args.flat.now.func.locals in
     let parts = c.args.parts.now in
     let long : vec_len v ≡ length v.items = let k = v.ok in omega arith in
     let base = c.len-base.ensures ∙ long in
     IfOk-weaker c.body_around.result _ _
-    (λ b h count.
+    (λ b h m f count is.
     let told = told_frames count (length v.items) ids.address parts in
-    h (restoring_by_call (frames_of told) done) (saving_by_call (frames_of told) done)
+    h m f (restoring_by_call (frames_of told) done) (saving_by_call (frames_of told) done) is
     (λ rest. c.in_ok-start.ensures rest ∙ ap (λ a. unless_normal ids.state a rest) (whole c.in_ok-restored.restored.items (λ k. restoring_by_call (frames_of told) k)
     (λ k. c.in_ok-restored.ensures count k ∙ ap (λ n. restoring_by_call (frames_of (told_frames count n ids.address parts)) k) base)))
     (λ rest. c.in_ok-end.ensures rest ∙ ap (λ a. unless_normal ids.state a rest) (whole c.in_ok-saved.saved.items (λ k. saving_by_call (frames_of told) k)

@@ -4,15 +4,13 @@ use Rattle.wa_types.specs.View.{func_of, module_of}
 use Rattle.call_graph.specs.Settings.{policy_of, settings_of}
 use Rattle.func_rewrite.specs.Frames.{FramesUnder}
 use Rattle.live_form.specs.EmittedAs.{IsWrittenUnder}
-use Rattle.live_rewrite.proofs.AllWritten.{all_written}
 use Rattle.live_rewrite.proofs.policy.write_by_policy.Goals as goal
 
 pub returns-in-All-clause-func : goal.returns-in-All-clause-func
 returns-in-All-clause-func c =
     IfOk-weaker c.write_func.result _ _
     (λ w h. subst (λ p. IsWrittenUnder (policy_of p) (module_of c.args.«module».now) (settings_of c.args.settings.now) c.args.which.now
-    c.args.flat.now.func.func (func_of c.args.source.now) (func_of w.func)) (sym c.in-All.is)
-    (all_written (module_of c.args.«module».now) (settings_of c.args.settings.now) c.args.which.now c.args.flat.now.func.func (func_of c.args.source.now) (func_of w.func) h))
+    c.args.flat.now.func.func (func_of c.args.source.now) (func_of w.func)) (sym c.in-All.is) h)
     c.write_func.ensures.func
 
 pub returns-in-All-clause-frames : goal.returns-in-All-clause-frames
