@@ -7,10 +7,10 @@ use Rattle.wa_types.specs.View.{func_of, module_of}
 use Rattle.file_laws.proofs.FileReads.{whole_spelled}
 use Rattle.wa_types.specs.Begun.{IsWhole}
 use Rattle.wa_types.specs.Binary.{RawType, RawBody, Section}
-use Rattle.wa_types.specs.Marks.{parameter_counts, body_sizes, local_counts, first_above}
+use Rattle.wa_types.specs.Marks.{parameter_counts, local_counts, first_above}
 use Rattle.wa_types.specs.ModuleBounds.{ModuleBounds, source_bounds, prepared_bounds}
 use Rattle.wa_types.specs.Reading.{types_in, IsModule, SpellsModule}
-use Rattle.wa_types.specs.Spells.{Spells, bodies_in}
+use Rattle.wa_types.specs.Spells.{bodies_in}
 use Rattle.wa_types.specs.Sizes.{MeetsSizes, SizeRule, StrictSizeRule}
 use Rattle.wa_types.specs.Syntax.{Func, Module}
 use Rattle.wasm_reader.specs.Answers.{IsFile, IsShallow, IsAccepted}

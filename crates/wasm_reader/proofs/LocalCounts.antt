@@ -1,5 +1,5 @@
 -- Parameters and locals, counted step by step.
-use Rattle.std.proofs.Common.{◌≡◌, ℕ, zero, suc, ◌+◌, ◌*◌, ◌<◌, ◌≤◌, ◌^◌, List, [], ◌∷◌, map, refl, ap, sym, ◌∙◌, arith, add-one, length, get_or, drop, drop-cons, Option, Some, None, slice_get, Bool, true, false, cond, nat_lt, subst}
+use Rattle.std.proofs.Common.{◌≡◌, ℕ, zero, suc, ◌+◌, ◌<◌, ◌≤◌, List, [], ◌∷◌, map, refl, ap, sym, ◌∙◌, arith, add-one, length, get_or, drop, drop-cons, Option, Some, None, slice_get, Bool, true, false, cond, nat_lt}
 use Rattle.std.proofs.lemmas.Bool.{lt-ltb, le-ltb}
 use Rattle.std.proofs.lemmas.List.Sums.{sum_by-cons}
 use Rattle.std.proofs.lemmas.List.{drop_all}
@@ -7,7 +7,7 @@ use Rattle.std.proofs.lemmas.Option.{slice_get-get_or, slice_get_past}
 use Rattle.wa_types.specs.declared.syntax.Run.{Run}
 use Rattle.wa_types.specs.declared.syntax.FuncType.{FuncType as FuncTypeValue}
 use Rattle.wa_types.specs.declared.syntax.Func.{Func as FuncValue}
-use Rattle.wa_types.specs.Syntax.{FuncType, Func, Module}
+use Rattle.wa_types.specs.Syntax.{FuncType}
 use Rattle.wa_types.specs.declared.syntax.Module.{Module as ModuleValue}
 use Rattle.wa_types.specs.View.{func_type_of, func_of, module_of}
 use Rattle.wa_types.specs.Marks.{first_above}

@@ -1,5 +1,5 @@
 -- Sections that are spelled, without a float, are a module.
-use Rattle.std.proofs.Common.{◌≡◌, ℕ, suc, ◌+◌, ◌<◌, ◌≤◌, ◌⊎◌, inl, inr, List, [], ◌∷◌, ◌++◌, map, flat_map, length, Option, Some, None, Bool, true, false, ◌&&◌, cond, nat_eq, nat_le, refl, ap, sym, ◌∙◌, subst, arith, eqb-true, option_to_list, All, IsTrue}
+use Rattle.std.proofs.Common.{◌≡◌, ℕ, ◌+◌, ◌≤◌, inl, inr, List, [], ◌∷◌, ◌++◌, map, flat_map, length, Option, Some, None, Bool, true, false, ◌&&◌, nat_eq, nat_le, refl, ap, sym, ◌∙◌, subst, arith, eqb-true, option_to_list, All}
 use Rattle.std.proofs.lemmas.Bool.{leb-true, leb-false, eqb-false}
 use Rattle.std.proofs.lemmas.List.Elements.{All-head, All-tail}
 use Rattle.wa_types.specs.declared.values.ValType.{ValType}
@@ -9,10 +9,10 @@ use Rattle.wa_types.specs.declared.syntax.ImportKind.TheVariants.{Func as a_func
 use Rattle.wa_types.specs.declared.syntax.Import.{Import}
 use Rattle.wa_types.specs.declared.syntax.Run.{Run}
 use Rattle.wa_types.specs.Encoding.{type_byte, block_type_byte, shape_byte}
-use Rattle.wa_types.specs.Opcodes.{is_float_type, is_float_op, is_value_type, is_block_type, is_nest, within}
+use Rattle.wa_types.specs.Opcodes.{is_float_type, is_float_op, is_value_type, is_block_type, is_nest}
 use Rattle.wa_types.specs.Syntax.{Shape, a_block, a_loop, Code, done, plain, nest, branch, FuncType, Func, GlobalDef, Elem, Segment, Module}
-use Rattle.wa_types.specs.Binary.{Placed, Operands, RawCode, ended, otherwise, instr, nested, branched, RawType, RawKind, raw_func, raw_table, raw_memory, raw_global, RawImport, RawGlobal, RawElem, RawRun, RawBody, RawSegment, Section, custom, types, imports, functions, tables, memories, globals, exports, start, elements, bodies, segments, section_id}
-use Rattle.wa_types.specs.Spells.{Items, Vector, ValueType, FunctionType, CodeOf, ImportKindOf, ImportOf, GlobalOf, ElementOf, RunOf, BodyOf, SegmentOf, SectionOf, Rising, sorts_in, bodies_in, Spells}
+use Rattle.wa_types.specs.Binary.{Placed, RawCode, ended, otherwise, instr, nested, branched, RawType, RawKind, raw_func, raw_table, raw_memory, raw_global, RawImport, RawGlobal, RawElem, RawRun, RawBody, RawSegment, Section, custom, types, imports, functions, tables, memories, globals, exports, start, elements, bodies, segments}
+use Rattle.wa_types.specs.Spells.{ValueType, FunctionType, CodeOf, ImportKindOf, ImportOf, GlobalOf, ElementOf, RunOf, BodyOf, SegmentOf, Rising, sorts_in, bodies_in, Spells}
 use Rattle.wa_types.specs.Reading.{IsCode, Each, IsValueType, IsFuncType, IsKind, IsImport, IsGlobal, IsElem, IsRun, IsBody, IsSegment, types_in, imports_in, tables_in, memories_in, globals_in, exports_in, starts_in, elements_in, segments_in, customs_of, IsModule}
 use Rattle.wa_types.specs.Marks.{place_if, float_type, code_floats, type_floats, kind_floats, body_floats, section_floats, floats}
 use Rattle.wasm_reader.proofs.SpelledSizes.{Seen, seen_vector, held_seen, types_seen, imports_seen, globals_seen, elements_seen, bodies_seen, segments_seen}

@@ -1,14 +1,13 @@
 -- No spelling of code is shorter than the one that it is written in.
-use Rattle.std.proofs.Common.{◌≡◌, ℕ, zero, suc, ◌+◌, ◌<◌, ◌≤◌, List, [], ◌∷◌, ◌++◌, flat_map, length, refl, ap, sym, ◌∙◌, subst, arith, length-append, All, Bool, true, false}
-use Rattle.std.proofs.lemmas.List.Elements.{All-head, All-tail}
+use Rattle.std.proofs.Common.{◌≡◌, ℕ, suc, ◌+◌, ◌≤◌, List, [], ◌∷◌, ◌++◌, flat_map, length, refl, ap, sym, subst, arith, length-append, Bool, true, false}
 use Rattle.wa_types.proofs.SignedSpelling.{shortest_signed_least}
 use Rattle.wa_types.specs.declared.values.Value.TheVariants.{I32 as value_32, I64 as value_64}
 use Rattle.wa_types.specs.Leb.{shortest}
 use Rattle.wa_types.specs.Encoding.{vector, sized, code_bytes, plain_bytes, else_bytes, expression_bytes}
 use Rattle.wa_types.specs.Syntax.{nop, drop, select, const, num, global_get, global_set, load, store, memory_size, memory_grow, Plain, basic, local_get, local_set, local_tee, br, br_if, br_table, return, unreachable, call, call_indirect, Code, done, plain, nest, branch}
-use Rattle.wa_types.specs.Binary.{Placed, Operands, RawCode, ended, otherwise, instr, nested, branched}
-use Rattle.wa_types.specs.Spells.{Exactly, Number, Items, Vector, Sized, OperandsOf, CodeOf}
-use Rattle.wa_types.specs.Reading.{plain_operands, IsPlain, IsCode, Each}
+use Rattle.wa_types.specs.Binary.{RawCode, ended, otherwise, instr, nested, branched}
+use Rattle.wa_types.specs.Spells.{Number, Items, Vector, OperandsOf, CodeOf}
+use Rattle.wa_types.specs.Reading.{plain_operands, IsCode, Each}
 use Rattle.wasm_reader.proofs.ShortNumbers.{number_short, shortest_rises}
 use Rattle.wasm_reader.proofs.SpelledCodeSizes.{length_split}
 use Rattle.wasm_reader.proofs.SpelledSizes.{each_length}

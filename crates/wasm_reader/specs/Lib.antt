@@ -1,17 +1,4 @@
 pub mod Answers
-pub mod Builds
-pub mod BuildsCode
-pub mod BuildsModule
-pub mod BuildsSections
-pub mod Ends
-pub mod Found
-pub mod Goals
-pub mod Items
 pub mod Locals
-pub mod Machine
 pub mod Marking
-pub mod Passing
 pub mod Pieces
-pub mod Places
-pub mod Scanning
-pub mod Shapes

@@ -2,8 +2,8 @@
 use Rattle.std.specs.Prelude.{◌≡◌, ℕ, suc, ◌<◌, ◌≤◌, ◌++◌, List, [], length, Option, Some, None}
 use Rattle.wa_types.specs.ModuleBounds.{ModuleBounds}
 use Rattle.wa_types.specs.declared.bounds.LimitKind.TheVariants.{File}
-use Rattle.wasm_reader.specs.Machine.{StopsAt, Waits}
-use Rattle.wasm_reader.specs.declared.grammar.machine.Machine.{Machine}
+use Rattle.wasm_grammar.specs.Machine.{StopsAt, Waits}
+use Rattle.wasm_grammar.specs.declared.machine.Machine.{Machine}
 use Rattle.wasm_reader.specs.declared.read_fault.ReadFault.{ReadFault}
 use Rattle.wasm_reader.specs.declared.read_fault.ReadFault.TheVariants.{Memory, Malformed, Limit}
 

@@ -8,17 +8,16 @@ ghost use Rattle.wa_types.specs.ModuleBounds.{source_bounds};
 ghost use Rattle.wa_types.specs.Sizes.{SizeRule, StrictSizeRule};
 ghost use Rattle.wa_types.specs.View.{module_of};
 ghost use Rattle.wasm_reader.specs.Answers.{IsAccepted, IsRefused};
-ghost use Rattle.wasm_reader.specs.Machine.{IsCause};
+ghost use Rattle.wasm_grammar.specs.Machine.{IsCause};
 ghost use Rattle.wasm_reader.specs.Pieces.{IsFeedFault, IsGoing, IsStop, begun_with, fed};
 ghost use Rattle.wasm_reader.specs.declared.read_fault.ReadFault.{ReadFault as FaultValue};
 
-use crate::grammar::machine::Machine;
-use crate::grammar::{CheckFault, check};
 use crate::read_fault::ReadFault;
 use crate::reader::read_whole;
 use std::alloc::Global;
 use std::marker::Model;
 use wa_types::{Bounds, LimitKind, Module};
+use wasm_grammar::{CheckFault, Machine, check};
 
 /// Reads a module from a file that comes in pieces, one behind another. The pieces that were fed count as one input. Contracts see the
 /// bounds, the bytes so far, and the first fault that they met.

@@ -7,17 +7,16 @@ ghost use Rattle.wa_types.specs.ModuleBounds.{prepared_bounds, source_bounds};
 ghost use Rattle.wa_types.specs.Sizes.{SizeRule, StrictSizeRule};
 ghost use Rattle.wa_types.specs.View.{module_of};
 ghost use Rattle.wasm_reader.specs.Answers.{IsAccepted, IsFile, IsRefused};
-ghost use Rattle.wasm_reader.specs.Found.{MarksOf};
+ghost use Rattle.wasm_scan.specs.Found.{MarksOf};
 ghost use Rattle.wasm_reader.specs.Marking.{IsJudged};
 
-use crate::build::{BuildFault, build};
-use crate::grammar::{CheckFault, check};
 use crate::locals::locals_above;
-use crate::marks::Marks;
 use crate::read_fault::ReadFault;
-use crate::scan::scan;
 use std::alloc::Global;
 use wa_types::{Bounds, LimitKind, Module};
+use wasm_build::{BuildFault, build};
+use wasm_grammar::{CheckFault, check};
+use wasm_scan::{Marks, scan};
 
 /// The module that the bytes spell (standard, section 5), where it has no float and is within the bounds. Any
 /// spelling is accepted, padded numbers too; custom sections are kept unread. Takes time linear in the bytes, and room

@@ -1,6 +1,6 @@
-use Rattle.std.proofs.Common.{◌≡◌, ◌≤◌, ap, sym, ◌∙◌, arith, length, inl, inr}
+use Rattle.std.proofs.Common.{sym, ◌∙◌}
 use Rattle.wa_types.specs.View.{module_of}
-use Rattle.wasm_reader.proofs.Accepting.{file_of, module_in, spelled_in, Stands, stands, few_runs, few_bytes, accepted, accepted_spelled, too_many, accepted_sizes, accepted_strictly}
+use Rattle.wasm_reader.proofs.Accepting.{file_of, module_in, spelled_in, stands, few_runs, few_bytes, accepted, accepted_spelled, too_many, accepted_sizes, accepted_strictly}
 use Rattle.wasm_reader.proofs.ShortFile.{written_short}
 use Rattle.wasm_reader.proofs.reader.read_whole.Goals as goal
 

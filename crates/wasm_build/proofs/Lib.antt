@@ -1,0 +1,11 @@
+pub mod Betweens
+pub mod CodeParts
+pub mod EntryParts
+pub mod FuncParts
+pub mod ModuleSums
+pub mod PlainNames
+pub mod PlainParts
+pub mod Reading
+pub mod SectionArms
+pub mod SectionParts
+pub mod Steps

@@ -1,0 +1,4 @@
+pub mod Builds
+pub mod BuildsCode
+pub mod BuildsModule
+pub mod BuildsSections

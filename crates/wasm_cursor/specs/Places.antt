@@ -1,0 +1,26 @@
+-- Places in bytes.
+use Rattle.std.specs.Prelude.{◌≡◌, ℕ, ◌+◌, ◌≤◌, List, ◌++◌, length, drop, Result, Ok}
+use Rattle.wasm_cursor.specs.declared.front.NotSpelled.{NotSpelled}
+
+-- A place in bytes: its offset, and the bytes from there on.
+pub record Place : Type 0 where
+  pub at : ℕ
+  pub left : List ℕ
+
+-- the place at this offset of these bytes
+abbrev pub place_in : (bytes : List ℕ) (at : ℕ) → Place
+place_in bytes at = record { at = at; left = drop at bytes }
+
+-- the place behind these bytes, where those are left
+abbrev pub behind : Place → (passed left : List ℕ) → Place
+behind p passed left = record { at = p.at + length passed; left = left }
+
+-- a place in the same bytes, not before this one
+pub record Onward (from to : Place) : Type 0 where
+  pub whole : to.at + length to.left ≡ from.at + length from.left
+  pub left : length to.left ≤ length from.left
+
+-- For whatever number the front spells, the answer is that, and the place is behind it.
+abbrev pub ReadsNumber : (List ℕ → ℕ → Type 0) → Result ℕ NotSpelled → (old new : Place) → Type 0
+ReadsNumber Spells result old new =
+    (n : ℕ) (front rest : List ℕ) → old.left ≡ front ++ rest → Spells front n → (result ≡ Ok n) × (new ≡ behind old front rest)

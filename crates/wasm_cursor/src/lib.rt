@@ -1,0 +1,12 @@
+//! A place in the bytes of a module, and what is read there: numbers, and what follows an opcode.
+//!
+//! A `Cursor` goes over bytes that are known to spell something. Contracts see its offset and the bytes from there on (`specs/Places.antt`). `operand_shape` tells
+//! which operands an opcode takes, in one table for all that read code (`specs/Shapes.antt`).
+#![tactic(auto)]
+
+mod front;
+mod numbers;
+mod opcodes;
+
+pub use front::{Cursor, NotSpelled};
+pub use opcodes::{Shape, is_float_op, is_float_type, operand_shape};

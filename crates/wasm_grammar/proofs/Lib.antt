@@ -1,0 +1,5 @@
+pub mod Faults
+pub mod GoalStacks
+pub mod ItemFronts
+pub mod ShortItems
+pub mod Waiting

@@ -1,0 +1,12 @@
+use Rattle.std.proofs.Common.{sym, ◌∙◌}
+use Rattle.wasm_grammar.proofs.Waiting.{fault_more, fault_wanting, whole_there}
+use Rattle.wasm_grammar.proofs.machine.Machine.finish.Goals as goal
+
+pub returns-then-self-bytes-clause-err : goal.returns-then-self-bytes-clause-err
+returns-then-self-bytes-clause-err c = fault_more c.args.bytes.now c.args.self.now.at c.args.self.now.goals c.requires c.if-self-bytes.true
+
+pub returns-then-not-is_end-clause-err : goal.returns-then-not-is_end-clause-err
+returns-then-not-is_end-clause-err c = fault_wanting c.args.bytes.now c.args.self.now.at c.args.self.now.goals c.requires c.if-self-bytes.false (sym c.is_end.ensures ∙ c.if-not-is_end.true)
+
+pub returns-clause-ok : goal.returns-clause-ok
+returns-clause-ok c = whole_there c.args.bytes.now c.args.self.now.at c.args.self.now.goals c.requires c.if-self-bytes.false (sym c.is_end.ensures ∙ c.if-not-is_end.false)

@@ -1,0 +1,6 @@
+use Rattle.std.proofs.Common.{refl}
+use Rattle.wasm_grammar.proofs.Waiting.{first_stands}
+use Rattle.wasm_grammar.proofs.machine.Machine.new.Goals as goal
+
+pub returns : goal.returns
+returns c = λ bytes. first_stands bytes 0 c.in_ok-goals.goals refl c.in_ok-goals.ensures

@@ -1,0 +1,5 @@
+pub mod Ends
+pub mod Goals
+pub mod Items
+pub mod Machine
+pub mod Passing

@@ -1,0 +1,290 @@
+ghost use Rattle.std.specs.Prelude.{◌≡◌, ℕ, Bool, List, ◌∷◌, ◌<◌, ◌≤◌, ◌-◌, ◌++◌, length, take, drop, OnOk, IfOk, IfErr, MatchBool};
+ghost use Rattle.std.specs.Bool.{OnTrue};
+ghost use Rattle.wa_types.specs.Begun.{Begun, IsWhole, wants, Inside, code, entries, some_runs, Goal as Wanted};
+ghost use Rattle.wasm_grammar.specs.Goals.{goal_of, kind_of};
+ghost use Rattle.wasm_grammar.specs.Items.{FrontIs};
+ghost use Rattle.wasm_grammar.specs.Machine.{Stands, Waits, IsFault, IsCause};
+ghost use Rattle.wasm_grammar.specs.Passing.{Below};
+
+use crate::goals::{Goal, Kind};
+use crate::items::{Front, read_item, wants};
+use crate::short::{closes, opened, pass_short, short_entries, short_runs};
+use crate::stack::Goals;
+use std::alloc::{AllocError, Global};
+use thiserror::Error;
+
+/// Why bytes are no file.
+#[derive(Clone, Copy, Debug, PartialEq, Eq, Error)]
+pub enum CheckFault {
+    #[error("out of memory")]
+    Memory,
+    /// The least number of bytes that begin no file, or all of them where they lack only more.
+    #[error("malformed at byte {at}")]
+    Malformed { at: usize },
+}
+
+impl From<AllocError> for CheckFault {
+    ghost use Rattle.std.specs.Prelude.{◌≡◌};
+    ghost use Rattle.wasm_grammar.specs.declared.machine.CheckFault.TheVariants.{Memory};
+
+    ghost from_gives = { λ _ fault. fault ≡ Memory };
+
+    fn from(_error: AllocError) -> CheckFault {
+        CheckFault::Memory
+    }
+}
+
+/// Reads the items of a file, and keeps nothing of them but what may come next.
+#[derive(Drop)]
+pub struct Machine {
+    goals: Goals,
+    // Where the item begins that isn't whole so far.
+    at: usize,
+}
+
+impl Machine {
+    /// At the first byte.
+    pub fn new(alloc: Global) -> Result<Machine, AllocError>
+        ensures { IfOk result (λ m. (bytes : List ℕ) → Stands bytes m.at m.goals) }
+    {
+        let goals = Goals::start(alloc)?;
+        Ok(Machine { goals, at: 0 })
+    }
+
+    /// Takes all items that are whole so far. As the file grows it may be called again, each time over all bytes so far,
+    /// from the first on; after an error it may not.
+    pub fn feed(&mut self, alloc: Global, bytes: &[u8]) -> Result<(), CheckFault>
+        requires { Stands bytes.now self.old.at self.old.goals }
+        ensures ok { OnOk result (Waits bytes.now self.new.at self.new.goals) }
+        ensures begun { OnOk result (Begun bytes.now) }
+        ensures more { OnOk result ((piece : List ℕ) → Stands (bytes.now ++ piece) self.new.at self.new.goals) }
+        ensures err { IfErr result (IsFault bytes.now) }
+    {
+        while self.go_on(alloc, bytes)? {}
+        Ok(())
+    }
+
+    /// Whether these bytes, which are all that have come, are a whole file.
+    pub fn finish(&self, bytes: &[u8]) -> Result<(), CheckFault>
+        requires { Waits bytes.now self.now.at self.now.goals }
+        ensures ok { OnOk result (IsWhole bytes.now) }
+        ensures err { IfErr result (IsCause bytes.now) }
+    {
+        let cut = CheckFault::Malformed { at: bytes.len() };
+        if self.at < bytes.len() {
+            return Err(cut);
+        }
+        if !self.goals.is_end() {
+            return Err(cut);
+        }
+        Ok(())
+    }
+
+    // Takes what is short, and one more item; false where that isn't whole yet.
+    fn go_on(&mut self, alloc: Global, bytes: &[u8]) -> Result<bool, CheckFault>
+        requires { Stands bytes.now self.old.at self.old.goals }
+        ensures on { IfOk result (λ on. MatchBool on (Stands bytes.now self.new.at self.new.goals) (Waits bytes.now self.new.at self.new.goals)) }
+        ensures more { IfOk result (λ on. MatchBool on ((self.old.at < self.new.at) × (self.new.at ≤ length bytes.now)) Unit) }
+        ensures err { IfErr result (IsFault bytes.now) }
+    {
+        self.pass(alloc, bytes)?;
+        self.advance(alloc, bytes)
+    }
+
+    // Takes what is short.
+    fn pass(&mut self, alloc: Global, bytes: &[u8]) -> Result<(), AllocError>
+        requires { Stands bytes.now self.old.at self.old.goals }
+        ensures ok { OnOk result (Stands bytes.now self.new.at self.new.goals) }
+        ensures ahead { self.old.at ≤ self.new.at }
+    {
+        let Some(stop) = self.goals.end_within(bytes.len()) else {
+            return Ok(());
+        };
+        self.pass_entries(alloc, bytes, stop)?;
+        while self.pass_code(alloc, bytes, stop)? {}
+        Ok(())
+    }
+
+    // Takes entries of one byte each, or runs of two, with one left.
+    fn pass_entries(&mut self, alloc: Global, bytes: &[u8], stop: usize) -> Result<(), AllocError>
+        requires stands { Stands bytes.now self.old.at self.old.goals }
+        requires below { Below stop self.old.goals }
+        requires stop { stop ≤ length bytes.now }
+        ensures ok { OnOk result (Stands bytes.now self.new.at self.new.goals) }
+        ensures below { OnOk result (Below stop self.new.goals) }
+        ensures ahead { self.old.at ≤ self.new.at }
+    {
+        let Some(goal) = self.goals.top() else {
+            return Ok(());
+        };
+        match goal {
+            Goal::Entries(Kind::Runs, n) => self.pass_runs(alloc, bytes, stop, n),
+            Goal::Entries(kind, n) => self.pass_single(alloc, bytes, stop, kind, n),
+            _ => Ok(()),
+        }
+    }
+
+    // Takes entries of one byte each, of so many, with one left.
+    fn pass_single(
+        &mut self,
+        alloc: Global,
+        bytes: &[u8],
+        stop: usize,
+        kind: Kind,
+        n: u32,
+    ) -> Result<(), AllocError>
+        requires stands { Stands bytes.now self.old.at self.old.goals }
+        requires below { Below stop self.old.goals }
+        requires stop { stop ≤ length bytes.now }
+        requires top { self.old.goals ≡ entries (kind_of kind) n ∷ drop 1 self.old.goals }
+        ensures ok { OnOk result (Stands bytes.now self.new.at self.new.goals) }
+        ensures below { OnOk result (Below stop self.new.goals) }
+        ensures ahead { self.old.at ≤ self.new.at }
+    {
+        let passed = short_entries(kind, n, bytes, self.at, stop);
+        if passed == 0 {
+            return Ok(());
+        }
+        self.goals.pop();
+        self.goals.push(alloc, Goal::Entries(kind, n - passed))?;
+        self.at += passed as usize;
+        Ok(())
+    }
+
+    // Takes runs of two bytes each, of so many, with one left.
+    fn pass_runs(
+        &mut self,
+        alloc: Global,
+        bytes: &[u8],
+        stop: usize,
+        n: u32,
+    ) -> Result<(), AllocError>
+        requires stands { Stands bytes.now self.old.at self.old.goals }
+        requires below { Below stop self.old.goals }
+        requires stop { stop ≤ length bytes.now }
+        requires top { self.old.goals ≡ entries some_runs n ∷ drop 1 self.old.goals }
+        ensures ok { OnOk result (Stands bytes.now self.new.at self.new.goals) }
+        ensures below { OnOk result (Below stop self.new.goals) }
+        ensures ahead { self.old.at ≤ self.new.at }
+    {
+        let passed = short_runs(n, bytes, self.at, stop);
+        if passed == 0 {
+            return Ok(());
+        }
+        self.goals.pop();
+        self.goals
+            .push(alloc, Goal::Entries(Kind::Runs, n - passed))?;
+        self.at += 2 * passed as usize;
+        Ok(())
+    }
+
+    // Takes short instructions of one level, and opens or closes a level behind them; false where neither stands there.
+    fn pass_code(&mut self, alloc: Global, bytes: &[u8], stop: usize) -> Result<bool, AllocError>
+        requires stands { Stands bytes.now self.old.at self.old.goals }
+        requires below { Below stop self.old.goals }
+        requires stop { stop ≤ length bytes.now }
+        ensures ok { OnOk result (Stands bytes.now self.new.at self.new.goals) }
+        ensures below { OnOk result (Below stop self.new.goals) }
+        ensures ahead { self.old.at ≤ self.new.at }
+        ensures more { IfOk result (λ on. OnTrue on (self.old.at < self.new.at)) }
+    {
+        let Some(goal) = self.goals.top() else {
+            return Ok(false);
+        };
+        if !is_code(goal) {
+            return Ok(false);
+        }
+        self.at = pass_short(bytes, self.at, stop);
+        if let Some(first_arm) = opened(bytes, self.at, stop) {
+            self.goals.push(alloc, Goal::Code { first_arm })?;
+            self.at += 2;
+            return Ok(true);
+        }
+        if !closes(bytes, self.at, stop) {
+            return Ok(false);
+        }
+        let Some(second) = self.goals.second() else {
+            return Ok(false);
+        };
+        if !is_code(second) {
+            return Ok(false);
+        }
+        self.goals.pop();
+        self.at += 1;
+        Ok(true)
+    }
+
+    // Takes one more item; false where it isn't whole yet.
+    fn advance(&mut self, alloc: Global, bytes: &[u8]) -> Result<bool, CheckFault>
+        requires { Stands bytes.now self.old.at self.old.goals }
+        ensures on { IfOk result (λ on. MatchBool on (Stands bytes.now self.new.at self.new.goals) (Waits bytes.now self.new.at self.new.goals)) }
+        ensures more { IfOk result (λ on. MatchBool on ((self.old.at < self.new.at) × (self.new.at ≤ length bytes.now)) Unit) }
+        ensures err { IfErr result (IsFault bytes.now) }
+    {
+        let Some(goal) = self.goals.top() else {
+            if self.at == bytes.len() {
+                return Ok(false);
+            }
+            return Err(CheckFault::Malformed { at: self.at + 1 });
+        };
+        let end = self.goals.end_within(bytes.len());
+        let stop = end.unwrap_or(bytes.len());
+        self.at = skip(goal, self.at, stop);
+        match item_between(goal, bytes, self.at, stop) {
+            Front::Part => match end {
+                None => Ok(false),
+                Some(at) => Err(CheckFault::Malformed { at }),
+            },
+            Front::Wrong { used } => Err(CheckFault::Malformed { at: self.at + used }),
+            Front::Whole { value, used } => {
+                let at = self.at + used;
+                if !self.goals.step(alloc, goal, value, at as u64)? {
+                    return Err(CheckFault::Malformed { at });
+                }
+                self.at = at;
+                Ok(true)
+            }
+        }
+    }
+}
+
+// Passes over bytes that may be any, but for the last one before a stop.
+fn skip(goal: Goal, at: usize, stop: usize) -> usize
+    ensures on { (bytes : List ℕ) (gs : List Wanted) → Stands bytes at (goal_of goal ∷ gs) → stop ≤ length bytes
+        → ((j : ℕ) → j < stop → Inside j (goal_of goal ∷ gs)) → Stands bytes result (goal_of goal ∷ gs) }
+    ensures ahead { at ≤ result }
+{
+    match goal {
+        Goal::Rest(_) => at.max(stop.saturating_sub(1)),
+        _ => at,
+    }
+}
+
+// The item that a goal wants, as far as it stands between two places.
+fn item_between(goal: Goal, bytes: &[u8], at: usize, stop: usize) -> Front
+    requires start { at ≤ stop }
+    requires stop { stop ≤ length bytes.now }
+    ensures { FrontIs (wants (goal_of goal)) (take (stop - at) (drop at bytes.now)) result }
+{
+    read_item(wants(goal), &bytes[at..stop])
+}
+
+// Whether instructions are wanted.
+fn is_code(goal: Goal) -> bool
+    ensures { OnTrue result ((first_arm : Bool) × (goal_of goal ≡ code first_arm)) }
+{
+    match goal {
+        Goal::Code { .. } => true,
+        _ => false,
+    }
+}
+
+/// Whether the bytes are a whole file (standard, section 5.5.15), or else where they fail.
+pub fn check(alloc: Global, bytes: &[u8]) -> Result<(), CheckFault>
+    ensures ok { OnOk result (IsWhole bytes.now) }
+    ensures err { IfErr result (IsCause bytes.now) }
+{
+    let mut machine = Machine::new(alloc)?;
+    machine.feed(alloc, bytes)?;
+    machine.finish(bytes)
+}

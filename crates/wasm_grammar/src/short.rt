@@ -1,0 +1,192 @@
+// Runs of short items, taken at once. They stop before the end of a content.
+ghost use Rattle.std.specs.Prelude.{ℕ, ◌≡◌, ◌+◌, ◌-◌, ◌*◌, ◌<◌, ◌≤◌, length, take, drop, get_or, IfSome};
+ghost use Rattle.std.specs.Bool.{OnTrue};
+ghost use Rattle.wa_types.specs.Opcodes.{is_block_type, is_value_type};
+ghost use Rattle.wasm_grammar.specs.Goals.{kind_of};
+ghost use Rattle.wasm_grammar.specs.Passing.{IsShort, AreShort, Passes, Opens, Closes, PassesEntries, IsAlone, PassesRuns, IsShortRun};
+
+use crate::goals::Kind;
+use wasm_cursor::{Shape, operand_shape};
+
+// The place behind a number of at most four bytes, which isn't judged: all of its bits are within its width.
+#[inline(always)]
+fn behind_number(bytes: &[u8], at: usize, stop: usize) -> Option<usize>
+    requires stop { stop ≤ length bytes.now }
+    requires room { at + 1 < stop }
+    ensures ahead { IfSome result (λ end. (at < end) × (end < stop)) }
+    ensures short { IfSome result (λ end. IsShort 4 (take (end - at) (drop at bytes.now))) }
+{
+    if bytes[at] < 128 {
+        return Some(at + 1);
+    }
+    if stop - at < 5 {
+        return None;
+    }
+    if bytes[at + 1] < 128 {
+        return Some(at + 2);
+    }
+    if bytes[at + 2] < 128 {
+        return Some(at + 3);
+    }
+    if bytes[at + 3] < 128 {
+        Some(at + 4)
+    } else {
+        None
+    }
+}
+
+// The place behind two numbers of at most four bytes.
+#[inline(always)]
+fn behind_numbers(bytes: &[u8], at: usize, stop: usize) -> Option<usize>
+    requires stop { stop ≤ length bytes.now }
+    requires room { at + 1 < stop }
+    ensures ahead { IfSome result (λ end. (at < end) × (end < stop)) }
+    ensures short { IfSome result (λ end. AreShort bytes.now at end) }
+{
+    let second = behind_number(bytes, at, stop)?;
+    if stop - second < 2 {
+        return None;
+    }
+    behind_number(bytes, second, stop)
+}
+
+// Where the instruction that begins here ends, if it holds no other, and each of its numbers is short.
+#[inline(always)]
+fn short_end(bytes: &[u8], at: usize, stop: usize) -> Option<usize>
+    requires { stop ≤ length bytes.now }
+    ensures ahead { IfSome result (λ end. (at < end) × (end < stop)) }
+    ensures passes { IfSome result (λ end. Passes bytes.now at end stop) }
+{
+    if stop.saturating_sub(at) < 3 {
+        return None;
+    }
+    match operand_shape(bytes[at])? {
+        Shape::Nothing => Some(at + 1),
+        Shape::Index => behind_number(bytes, at + 1, stop),
+        Shape::Constant32 => behind_number(bytes, at + 1, stop),
+        Shape::Constant64 => behind_number(bytes, at + 1, stop),
+        Shape::Access => behind_numbers(bytes, at + 1, stop),
+        _ => None,
+    }
+}
+
+/// Passes over short instructions (standard, sections 5.4.1 to 5.4.5): the place behind them.
+#[inline]
+pub(crate) fn pass_short(bytes: &[u8], at: usize, stop: usize) -> usize
+    requires { stop ≤ length bytes.now }
+    ensures ahead { at ≤ result }
+    ensures passes { Passes bytes.now at result stop }
+{
+    let mut place = at;
+    while let Some(end) = short_end(bytes, place, stop) {
+        place = end;
+    }
+    place
+}
+
+// Whether this byte is the result of a construct (standard, section 5.3.2).
+fn is_block_type(byte: u8) -> bool
+    ensures { result ≡ is_block_type byte }
+{
+    byte == 0x40 || (0x7C <= byte && byte <= 0x7F)
+}
+
+/// Whether an else may stand in the level that a construct opens here (standard, section 5.4.1), if one does.
+#[inline]
+pub(crate) fn opened(bytes: &[u8], at: usize, stop: usize) -> Option<bool>
+    requires { stop ≤ length bytes.now }
+    ensures room { IfSome result (λ inner. at + 2 < stop) }
+    ensures opens { IfSome result (λ inner. Opens bytes.now at inner stop) }
+{
+    if stop.saturating_sub(at) < 3 {
+        return None;
+    }
+    if !is_block_type(bytes[at + 1]) {
+        return None;
+    }
+    match bytes[at] {
+        0x02 => Some(false),
+        0x03 => Some(false),
+        0x04 => Some(true),
+        _ => None,
+    }
+}
+
+/// Whether an end stands here.
+#[inline]
+pub(crate) fn closes(bytes: &[u8], at: usize, stop: usize) -> bool
+    requires { stop ≤ length bytes.now }
+    ensures room { OnTrue result (at + 1 < stop) }
+    ensures closes { OnTrue result (Closes bytes.now at stop) }
+{
+    if stop.saturating_sub(at) < 2 {
+        return false;
+    }
+    bytes[at] == 0x0B
+}
+
+// Whether this byte is a value type (standard, section 5.3.1).
+#[inline(always)]
+fn is_value_type(byte: u8) -> bool
+    ensures { result ≡ is_value_type byte }
+{
+    0x7C <= byte && byte <= 0x7F
+}
+
+// Whether an entry is this byte alone.
+#[inline(always)]
+fn is_alone(kind: Kind, byte: u8) -> bool
+    ensures { OnTrue result (IsAlone (kind_of kind) byte) }
+{
+    match kind {
+        Kind::Bytes => true,
+        Kind::Indices => byte < 128,
+        Kind::Functions => byte < 128,
+        Kind::ValueTypes => is_value_type(byte),
+        _ => false,
+    }
+}
+
+/// How many entries of so many can be passed over, each of one byte, with one left.
+#[inline]
+pub(crate) fn short_entries(kind: Kind, n: u32, bytes: &[u8], at: usize, stop: usize) -> u32
+    requires { stop ≤ length bytes.now }
+    ensures room { 0 < result → at + result < stop }
+    ensures fewer { result ≤ n }
+    ensures passes { PassesEntries bytes.now (kind_of kind) n at result stop }
+{
+    let room = stop.saturating_sub(at).saturating_sub(1);
+    let most = room.min(n.saturating_sub(1) as usize);
+    for index in 0..most {
+        if !is_alone(kind, bytes[at + index]) {
+            return index as u32;
+        }
+    }
+    most as u32
+}
+
+// Whether these two bytes are a run of fewer than 128 locals (standard, section 5.5.13).
+#[inline(always)]
+fn is_short_run(count: u8, ty: u8) -> bool
+    ensures { OnTrue result (IsShortRun count ty) }
+{
+    count < 128 && is_value_type(ty)
+}
+
+/// How many runs of so many can be passed over, each of two bytes, with one left.
+#[inline]
+pub(crate) fn short_runs(n: u32, bytes: &[u8], at: usize, stop: usize) -> u32
+    requires { stop ≤ length bytes.now }
+    ensures room { 0 < result → at + 2 * result < stop }
+    ensures fewer { result ≤ n }
+    ensures passes { PassesRuns bytes.now n at result stop }
+{
+    let room = stop.saturating_sub(at).saturating_sub(1) / 2;
+    let most = room.min(n.saturating_sub(1) as usize);
+    for index in 0..most {
+        if !is_short_run(bytes[at + 2 * index], bytes[at + 2 * index + 1]) {
+            return index as u32;
+        }
+    }
+    most as u32
+}

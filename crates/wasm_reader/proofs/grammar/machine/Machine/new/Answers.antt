@@ -1,6 +1,0 @@
-use Rattle.std.proofs.Common.{refl}
-use Rattle.wasm_reader.proofs.Waiting.{first_stands}
-use Rattle.wasm_reader.proofs.grammar.machine.Machine.new.Goals as goal
-
-pub returns : goal.returns
-returns c = λ bytes. first_stands bytes 0 c.in_ok-goals.goals refl c.in_ok-goals.ensures

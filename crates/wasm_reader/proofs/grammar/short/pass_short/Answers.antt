@@ -1,8 +1,0 @@
-use Rattle.std.proofs.Common.{arith}
-use Rattle.wasm_reader.proofs.grammar.short.pass_short.Goals as goal
-
-pub loop-end-preserved : goal.loop-end-preserved
-loop-end-preserved c = record {
-  ahead = (let h = c.loop-end.invariant.ahead in let k = c.in-Some.ensures.ahead.0 in omega (arith, h, k));
-  passes = λ b gs below s. c.in-Some.ensures.passes b gs below (c.loop-end.invariant.passes b gs below s);
-}

@@ -1,6 +1,0 @@
-use Rattle.wasm_reader.specs.Goals.{kind_of}
-use Rattle.wasm_reader.specs.Passing.{PassesEntries}
-use Rattle.wasm_reader.proofs.grammar.short.short_entries.Given as goal
-
-abbrev pub invariant-loop-index : goal.invariant-loop-index
-invariant-loop-index l = PassesEntries l.bytes (kind_of l.kind) l.n l.at l.index l.stop
