@@ -78,14 +78,14 @@ generated_ends c n output status by write sink done cut all less wanting refused
 ]
 
 -- the line on memory alone, whatever the words spell
-memory_unread : (o : Option Command) (files : Option Files) (status : ℕ) (old new : Option (List ℕ)) → Becomes old new EndsInMemory
-    → OnTransform o (λ s input output. status ≡ 9 → Becomes old new (RunsOutOfMemory s files input output))
-memory_unread None files status old new h = tt
-memory_unread (Some (transform s input output)) files status old new h = λ n. memory_any s files input output old new h
+memory_unread : (o : Option Command) (files files' : Option Files) (status : ℕ) (old new : Option (List ℕ)) → Becomes old new EndsInMemory
+    → OnTransform o (λ s input output. status ≡ 9 → Becomes old new (RunsOutOfMemory s files files' input output))
+memory_unread None files files' status old new h = tt
+memory_unread (Some (transform s input output)) files files' status old new h = λ n. memory_any s files files' input output old new h
 
-pub memory_unread_words : (o : Option Spelled) (files : Option Files) (status : ℕ) (old new : Option (List ℕ)) → Becomes old new EndsInMemory
-    → OnTransform (rewriting o) (λ s input output. status ≡ 9 → Becomes old new (RunsOutOfMemory s files input output))
-memory_unread_words o files status old new h = memory_unread (rewriting o) files status old new h
+pub memory_unread_words : (o : Option Spelled) (files files' : Option Files) (status : ℕ) (old new : Option (List ℕ)) → Becomes old new EndsInMemory
+    → OnTransform (rewriting o) (λ s input output. status ≡ 9 → Becomes old new (RunsOutOfMemory s files files' input output))
+memory_unread_words o files files' status old new h = memory_unread (rewriting o) files files' status old new h
 
 -- the words are no `transform`
 pub no_transform : (o : Option Spelled) (P : Settings → List ℕ → List ℕ → Type 0) → rewriting o ≡ None → OnTransform (rewriting o) P

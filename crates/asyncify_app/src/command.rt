@@ -83,11 +83,11 @@ pub fn asyncify<V: Vault, S: Sink>(
 
     // What is printed.
     ensures prints_done { OnTransform (rewriting (spelled (map string_bytes words.now))) (λ settings input output.
-        result ≡ 0 → Becomes (S.taken out.old) (S.taken out.new) (PrintsDone settings (V.files vault.old) input)) }
+        result ≡ 0 → Becomes (S.taken out.old) (S.taken out.new) (PrintsDone settings (V.files vault.old) (V.files vault.new) input output)) }
     ensures prints_less { OnTransform (rewriting (spelled (map string_bytes words.now))) (λ settings input output.
-        result ≡ 12 → Becomes (S.taken out.old) (S.taken out.new) (PrintsLess settings (V.files vault.old) input)) }
+        result ≡ 12 → Becomes (S.taken out.old) (S.taken out.new) (PrintsLess settings (V.files vault.old) (V.files vault.new) input output)) }
     ensures prints_memory { OnTransform (rewriting (spelled (map string_bytes words.now))) (λ settings input output.
-        result ≡ 9 → Becomes (S.taken out.old) (S.taken out.new) (RunsOutOfMemory settings (V.files vault.old) input output)) }
+        result ≡ 9 → Becomes (S.taken out.old) (S.taken out.new) (RunsOutOfMemory settings (V.files vault.old) (V.files vault.new) input output)) }
     ensures prints_read { OnTransform (rewriting (spelled (map string_bytes words.now))) (λ settings input output.
         result ≡ 10 → Becomes (S.taken out.old) (S.taken out.new) (Prints (refusal_line None (read_fault input)) (S.faults out.old) (S.faults out.new))) }
     ensures prints_write { OnTransform (rewriting (spelled (map string_bytes words.now))) (λ settings input output.

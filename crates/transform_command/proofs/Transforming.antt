@@ -1,5 +1,6 @@
 -- The file that was read, and the one that is written.
-use Rattle.std.proofs.Common.{◌≡◌, inl, inr, ℕ, List, Bool, Option, Some, None, refl, sym, ap, ◌∙◌, subst, take, length, arith}
+use Rattle.std.proofs.Common.{◌≡◌, inl, inr, ℕ, List, Bool, Option, Some, None, refl, sym, ap, ◌∙◌, subst, take, length, [], arith}
+use Rattle.std.specs.Prelude.{unwrap_or}
 use Rattle.std.proofs.lemmas.List.{take_all}
 use Rattle.vault_port.specs.Files.{Files, bytes_of, ChangesOnly, HoldsFrontAtMost}
 use Rattle.vault_port.specs.Told.{WhereTold, Becomes}
@@ -78,6 +79,14 @@ pub counted : (s : Settings) (input bytes text : List ℕ) (functions instrument
     → WhereTold old (λ all. IsCount s (bytes_of all input) functions instrumented len)
 counted s input bytes text functions instrumented len None l read w = tt
 counted s input bytes text functions instrumented len (Some a) l read w = (w.0, w.1, w.2, source_of s bytes (bytes_of a input) w.0 w.1 w.2 read w.3, w.4, w.5, l ∙ ap length w.6)
+
+-- and how many bytes were saved
+pub saved_bytes : (output text : List ℕ) (len : ℕ) (old new : Option Files) → len ≡ length text → Becomes old new (ChangesOnly output text)
+    → WhereTold new (λ all. len ≡ length (bytes_of all output))
+saved_bytes output text len None None l saved = tt
+saved_bytes output text len (Some a) (Some b) l saved = l ∙ sym (ap (λ (o : Option (List ℕ)). length (unwrap_or o [])) saved.changed)
+saved_bytes output text len None (Some b) l saved = absurd saved
+saved_bytes output text len (Some a) None l saved = tt
 
 -- what the front is refused for, the file is
 pub refused_for : (s : Settings) (input bytes : List ℕ) (old : Option Files) (cause : Cause)

@@ -43,10 +43,11 @@ abbrev pub IsCount : Settings → List ℕ → (functions instrumented bytes : �
 IsCount s source functions instrumented bytes =
     (m : Module) × (which : List Bool) × (p : Module) × IsSource s source m which p × (functions ≡ length m.funcs) × (instrumented ≡ count_by (λ b. b) which) × (bytes ≡ length (Enc p))
 
--- the line of a module that was written; where the files are told, that of the module in IN
-abbrev pub IsDoneLine : Settings → Option Files → List ℕ → List ℕ → Type 0
-IsDoneLine s files input line =
+-- the line of a module that was written; where the files are told, that of the module in IN, with as many bytes as OUT has now
+abbrev pub IsDoneLine : Settings → (files files' : Option Files) → (input output line : List ℕ) → Type 0
+IsDoneLine s files files' input output line =
     (functions : ℕ) × (instrumented : ℕ) × (bytes : ℕ) × (line ≡ done_line functions instrumented bytes) × WhereTold files (λ all. IsCount s (bytes_of all input) functions instrumented bytes)
+    × WhereTold files' (λ all. bytes ≡ length (bytes_of all output))
 
 -- there is an accepted source in IN
 unfoldable pub HoldsSource : Settings → List ℕ → Type 0
@@ -65,21 +66,21 @@ abbrev pub IsRefusalLine : Settings → Option Files → List ℕ → List ℕ �
 IsRefusalLine s files input line = (cause : Cause) × (line ≡ refusal_line None (refusal_for cause)) × WhereTold files (λ all. IsRefusedFor s (bytes_of all input) cause)
 
 -- the line of a refusal, or of a module that was written
-abbrev pub IsLine : Settings → Option Files → List ℕ → List ℕ → List ℕ → Type 0
-IsLine s files input output line =
-    IsRefusalLine s files input line ⊎ (line ≡ refusal_line None (read_fault input)) ⊎ (line ≡ refusal_line None (write_fault output)) ⊎ IsDoneLine s files input line
+abbrev pub IsLine : Settings → (files files' : Option Files) → (input output line : List ℕ) → Type 0
+IsLine s files files' input output line =
+    IsRefusalLine s files input line ⊎ (line ≡ refusal_line None (read_fault input)) ⊎ (line ≡ refusal_line None (write_fault output)) ⊎ IsDoneLine s files files' input output line
 
 -- the line of the module that was written was printed
-abbrev pub PrintsDone : Settings → Option Files → List ℕ → List ℕ → List ℕ → Type 0
-PrintsDone s files input old new = (line : List ℕ) × IsDoneLine s files input line × Appends line old new
+abbrev pub PrintsDone : Settings → (files files' : Option Files) → (input output : List ℕ) → (old new : List ℕ) → Type 0
+PrintsDone s files files' input output old new = (line : List ℕ) × IsDoneLine s files files' input output line × Appends line old new
 
 -- less of that line was printed
-abbrev pub PrintsLess : Settings → Option Files → List ℕ → List ℕ → List ℕ → Type 0
-PrintsLess s files input old new = (line : List ℕ) × IsDoneLine s files input line × AppendsLess line old new
+abbrev pub PrintsLess : Settings → (files files' : Option Files) → (input output : List ℕ) → (old new : List ℕ) → Type 0
+PrintsLess s files files' input output old new = (line : List ℕ) × IsDoneLine s files files' input output line × AppendsLess line old new
 
 -- some first bytes of a line of the command, and then some of the line on memory, were printed
-abbrev pub RunsOutOfMemory : Settings → Option Files → List ℕ → List ℕ → List ℕ → List ℕ → Type 0
-RunsOutOfMemory s files input output old new = (line : List ℕ) × IsLine s files input output line × PrintsMemory line old new
+abbrev pub RunsOutOfMemory : Settings → (files files' : Option Files) → (input output : List ℕ) → (old new : List ℕ) → Type 0
+RunsOutOfMemory s files files' input output old new = (line : List ℕ) × IsLine s files files' input output line × PrintsMemory line old new
 
 -- the line of a cause of this status was printed, for which IN is refused; or less of it where the sink has failed
 abbrev pub PrintsRefusal : Settings → Option Files → List ℕ → ℕ → ℕ → ℕ → List ℕ → List ℕ → Type 0

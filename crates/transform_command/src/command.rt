@@ -44,9 +44,9 @@ pub fn run_transform<V: Vault, S: Sink>(
     ensures cut { (result ≡ 9) ⊎ (result ≡ 11) → Becomes (V.files vault.old) (V.files vault.new) (IsCutShort (settings_of settings.now) input.now output.now) }
 
     // What is printed.
-    ensures prints_done { result ≡ 0 → Becomes (S.taken out.old) (S.taken out.new) (PrintsDone (settings_of settings.now) (V.files vault.old) input.now) }
-    ensures prints_less { result ≡ 12 → Becomes (S.taken out.old) (S.taken out.new) (PrintsLess (settings_of settings.now) (V.files vault.old) input.now) }
-    ensures prints_memory { result ≡ 9 → Becomes (S.taken out.old) (S.taken out.new) (RunsOutOfMemory (settings_of settings.now) (V.files vault.old) input.now output.now) }
+    ensures prints_done { result ≡ 0 → Becomes (S.taken out.old) (S.taken out.new) (PrintsDone (settings_of settings.now) (V.files vault.old) (V.files vault.new) input.now output.now) }
+    ensures prints_less { result ≡ 12 → Becomes (S.taken out.old) (S.taken out.new) (PrintsLess (settings_of settings.now) (V.files vault.old) (V.files vault.new) input.now output.now) }
+    ensures prints_memory { result ≡ 9 → Becomes (S.taken out.old) (S.taken out.new) (RunsOutOfMemory (settings_of settings.now) (V.files vault.old) (V.files vault.new) input.now output.now) }
     ensures prints_read { result ≡ 10 → Becomes (S.taken out.old) (S.taken out.new) (Prints (refusal_line None (read_fault input.now)) (S.faults out.old) (S.faults out.new)) }
     ensures prints_write { result ≡ 11 → Becomes (S.taken out.old) (S.taken out.new) (Prints (refusal_line None (write_fault output.now)) (S.faults out.old) (S.faults out.new)) }
     ensures prints_refusal { IsRefusal result → Becomes (S.taken out.old) (S.taken out.new) (PrintsRefusal (settings_of settings.now) (V.files vault.old) input.now result (S.faults out.old) (S.faults out.new)) }

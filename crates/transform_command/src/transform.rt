@@ -1,5 +1,5 @@
 // The command `transform`.
-ghost use Rattle.std.specs.Prelude.{◌≡◌, ◌⊎◌, ◌≤◌, IfOk, IsErrOf, OnOk, OnErr, IsSome};
+ghost use Rattle.std.specs.Prelude.{◌≡◌, ◌⊎◌, ◌≤◌, length, IfOk, IsErrOf, OnOk, OnErr, IsSome};
 ghost use Rattle.call_graph.specs.Settings.{settings_of};
 ghost use Rattle.vault_port.specs.Counts.{HasRisen};
 ghost use Rattle.vault_port.specs.Files.{bytes_of, IsMissing};
@@ -51,6 +51,7 @@ pub fn transform<V: Vault>(
         (IsTransformed (settings_of settings.now) input.now output.now)) }
     ensures counts { IfOk result (λ d. WhereTold (V.files vault.old) (λ all.
         IsCount (settings_of settings.now) (bytes_of all input.now) d.functions d.instrumented d.bytes)) }
+    ensures bytes { IfOk result (λ d. WhereTold (V.files vault.new) (λ all. d.bytes ≡ length (bytes_of all output.now))) }
 
     ensures read { IsErrOf result TransformFault.Read
         → HasRisen (V.fetch_faults vault.old) (V.fetch_faults vault.new)

@@ -19,7 +19,7 @@ pub returns-in-Err-Memory-clause-prints_usage_memory : goal.returns-in-Err-Memor
 returns-in-Err-Memory-clause-prints_usage_memory g c = λ e n. memory_alone (refusal_line None usage) _ _ c.out_of_memory.ensures.printed
 
 pub returns-in-Err-Memory-clause-prints_memory : goal.returns-in-Err-Memory-clause-prints_memory
-returns-in-Err-Memory-clause-prints_memory g c = memory_unread_words (spelled (map string_bytes c.args.words.now)) _ _ _ _ c.out_of_memory.ensures.printed
+returns-in-Err-Memory-clause-prints_memory g c = memory_unread_words (spelled (map string_bytes c.args.words.now)) _ _ _ _ _ c.out_of_memory.ensures.printed
 
 pub returns-in-Err-Usage-clause-one_end : goal.returns-in-Err-Usage-clause-one_end
 returns-in-Err-Usage-clause-one_end g c =

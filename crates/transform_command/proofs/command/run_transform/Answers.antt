@@ -14,7 +14,7 @@ pub returns-in-Ok-clause-cut : goal.returns-in-Ok-clause-cut
 returns-in-Ok-clause-cut g c = λ h. transformed_is_cut (settings_of c.args.settings.now) c.args.input.now c.args.output.now _ _ c.in-Ok.ensures.done
 
 pub returns-in-Err-Memory-clause-prints_memory : goal.returns-in-Err-Memory-clause-prints_memory
-returns-in-Err-Memory-clause-prints_memory g c = λ h. memory_any (settings_of c.args.settings.now) _ c.args.input.now c.args.output.now _ _ c.out_of_memory.ensures.printed
+returns-in-Err-Memory-clause-prints_memory g c = λ h. memory_any (settings_of c.args.settings.now) _ _ c.args.input.now c.args.output.now _ _ c.out_of_memory.ensures.printed
 
 pub returns-in-Err-Refused-clause-refused : goal.returns-in-Err-Refused-clause-refused
 returns-in-Err-Refused-clause-refused g c = λ h.

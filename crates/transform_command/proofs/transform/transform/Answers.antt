@@ -2,7 +2,7 @@
 use Rattle.std.proofs.Common.{subst}
 use Rattle.call_graph.specs.Settings.{settings_of}
 use Rattle.source_modules.specs.Refusals.{cause_of, IsFaultOf}
-use Rattle.transform_command.proofs.Transforming.{transformed, cut_short, counted, refused_for, held}
+use Rattle.transform_command.proofs.Transforming.{transformed, cut_short, counted, saved_bytes, refused_for, held}
 use Rattle.transform_command.proofs.transform.transform.Goals as goal
 
 pub returns-in-Err-Refused-clause-refused : goal.returns-in-Err-Refused-clause-refused
@@ -17,6 +17,10 @@ returns-in-Ok-save_whole-clause-done g c =
 pub returns-in-Ok-save_whole-clause-counts : goal.returns-in-Ok-save_whole-clause-counts
 returns-in-Ok-save_whole-clause-counts g c =
     counted (settings_of c.args.settings.now) c.args.input.now c.in-Ok.bytes.items c.in-Ok-rewrite.written.text.items c.in-Ok-rewrite.written.functions c.in-Ok-rewrite.written.instrumented _ _ c.len.ensures.value c.in-Ok.ensures.whole (rw c.deref.ensures.value at c.in-Ok-rewrite.ensures.done)
+
+pub returns-in-Ok-save_whole-clause-bytes : goal.returns-in-Ok-save_whole-clause-bytes
+returns-in-Ok-save_whole-clause-bytes g c =
+    saved_bytes c.args.output.now c.in-Ok-rewrite.written.text.items _ _ _ c.len.ensures.value (rw c.deref-2.ensures at c.in-Ok-save_whole.ensures.saved)
 
 pub returns-in-Err-Write-clause-cut : goal.returns-in-Err-Write-clause-cut
 returns-in-Err-Write-clause-cut g c =
