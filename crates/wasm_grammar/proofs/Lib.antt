@@ -1,5 +1,3 @@
 pub mod Faults
-pub mod GoalStacks
-pub mod ItemFronts
 pub mod ShortItems
 pub mod Waiting

@@ -1,15 +1,10 @@
 //! The grammar of the binary format (standard, section 5): which bytes are a file's, and where others fail.
 //!
-//! The machine holds a stack of goals, which are what may follow (`Begun` of `wa_types`), and takes the items of a file one behind another. It never recurses, and takes
+//! The machine holds a stack of goals (`wasm_goals`), and takes the items of a file one behind another. It never recurses, and takes
 //! the bytes in pieces. `specs/Machine.antt` says where it stands, waits and stops; short items are passed over at once (`specs/Passing.antt`).
 #![tactic(auto)]
 
-mod ends;
-mod goals;
-mod items;
 mod machine;
-mod next;
 mod short;
-mod stack;
 
 pub use machine::{CheckFault, Machine, check};

@@ -1,17 +1,16 @@
 ghost use Rattle.std.specs.Prelude.{◌≡◌, ℕ, Bool, List, ◌∷◌, ◌<◌, ◌≤◌, ◌-◌, ◌++◌, length, take, drop, OnOk, IfOk, IfErr, MatchBool};
 ghost use Rattle.std.specs.Bool.{OnTrue};
 ghost use Rattle.wa_types.specs.Begun.{Begun, IsWhole, wants, Inside, code, entries, some_runs, Goal as Wanted};
-ghost use Rattle.wasm_grammar.specs.Goals.{goal_of, kind_of};
-ghost use Rattle.wasm_grammar.specs.Items.{FrontIs};
+ghost use Rattle.wasm_goals.specs.Goals.{goal_of, kind_of};
+ghost use Rattle.wasm_goals.specs.Items.{FrontIs};
 ghost use Rattle.wasm_grammar.specs.Machine.{Stands, Waits, IsFault, IsCause};
 ghost use Rattle.wasm_grammar.specs.Passing.{Below};
 
-use crate::goals::{Goal, Kind};
-use crate::items::{Front, read_item, wants};
 use crate::short::{closes, opened, pass_short, short_entries, short_runs};
-use crate::stack::Goals;
 use std::alloc::{AllocError, Global};
 use thiserror::Error;
+use wasm_goals::stack::Goals;
+use wasm_goals::{Front, Goal, Kind, read_item, wants};
 
 /// Why bytes are no file.
 #[derive(Clone, Copy, Debug, PartialEq, Eq, Error)]

@@ -2,11 +2,11 @@
 ghost use Rattle.std.specs.Prelude.{ℕ, ◌≡◌, ◌+◌, ◌-◌, ◌*◌, ◌<◌, ◌≤◌, length, take, drop, get_or, IfSome};
 ghost use Rattle.std.specs.Bool.{OnTrue};
 ghost use Rattle.wa_types.specs.Opcodes.{is_block_type, is_value_type};
-ghost use Rattle.wasm_grammar.specs.Goals.{kind_of};
+ghost use Rattle.wasm_goals.specs.Goals.{kind_of};
 ghost use Rattle.wasm_grammar.specs.Passing.{IsShort, AreShort, Passes, Opens, Closes, PassesEntries, IsAlone, PassesRuns, IsShortRun};
 
-use crate::goals::Kind;
 use wasm_cursor::{Shape, operand_shape};
+use wasm_goals::Kind;
 
 // The place behind a number of at most four bytes, which isn't judged: all of its bits are within its width.
 #[inline(always)]

@@ -1,6 +1,6 @@
 use Rattle.std.proofs.Common.{◌<◌, ◌∷◌, ℕ, drop, subst, length, arith}
 use Rattle.wa_types.specs.Begun.{Inside}
-use Rattle.wasm_grammar.specs.Goals.{goal_of}
+use Rattle.wasm_goals.specs.Goals.{goal_of}
 use Rattle.wasm_grammar.specs.Machine.{StopsAt}
 use Rattle.wasm_grammar.proofs.Faults.{ready, on_from, end_room, ended_there, stop_there, fault_end, fault_wrong, fault_step, goes_on, on_true, on_false}
 use Rattle.wasm_grammar.proofs.Waiting.{fault_none}

@@ -1,0 +1,2 @@
+pub mod GoalStacks
+pub mod ItemFronts

@@ -1,0 +1,16 @@
+use Rattle.std.proofs.Common.{◌≡◌, ◌∙◌, ℕ, [], ◌∷◌, Some, None, Bool, true, false, cond, nat_eq, refl, ap, sym}
+use Rattle.wa_types.specs.Begun.{and_then, behind_flag, number, next}
+use Rattle.wasm_goals.specs.Goals.{goal_of}
+use Rattle.wasm_goals.proofs.next.next.Goals as goal
+
+-- limits alone
+flag_alone : (v : ℕ) → and_then (behind_flag v) [] ≡ behind_flag v
+flag_alone v = by_test (nat_eq v 0) (nat_eq v 1) where
+  by_test : (s t : Bool) → and_then (cond s (Some (number ∷ [])) (cond t (Some (number ∷ number ∷ [])) None)) [] ≡ cond s (Some (number ∷ [])) (cond t (Some (number ∷ number ∷ [])) None)
+  by_test true t = refl
+  by_test false true = refl
+  by_test false false = refl
+
+pub returns-in-Limits : goal.returns-in-Limits
+unfolding next
+returns-in-Limits c = c.behind_flag.ensures ∙ flag_alone c.args.value ∙ ap (λ g. next (goal_of g) c.args.value c.args.at) (sym c.in-Limits.is)
