@@ -70,4 +70,4 @@ cause_whole s bytes (limit what found) h = refused_whole bytes (R.Limit what fou
 cause_whole s bytes (reserved name) h = (h.0, h.1, accepted_whole bytes h.0 h.2, h.3, h.4)
 cause_whole s bytes (invalid func rule at) h = (h.0, free_whole bytes h.0 h.1, h.2)
 cause_whole s bytes (rewritten_locals found) h = (h.0, h.1, valid_whole bytes h.0 h.2, h.3, h.4)
-cause_whole s bytes (long_output found) h = (h.0, h.1, h.2, rewritable_whole s bytes h.0 h.1 h.3, h.4, h.5, h.6)
+cause_whole s bytes (long_output found) h = (h.0, h.1, h.2, rewritable_whole s bytes h.0 h.1 h.3, h.4, h.5, h.6, h.7)

@@ -91,7 +91,7 @@ IsRefusedFor s bytes (invalid func rule at) = (m : Module) × IsFree bytes m × 
 IsRefusedFor s bytes (rewritten_locals found) =
     (m : Module) × (which : List Bool) × IsValidSource bytes m × TellsMayPause m s which × (first_above 50000 (rewritten_counts m which) ≡ Some found)
 IsRefusedFor s bytes (long_output found) =
-    (m : Module) × (which : List Bool) × (p : Module) × IsRewritable s bytes m which × EmittedAs m s which p × (found ≡ length (Enc p)) × (67108864 < found)
+    (m : Module) × (which : List Bool) × (p : Module) × IsRewritable s bytes m which × EmittedAs m s which p × (found ≡ length (Enc p)) × (67108864 < found) × Rewrites m s p
 
 -- the refusal that is told
 abbrev pub refusal_for : Cause → Refusal
