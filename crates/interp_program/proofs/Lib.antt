@@ -1,0 +1,4 @@
+pub mod MapLemmas
+pub mod ProgramLemmas
+pub mod RoomLemmas
+pub mod TypeLemmas
