@@ -9,7 +9,7 @@ use Rattle.wa_model.specs.Alone.{Goes, it_returned, it_trapped, it_asks, it_spen
 use Rattle.interp.specs.declared.run.Stop.{Stop}
 use Rattle.interp.specs.declared.run.Stop.TheVariants.{Returned, Trapped, Asked, Spent}
 use Rattle.interp_reduce.specs.StackRooms.{TakesMemory, paid_for}
-use Rattle.interp_state.specs.View.{taking}
+use Rattle.interp_reduce.specs.View.{taking}
 use Rattle.interp_reduce.specs.Told.{args_below}
 
 -- the next reduction costs more than is left

@@ -9,13 +9,11 @@ ghost use Rattle.interp.specs.Instance.{CallLacks, Calls, Turns, waits_of};
 ghost use Rattle.interp_reduce.specs.StackRooms.{StackRoom};
 ghost use Rattle.interp.specs.WaitRooms.{WaitRoom};
 ghost use Rattle.interp.specs.Runs.{LacksAt};
-ghost use Rattle.interp_state.specs.View.{store_of, running_of};
+ghost use Rattle.interp_reduce.specs.View.{store_of, running_of};
 
 use crate::run::{Steps, Stop, pay, run};
 use crate::turns::{Turn, Wait};
-use interp_program::Program;
-use interp_reduce::{args_of, enter};
-use interp_state::{Stack, Store};
+use interp_reduce::{Program, Stack, Store, args_of, enter};
 use std::alloc::AllocError;
 use wa_model::Call;
 use wa_types::Value;

@@ -13,8 +13,7 @@ use crate::go_on::{call_from_outside, go_on};
 use crate::run::Steps;
 use crate::turns::{Turn, Wait};
 use interp_make::{MakeFault, open};
-use interp_program::{Program, all_memories, make_program};
-use interp_state::Store;
+use interp_reduce::{Program, Store, all_memories, make_program};
 use std::alloc::{AllocError, Global};
 use std::mem;
 use wa_types::{Module, Value};
@@ -41,7 +40,7 @@ impl<'m> Instance<'m> {
     ghost use Rattle.wa_model.specs.Fitting.{types_of, global_types, results_of, StoreFits};
     ghost use Rattle.wa_types.specs.declared.values.ValType.{ValType};
     ghost use Rattle.wa_model.specs.Instantiation.{opening, opens};
-    ghost use Rattle.interp_program.specs.Rooms.{HasFewInstrs};
+    ghost use Rattle.interp_reduce.specs.Rooms.{HasFewInstrs};
     ghost use Rattle.interp.specs.Host.{code_in, store_in, waits_in, memory_of, CallsAside, Pokes};
 
     /// An instance of a module whose imported globals have these values, one each of its type, before its start function
@@ -205,7 +204,7 @@ impl<'m> Instance<'m> {
 }
 
 /// Takes off what the call took, and puts the answer in its place.
-#[tactic(auto, using(interp_state::proofs::OperandLemmas::answering))]
+#[tactic(auto, using(crate::proofs::AnswerRoom::answering))]
 fn answer(operands: &mut Vec<Value>, taken: usize, value: Option<Value>) -> Result<(), AllocError>
     ensures puts { IfOk result (λ _. reverse operands.new.items ≡ option_to_list value ++ drop taken (reverse operands.old.items)) }
     ensures holds { vec_capacity operands.old ≤ vec_capacity operands.new }

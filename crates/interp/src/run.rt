@@ -6,11 +6,9 @@ ghost use Rattle.wa_model.specs.Step.{memory_max};
 ghost use Rattle.wa_model.specs.Fitting.{Fits};
 ghost use Rattle.interp_reduce.specs.StackRooms.{StackRoom};
 ghost use Rattle.interp.specs.Runs.{LacksAt, RunsTo};
-ghost use Rattle.interp_state.specs.View.{store_of, running_of};
+ghost use Rattle.interp_reduce.specs.View.{store_of, running_of};
 
-use interp_program::Program;
-use interp_reduce::reduce;
-use interp_state::{Flow, Stack, Store};
+use interp_reduce::{Flow, Program, Stack, Store, reduce};
 use std::alloc::AllocError;
 use wa_types::{Trap, Value};
 

@@ -1,4 +1,4 @@
-use interp_state::Stack;
+use interp_reduce::Stack;
 use wa_model::Call;
 use wa_types::{Trap, Value};
 

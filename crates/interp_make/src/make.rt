@@ -5,12 +5,10 @@ ghost use Rattle.wa_types.specs.View.{global_of, elem_of, segment_of, module_of}
 ghost use Rattle.wa_model.specs.Instantiation.{least_of, all_values, filled, elem_piece, byte_piece, opening, opens};
 ghost use Rattle.wa_model.specs.Step.{first_max, memory_max};
 ghost use Rattle.interp_make.specs.Faults.{FailsAs};
-ghost use Rattle.interp_state.specs.View.{store_of};
+ghost use Rattle.interp_program.specs.View.{store_of};
 
 use crate::segments::{defined_values, elem_out, put_elems, put_segments, segment_out};
-use interp_program::all_tables;
-use interp_state::Store;
-use page_memory::Pages;
+use interp_program::{Pages, Store, all_tables};
 use std::alloc::{AllocError, Global};
 use thiserror::Error;
 use wa_types::{Limits, Module, Value};

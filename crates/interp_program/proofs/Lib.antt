@@ -1,3 +1,4 @@
+pub use Rattle.interp_state.proofs.OperandLemmas
 pub mod MapLemmas
 pub mod ProgramLemmas
 pub mod RoomLemmas

@@ -11,6 +11,10 @@ mod rooms;
 mod spaces;
 mod types;
 
+pub use interp_state::{
+    Activation, Flow, Label, Pages, Stack, Store, Waiting, choose, constant, drop_top, get_global,
+    load_at, memory_grow, memory_size, numeric, set_at, set_global, store_at, value_at,
+};
 pub use program::{Program, make_program};
 pub use rooms::Room;
 pub use spaces::{all_memories, all_tables};

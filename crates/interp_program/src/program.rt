@@ -6,9 +6,9 @@ ghost use Rattle.wa_model.specs.Step.{result_count, same_types, same_func_type};
 ghost use Rattle.interp_program.specs.Rooms.{room_at, room_of, HasFewInstrs};
 
 use crate::rooms::{Room, all_rooms};
-use crate::spaces::{all_sorts, imported_sorts};
 use crate::types;
 use std::alloc::{AllocError, Global};
+use validate_spaces::{all_sorts, imported_sorts};
 use wa_types::{Func, Module, ValType};
 
 /// A module with what is looked up at calls: the index of each function's type, imports first, how many functions are
@@ -86,8 +86,8 @@ pub fn make_program<'m>(alloc: Global, source: &'m Module) -> Result<Program<'m>
     requires { All HasFewInstrs source.now.funcs.items }
     ensures { IfOk result (λ p. p.source.now ≡ source.now) }
 {
-    let sorts = all_sorts(alloc, source)?;
-    let imports = imported_sorts(alloc, source)?.len();
+    let sorts = all_sorts(alloc, &source.imports, &source.funcs)?;
+    let imports = imported_sorts(alloc, &source.imports)?.len();
     let rooms = all_rooms(alloc, source, &sorts)?;
     Ok(Program {
         alloc,

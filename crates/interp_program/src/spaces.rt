@@ -1,60 +1,10 @@
 ghost use Rattle.std.specs.Prelude.{◌≡◌, IfOk, map};
-ghost use Rattle.wa_types.specs.Modules.{imported_func, imported_table, imported_memory, imported, all_memories, all_tables, func_sorts};
+ghost use Rattle.wa_types.specs.Modules.{imported_table, imported_memory, imported, all_memories, all_tables};
 ghost use Rattle.wa_types.specs.View.{module_of};
 
 use std::alloc::{AllocError, Global};
-use wa_types::{ImportKind, Limits, Module};
-
-/// The index of the type of an imported function.
-fn func_sort(kind: ImportKind) -> Option<u32>
-    ensures { result ≡ imported_func kind }
-{
-    match kind {
-        ImportKind::Func(sort) => Some(sort),
-        _ => None,
-    }
-}
-
-fn memory_limits(kind: ImportKind) -> Option<Limits>
-    ensures { result ≡ imported_memory kind }
-{
-    match kind {
-        ImportKind::Memory(limits) => Some(limits),
-        _ => None,
-    }
-}
-
-fn table_limits(kind: ImportKind) -> Option<Limits>
-    ensures { result ≡ imported_table kind }
-{
-    match kind {
-        ImportKind::Table(limits) => Some(limits),
-        _ => None,
-    }
-}
-
-/// The indices of the types of the imported functions.
-pub fn imported_sorts(alloc: Global, source: &Module) -> Result<Vec<u32>, AllocError>
-    ensures { IfOk result (λ v. v.items ≡ imported imported_func (module_of source.now)) }
-{
-    let imports = source.imports.as_slice();
-    imports
-        .iter()
-        .filter_map(|import| func_sort(import.kind))
-        .collect(alloc)
-}
-
-/// The indices of the types of all functions.
-#[tactic(auto, using(crate::proofs::MapLemmas::appending))]
-pub fn all_sorts(alloc: Global, source: &Module) -> Result<Vec<u32>, AllocError>
-    ensures { IfOk result (λ v. v.items ≡ func_sorts (module_of source.now)) }
-{
-    let mut sorts = imported_sorts(alloc, source)?;
-    for func in &source.funcs {
-        sorts.push(func.sort)?;
-    }
-    Ok(sorts)
-}
+use validate_spaces::{imported_memory, imported_table};
+use wa_types::{Limits, Module};
 
 fn imported_memories(alloc: Global, source: &Module) -> Result<Vec<Limits>, AllocError>
     ensures { IfOk result (λ v. v.items ≡ imported imported_memory (module_of source.now)) }
@@ -62,7 +12,7 @@ fn imported_memories(alloc: Global, source: &Module) -> Result<Vec<Limits>, Allo
     let imports = source.imports.as_slice();
     imports
         .iter()
-        .filter_map(|import| memory_limits(import.kind))
+        .filter_map(|import| imported_memory(import.kind))
         .collect(alloc)
 }
 
@@ -81,7 +31,7 @@ fn imported_tables(alloc: Global, source: &Module) -> Result<Vec<Limits>, AllocE
     let imports = source.imports.as_slice();
     imports
         .iter()
-        .filter_map(|import| table_limits(import.kind))
+        .filter_map(|import| imported_table(import.kind))
         .collect(alloc)
 }
 

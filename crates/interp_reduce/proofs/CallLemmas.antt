@@ -12,10 +12,10 @@ use Rattle.wa_model.specs.Store.{Store}
 use Rattle.wa_model.specs.Configuration.{Label, Activation, running, waiting}
 use Rattle.wa_model.specs.Step.{steps, asks, traps, stuck, entered, invoke, zero_of}
 use Rattle.wa_types.specs.View.{code}
-use Rattle.interp_state.specs.declared.activation.Activation.{Activation as Entered}
-use Rattle.interp_reduce.specs.Stacks.{IsEntered}
-use Rattle.interp_state.specs.View.{taking, label_of}
-use Rattle.interp_state.proofs.OperandLemmas.{first_reversed, rest_reversed}
+use Rattle.interp_program.specs.Activation.{Activation as Entered}
+use Rattle.interp_jumps.specs.Stacks.{IsEntered}
+use Rattle.interp_program.specs.View.{taking, label_of}
+use Rattle.interp_program.proofs.OperandLemmas.{first_reversed, rest_reversed}
 
 -- the operands between two places
 pub between : (xs : List Value) (own params : ℕ) → take (length xs - own - (length xs - own - params)) (drop (length xs - own - params) xs) ≡ reverse (take params (drop own (reverse xs)))

@@ -5,13 +5,12 @@ ghost use Rattle.wa_types.specs.View.{func_of, module_of};
 ghost use Rattle.wa_model.specs.Store.{Store};
 ghost use Rattle.wa_model.specs.Step.{zero_of};
 ghost use Rattle.interp_program.specs.Rooms.{room_of};
-ghost use Rattle.interp_reduce.specs.StackRooms.{Reserves, StackRoom, paid_for};
-ghost use Rattle.interp_reduce.specs.Stacks.{IsEntered, HasNumber, LacksNumber, invoke_of, plain_of};
-ghost use Rattle.interp_reduce.specs.Told.{Tells};
-ghost use Rattle.interp_state.specs.View.{running_of, store_of};
+ghost use Rattle.interp_jumps.specs.StackRooms.{Reserves, StackRoom, paid_for};
+ghost use Rattle.interp_jumps.specs.Stacks.{IsEntered, HasNumber, LacksNumber, invoke_of, plain_of};
+ghost use Rattle.interp_jumps.specs.Told.{Tells};
+ghost use Rattle.interp_program.specs.View.{running_of, store_of};
 
-use interp_program::Program;
-use interp_state::{Activation, Flow, Stack, Waiting};
+use interp_program::{Activation, Flow, Program, Stack, Waiting};
 use std::alloc::{AllocError, Global};
 use std::mem;
 use wa_types::{Func, Run, Trap, ValType, Value};
@@ -117,7 +116,7 @@ fn invoke<'m>(
 }
 
 /// The topmost operand, where it is an i32. It stays.
-#[tactic(auto, using(crate::proofs::NumberLemmas::peeking))]
+#[tactic(auto, using(interp_jumps::proofs::NumberLemmas::peeking))]
 fn top_number(operands: &Vec<Value>) -> Option<u32>
     ensures { MatchOption result (LacksNumber (reverse operands.now.items)) (λ n. HasNumber (reverse operands.now.items) n) }
 {

@@ -1,22 +1,22 @@
 ghost use Rattle.std.specs.Prelude.{List, OnOk, OnErr, IfErr, ◌≡◌, ◌<◌, IfOk, ◌∷◌};
 ghost use Rattle.wa_types.specs.View.{code, in_front, module_of};
 ghost use Rattle.wa_model.specs.Step.{memory_max, step};
-ghost use Rattle.interp_reduce.specs.Stacks.{code_of};
-ghost use Rattle.interp_reduce.specs.StackRooms.{StackRoom, TakesMemory, paid_for};
-ghost use Rattle.interp_reduce.specs.Told.{Tells};
+ghost use Rattle.interp_jumps.specs.Stacks.{code_of};
+ghost use Rattle.interp_jumps.specs.StackRooms.{StackRoom, TakesMemory, paid_for};
+ghost use Rattle.interp_jumps.specs.Told.{Tells};
 ghost use Rattle.wa_types.specs.declared.values.ValType.{ValType};
 ghost use Rattle.wa_types.specs.Validity.{Valid};
 ghost use Rattle.wa_model.specs.Fitting.{Fits, NextFits};
-ghost use Rattle.interp_state.specs.View.{store_of, running_of};
+ghost use Rattle.interp_program.specs.View.{store_of, running_of};
 
-use crate::branches::{branch_by, branch_if, enter_arm, enter_block, enter_loop};
 use crate::calls::{call, call_indirect};
-use crate::control::{finish, jump, leave};
-use crate::locals::{get_local, set_local, tee_local};
-use interp_program::Program;
-use interp_state::{
-    Flow, Stack, Store, choose, constant, drop_top, get_global, load_at, memory_grow, memory_size,
-    numeric, set_global, store_at,
+use interp_jumps::{
+    branch_by, branch_if, enter_arm, enter_block, enter_loop, finish, get_local, jump, leave,
+    set_local, tee_local,
+};
+use interp_program::{
+    Flow, Program, Stack, Store, choose, constant, drop_top, get_global, load_at, memory_grow,
+    memory_size, numeric, set_global, store_at,
 };
 use std::alloc::AllocError;
 use wa_types::{Instr, Trap};

@@ -106,12 +106,6 @@ none_carried xs h e = nothing (reverse xs) (sym (last_is xs) ∙ e)
     nothing [] e = sym (drop_all (0 - h) [] (omega arith))
     nothing (z ∷ zs) e = cc
 
-pub ruleset keeping = (keep_is, carried, none_carried)
-
-pub ruleset handing = (handed, handed)
-
-pub ruleset topping = (top_value, top_value)
-
 -- a list without its last one, and that one
 pub last_split : {A : Type 0} → (xs ys : List A) (x : A) → ys ≡ take (length xs - 1) xs → slice_get xs (length xs - 1) ≡ Some x → xs ≡ ys ++ x ∷ []
 last_split xs ys x ey ex =
@@ -134,5 +128,3 @@ answered_with xs taken v ys zs ey ez = top_first zs ys v ez ∙ ap (λ w. v ∷ 
 
 pub answered_without : (xs : List Value) (taken : ℕ) (ys : List Value) → ys ≡ take (length xs - taken) xs → reverse ys ≡ drop taken (reverse xs)
 answered_without xs taken ys ey = ap reverse ey ∙ sym (rest_reversed taken xs)
-
-pub ruleset answering = (answered_with, answered_without)

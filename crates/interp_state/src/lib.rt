@@ -5,10 +5,9 @@
 //! module's tree: nothing of it is copied. What an instruction does to all operands and to the store is its effect
 //! (`specs/Effects.antt`), told by a `Flow`.
 //!
-//! Read in the order `store`, `activation`, `flow`, `values`, `operands`, `numbers`, `access`, `memory`.
+//! Read in the order `store`, `activation`, `flow`, `values`, `operands`, `numbers`, `memory`.
 #![tactic(auto)]
 
-mod access;
 mod activation;
 mod flow;
 mod memory;
@@ -22,5 +21,6 @@ pub use flow::Flow;
 pub use memory::{get_global, load_at, memory_grow, memory_size, set_global, store_at};
 pub use numbers::{numeric, operand_count};
 pub use operands::{choose, constant, drop_top};
+pub use page_memory::Pages;
 pub use store::Store;
 pub use values::{set_at, value_at};

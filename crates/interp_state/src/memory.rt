@@ -3,10 +3,10 @@ ghost use Rattle.wa_types.specs.Syntax.{load, store as store_instr, memory_size,
 ghost use Rattle.interp_state.specs.Effects.{effect, Shows, Unmoved};
 ghost use Rattle.interp_state.specs.View.{store_of};
 
-use crate::access::{load_access, store_access};
 use crate::flow::Flow;
 use crate::store::Store;
 use crate::values::{set_at, value_at};
+use instr_tables::{load_access, store_access};
 use std::alloc::AllocError;
 use wa_ops::load_value;
 use wa_types::{Trap, ValType, Value};

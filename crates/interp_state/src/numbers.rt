@@ -1,6 +1,5 @@
 ghost use Rattle.std.specs.Prelude.{ℕ, ◌≡◌, ◌≤◌, vec_capacity, IsOk, List, [], ◌∷◌, Option, IfOk, length, reverse};
 ghost use Rattle.wa_types.specs.Operators.{operand_types};
-ghost use Rattle.wa_types.specs.Typing.{type_of};
 ghost use Rattle.wa_types.specs.Syntax.{num};
 ghost use Rattle.wa_ops.specs.declared.class.OperatorClass.TheVariants.{Unary, Conversion, Comparison, Binary};
 ghost use Rattle.wa_ops.specs.Operate.{class_of};
@@ -8,6 +7,7 @@ ghost use Rattle.wa_model.specs.Store.{Store};
 ghost use Rattle.interp_state.specs.Effects.{effect, Shows};
 
 use crate::flow::Flow;
+use instr_tables::{operands_of, type_of_value};
 use std::alloc::AllocError;
 use wa_ops::{OperatorClass, binary, compare, convert, unary};
 use wa_types::{NumOp, ValType, Value};
@@ -35,7 +35,7 @@ fn apply_unary(op: NumOp, operands: &mut Vec<Value>) -> Result<Flow, AllocError>
     let Some(a) = operands.pop() else {
         return Ok(Flow::Spent);
     };
-    if type_of(a) != operand_type(op) {
+    if type_of_value(a) != operand_type(op) {
         return Ok(Flow::Spent);
     }
     operands.push(unary(op, a))?;
@@ -51,7 +51,7 @@ fn apply_conversion(op: NumOp, operands: &mut Vec<Value>) -> Result<Flow, AllocE
     let Some(a) = operands.pop() else {
         return Ok(Flow::Spent);
     };
-    if type_of(a) != operand_type(op) {
+    if type_of_value(a) != operand_type(op) {
         return Ok(Flow::Spent);
     }
     operands.push(convert(op, a))?;
@@ -71,7 +71,7 @@ fn apply_comparison(op: NumOp, operands: &mut Vec<Value>) -> Result<Flow, AllocE
         return Ok(Flow::Spent);
     };
     let ty = operand_type(op);
-    if type_of(a) != ty || type_of(b) != ty {
+    if type_of_value(a) != ty || type_of_value(b) != ty {
         return Ok(Flow::Spent);
     }
     operands.push(compare(op, a, b))?;
@@ -91,7 +91,7 @@ fn apply_binary(op: NumOp, operands: &mut Vec<Value>) -> Result<Flow, AllocError
         return Ok(Flow::Spent);
     };
     let ty = operand_type(op);
-    if type_of(a) != ty || type_of(b) != ty {
+    if type_of_value(a) != ty || type_of_value(b) != ty {
         return Ok(Flow::Spent);
     }
     match binary(op, a, b) {
@@ -103,28 +103,11 @@ fn apply_binary(op: NumOp, operands: &mut Vec<Value>) -> Result<Flow, AllocError
     }
 }
 
-/// The type of a value.
-fn type_of(v: Value) -> ValType
-    ensures { result ≡ type_of v }
-{
-    match v {
-        Value::I32(_) => ValType::I32,
-        Value::I64(_) => ValType::I64,
-    }
-}
-
 /// How many operands an operator takes (standard, section 2.4.1).
 pub fn operand_count(op: NumOp) -> usize
     ensures { result ≡ length (operand_types op) }
 {
-    // No value is needed here: its clauses say of each class how many operands there are.
-    let _of_each = operand_type(op);
-    match OperatorClass::of(op) {
-        OperatorClass::Unary => 1,
-        OperatorClass::Conversion => 1,
-        OperatorClass::Comparison => 2,
-        OperatorClass::Binary => 2,
-    }
+    operands_of(op).len()
 }
 
 /// The type of all operands of an operator (standard, section 2.4.1).

@@ -5,9 +5,9 @@ use Rattle.wa_types.specs.View.{code, func_of, module_of}
 use Rattle.wa_model.specs.Configuration as C
 use Rattle.wa_model.specs.Configuration.{Configuration, running, waiting}
 use Rattle.wa_model.specs.Step.{steps, asks, zero_of}
-use Rattle.interp_state.specs.declared.activation.Activation.{Activation}
-use Rattle.interp_state.specs.View.{label_of, waiting_of, running_of, taking}
-use Rattle.interp_state.proofs.OperandLemmas.{top_first}
+use Rattle.interp_program.specs.Activation.{Activation}
+use Rattle.interp_program.specs.View.{label_of, waiting_of, running_of, taking}
+use Rattle.interp_program.proofs.OperandLemmas.{top_first}
 use Rattle.interp_reduce.proofs.CallLemmas.{asked_at, entered_at, entered_runs}
 use Rattle.interp_reduce.proofs.calls.invoke.Goals as goal
 

@@ -6,11 +6,11 @@ use Rattle.wa_types.specs.View.{code, module_of}
 use Rattle.wa_types.proofs.ViewLemmas.{code_none}
 use Rattle.wa_model.specs.Fitting.{NextFits}
 use Rattle.wa_model.proofs.FittingSteps.{steps_fit}
-use Rattle.interp_reduce.specs.Stacks.{code_of}
-use Rattle.interp_reduce.specs.Told.{Tells}
-use Rattle.interp_state.specs.View.{store_of, running_of}
-use Rattle.interp_reduce.proofs.ReduceLemmas.{code_first}
-use Rattle.interp_reduce.proofs.RoomKept.{TakesUnpaid, ok_any, roomier}
+use Rattle.interp_jumps.specs.Stacks.{code_of}
+use Rattle.interp_jumps.specs.Told.{Tells}
+use Rattle.interp_program.specs.View.{store_of, running_of}
+use Rattle.interp_jumps.proofs.ReduceLemmas.{code_first}
+use Rattle.interp_jumps.proofs.RoomKept.{TakesUnpaid, ok_any, roomier}
 use Rattle.interp_reduce.proofs.reducing.reduce.Goals as goal
 
 pub returns-in_default-clause-tells : goal.returns-in_default-clause-tells

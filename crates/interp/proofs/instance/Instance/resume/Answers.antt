@@ -4,7 +4,7 @@ use Rattle.wa_model.specs.Fitting.{types_of}
 use Rattle.interp.specs.Host.{code_in, store_in}
 use Rattle.interp.specs.Instance.{Awaits, ResumeLacks, Resumes, waits_of}
 use Rattle.interp.specs.WaitRooms.{WaitRoom}
-use Rattle.interp_state.specs.View.{store_of}
+use Rattle.interp_reduce.specs.View.{store_of}
 use Rattle.interp.proofs.FittingTurns.{turns_fit, answered_fits, answered_turns}
 use Rattle.interp.proofs.AnswerRoom.{answer_lacked, answered_lacks}
 use Rattle.interp_reduce.proofs.RoomKept.{err_any, operands_hold}
