@@ -1,6 +1,6 @@
 -- What an instance is made of.
 use Rattle.std.proofs.Common.{arith, ◌≡◌, ℕ, suc, ◌+◌, ◌<◌, ◌≤◌, List, [], ◌∷◌, ◌++◌, length, map, get_or, take, drop, Option, Some, None, Bool, true, false, nat_le, if◌then◌else◌, refl, ap, sym, ◌∙◌, drop-cons, add-one}
-use Rattle.std.proofs.lemmas.List.{drop_all, take_all, map_more, nil_from_length, append_assoc, length-append, length-take-le, length-drop}
+use Rattle.std.proofs.lemmas.List.{drop_all, nil_from_length, length-append, length-take-le, length-drop}
 use Rattle.std.proofs.lemmas.Bool.{leb-true}
 use Rattle.wa_types.specs.declared.values.Value.{Value}
 use Rattle.wa_types.specs.declared.values.Value.TheVariants.{I32}
