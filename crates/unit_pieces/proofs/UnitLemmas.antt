@@ -1,6 +1,7 @@
 -- Units, one by one.
 use Rattle.std.proofs.Common.{◌≡◌, ℕ, zero, suc, ◌+◌, ◌<◌, ◌≤◌, ◌^◌, ◌∷◌, List, [], length, get_or, drop, Option, None, Bool, true, false, subst, refl, sym, ap, ◌∙◌, arith, add-one, drop-cons}
 use Rattle.std.specs.Prelude.{if◌then◌else◌, min, nat_eq}
+use Rattle.std.proofs.lemmas.Bool.{ne_eqb}
 use Rattle.std.specs.declared.vec.Vec.{Vec}
 use Rattle.std.specs.declared.alloc.Global.{Global}
 use Rattle.wa_types.specs.declared.instrs.Instr.{Instr}
@@ -163,7 +164,8 @@ all_found all found xs i le h =
 pub one_call : (n found : ℕ) → found ≡ min n 2 → nat_eq found 1 ≡ nat_eq n 1
 one_call zero found e = let z : found ≡ 0 = omega (arith, e) in ap (λ k. nat_eq k 1) z
 one_call (suc zero) found e = let z : found ≡ 1 = omega (arith, e) in ap (λ k. nat_eq k 1) z
-one_call (suc (suc n)) found e = let z : found ≡ 2 = omega (arith, e) in ap (λ k. nat_eq k 1) z
+one_call (suc (suc n)) found e =
+    ne_eqb found 1 (λ z. let never : ⊥ = omega (arith, e, z) in never) ∙ sym (ne_eqb (suc (suc n)) 1 (λ z. let never : ⊥ = omega (arith, z) in never))
 
 -- ---- from the labels of the flat code
 
