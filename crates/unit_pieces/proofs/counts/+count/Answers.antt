@@ -1,9 +1,7 @@
 use Rattle.std.proofs.Common.{◌+◌, ◌<◌, min, drop, length, arith, ap, sym, ◌∙◌}
-use Rattle.wa_types.specs.Syntax.{a_block, a_loop}
-use Rattle.wa_types.specs.View.{code}
 use Rattle.guard_form.specs.Bounds.{unit_count}
-use Rattle.guard_form.specs.Pieces.{no_unit, nest_unit, if_unit, numbers_in}
-use Rattle.unit_pieces.specs.UnitView.{unit_in_front, units_of}
+use Rattle.guard_form.specs.Pieces.{no_unit, numbers_in}
+use Rattle.unit_pieces.specs.UnitView.{units_of}
 use Rattle.unit_pieces.proofs.UnitLemmas.{all_found, block_is, call_is, count_front, if_is, loop_is, one_more_found, units_step}
 use Rattle.unit_pieces.proofs.counts.+count.Goals as goal
 

@@ -1,4 +1,4 @@
-use Rattle.std.proofs.Common.{◌≡◌, drop, length, ◌+◌, ◌*◌, ◌≤◌}
+use Rattle.std.proofs.Common.{drop, ◌+◌, ◌*◌, ◌≤◌}
 use Rattle.guard_form.specs.Bounds.{unit_count}
 use Rattle.guard_form.specs.Pieces.{no_unit, numbers_in}
 use Rattle.unit_pieces.specs.UnitView.{unit_in_front, units_of}
