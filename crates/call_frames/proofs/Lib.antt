@@ -7,3 +7,4 @@ pub mod PlainTypes
 pub mod RestoredParts
 pub mod SavedParts
 pub mod TestsTold
+pub mod WordsTold

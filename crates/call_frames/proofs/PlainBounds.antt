@@ -1,6 +1,6 @@
 -- What codes of frames that are plain data cost, and how many instructions they have.
-use Rattle.std.proofs.Common.{◌≡◌, ℕ, suc, nat_eq, ◌+◌, ◌*◌, ◌≤◌, List, [], ◌∷◌, ◌++◌, length, Bool, true, false, arith}
-use Rattle.std.specs.Prelude.{None, if◌then◌else◌}
+use Rattle.std.proofs.Common.{◌≡◌, ℕ, zero, suc, nat_eq, ◌+◌, ◌*◌, ◌≤◌, List, [], ◌∷◌, ◌++◌, length, Bool, true, false, ◌&&◌, refl, arith, leb-true}
+use Rattle.std.specs.Prelude.{None, nat_le, if◌then◌else◌}
 use Rattle.wa_types.specs.declared.values.ValType.{ValType}
 use Rattle.wa_types.specs.declared.values.ValType.TheVariants.{I32, I64}
 use Rattle.wa_types.specs.Frames.{width}
@@ -11,7 +11,8 @@ use Rattle.local_spill.specs.Spilling.{stored_value, loaded_value, index_saved, 
 use Rattle.frame_laws.specs.Layout.{FrameField, kept, gap, fields_size, kept_count, stores, loads}
 use Rattle.call_frames.specs.CallTests.{CallRow, at_either, at_row, row_size, row_test, row_test_size}
 use Rattle.call_frames.specs.FrameParts.{parts_cost_at, shared_size, scratch_raised, scratch_lowered, parts_stored, parts_loaded, frame_stored_by_call, location_lowered}
-use Rattle.call_frames.specs.PlainFrames.{SavedPart, at_every, at_these, SavedParts, is_one_of, call_fields, onto_rows, rows_of, or_rows}
+use Rattle.call_frames.specs.CallWords.{words_chosen, bit_taken, at_words, words_size}
+use Rattle.call_frames.specs.PlainFrames.{SavedPart, at_every, at_these, SavedParts, is_one_of, call_fields, onto_rows, rows_of, or_rows, words_behind, by_words, calls_test}
 use Rattle.call_frames.specs.PlainFrames.{at_rows, at_calls, joined_size, rows_size, test_size, parts_of, weighed, sizes_added, sizes_cost, frames_of}
 use Rattle.call_frames.specs.PlainLaws.{tests_cost, PlainFramesCost, NamesCostLittle, sizes_size, parts_size, PlainFramesSize}
 
@@ -64,6 +65,26 @@ test_few [] h = absurd (omega (arith, h))
 test_few (k ∷ ks) h =
     let a = rows_few (rows_of (k ∷ ks)) (onto_some k (rows_of ks)) in
     let b = joined_few (k ∷ ks) in omega (arith, a, b)
+
+joined_least : (rs : List CallRow) → 4 * length rs ≤ joined_size rs
+joined_least [] = omega arith
+joined_least (r ∷ rs) = let ih = joined_least rs in let l = row_least (nat_eq r.more 0) (nat_eq r.first 0) in omega (arith, ih, l)
+
+both : (a b : Bool) → (a && b) ≡ true → (a ≡ true) × (b ≡ true)
+both true b e = (refl, e)
+both false b e = cc
+
+-- what is by words: few words, and many rows
+pub words_are_few : (ks : List ℕ) → by_words ks ≡ true → words_behind ks ≤ 1000
+words_are_few ks e = leb-true (words_behind ks) 1000 (both (nat_le (words_behind ks) 1000) (nat_le (2 * words_behind ks + 2) (length (rows_of ks))) e).0
+
+-- words are no longer than rows
+pub words_less : (ks : List ℕ) → by_words ks ≡ true → words_size (words_behind ks) ≤ test_size ks
+words_less ks e =
+    let many = leb-true (2 * words_behind ks + 2) (length (rows_of ks)) (both (nat_le (words_behind ks) 1000) (nat_le (2 * words_behind ks + 2) (length (rows_of ks))) e).1 in
+    let a = rows_few (rows_of ks) (omega (arith, many)) in
+    let b = joined_least (rows_of ks) in
+    omega (arith, many, a, b)
 
 parts_cost : (index k : ℕ) (ps : List SavedPart) → sizes_cost ps + 2 * parts_cost_at k (parts_of index ps) ≤ tests_cost ps + 6 * kept_count (call_fields k ps)
 parts_cost index k [] = omega arith
@@ -140,20 +161,37 @@ unfolding instructions_and_labels
 at_rows_size index [] next = omega arith
 at_rows_size index (r ∷ rs) next = or_rows_size index rs (at_row index r) (row_size r) (λ c. at_row_size index r c) next
 
-at_calls_size : (index : ℕ) (ks : List ℕ) (next : Code) → instructions_and_labels (at_calls index ks next) ≡ test_size ks + instructions_and_labels next
-at_calls_size index ks next = at_rows_size index (rows_of ks) next
+chosen_size : (index : ℕ) (calls : ℕ → Bool) (q n : ℕ) (next : Code) → instructions_and_labels (words_chosen index calls q n next) ≡ 5 * n + instructions_and_labels next
+unfolding instructions_and_labels
+chosen_size index calls q zero next = omega arith
+chosen_size index calls q (suc n) next = let ih = chosen_size index calls (suc q) n next in omega (arith, ih)
 
-added_size : (index : ℕ) (ps : List SavedPart) (next : Code) → instructions_and_labels (sizes_added index ps next) ≡ sizes_size ps + instructions_and_labels next
+taken_size : (index : ℕ) (next : Code) → instructions_and_labels (bit_taken index next) ≡ 6 + instructions_and_labels next
+unfolding instructions_and_labels
+taken_size index next = omega arith
+
+at_words_size : (index : ℕ) (calls : ℕ → Bool) (n : ℕ) (next : Code) → instructions_and_labels (at_words index calls n next) ≡ words_size n + instructions_and_labels next
+unfolding instructions_and_labels
+at_words_size index calls n next = let a = chosen_size index calls 1 n (bit_taken index next) in let b = taken_size index next in omega (arith, a, b)
+
+at_calls_size : (index : ℕ) (ks : List ℕ) (next : Code) → instructions_and_labels (at_calls index ks next) ≤ test_size ks + instructions_and_labels next
+at_calls_size index ks next = by (by_words ks) refl
+  where
+    by : (b : Bool) → by_words ks ≡ b → instructions_and_labels (calls_test b index ks next) ≤ test_size ks + instructions_and_labels next
+    by true e = let a = at_words_size index (is_one_of ks) (words_behind ks) next in let l = words_less ks e in omega (arith, a, l)
+    by false e = let a = at_rows_size index (rows_of ks) next in omega (arith, a)
+
+added_size : (index : ℕ) (ps : List SavedPart) (next : Code) → instructions_and_labels (sizes_added index ps next) ≤ sizes_size ps + instructions_and_labels next
 unfolding instructions_and_labels
 added_size index [] next = omega arith
 added_size index (at_every fs ∷ ps) next = added_size index ps next
 added_size index (at_these ks fs ∷ ps) next =
     let ih = added_size index ps next in
     let t = at_calls_size index ks (weighed (fields_size fs) (sizes_added index ps next)) in
-    omega arith
+    omega (arith, ih, t)
 
 stored_size : (index sp off : ℕ) (ps : List SavedPart) (next : Code)
-    → instructions_and_labels (parts_stored sp off (parts_of index ps) next) ≡ parts_size ps + instructions_and_labels next
+    → instructions_and_labels (parts_stored sp off (parts_of index ps) next) ≤ parts_size ps + instructions_and_labels next
 unfolding instructions_and_labels
 stored_size index sp off [] next = omega arith
 stored_size index sp off (at_every fs ∷ ps) next =
@@ -164,10 +202,10 @@ stored_size index sp off (at_these ks fs ∷ ps) next =
     let s = stores_size sp off fs (scratch_raised sp (fields_size fs) done) in
     let t = at_calls_size index ks (branch None (stores sp off fs (scratch_raised sp (fields_size fs) done)) done (parts_stored sp off (parts_of index ps) next)) in
     let ih = stored_size index sp off ps next in
-    omega arith
+    omega (arith, s, t, ih)
 
 loaded_size : (index sp off : ℕ) (ps : List SavedPart) (next : Code)
-    → instructions_and_labels (parts_loaded sp off (parts_of index ps) next) ≡ parts_size ps + instructions_and_labels next
+    → instructions_and_labels (parts_loaded sp off (parts_of index ps) next) ≤ parts_size ps + instructions_and_labels next
 unfolding instructions_and_labels
 loaded_size index sp off [] next = omega arith
 loaded_size index sp off (at_every fs ∷ ps) next =
@@ -179,7 +217,7 @@ loaded_size index sp off (at_these ks fs ∷ ps) next =
     let t = at_calls_size index ks own in
     let s = loads_size sp off fs done in
     let ih = loaded_size index sp off ps (at_calls index ks own) in
-    omega arith
+    omega (arith, s, t, ih)
 
 -- what stands behind the code of sizes
 abbrev pub behind_sizes : SavedParts → Code → Code

@@ -1,9 +1,9 @@
 -- What each instruction of the codes has, the codes have: one induction for all properties of their code.
-use Rattle.std.proofs.Common.{◌≡◌, ◌≢◌, ℕ, Bool, true, false, nat_eq, ◌+◌, ◌^◌, ◌<◌, ◌≤◌, List, [], ◌∷◌, ◌++◌, None, refl, ap, ◌∙◌, arith}
+use Rattle.std.proofs.Common.{◌≡◌, ◌≢◌, ℕ, zero, suc, Bool, true, false, nat_eq, ◌+◌, ◌*◌, ◌^◌, ◌<◌, ◌≤◌, List, [], ◌∷◌, ◌++◌, None, refl, ap, ◌∙◌, arith}
 use Rattle.std.specs.Prelude.{if◌then◌else◌}
 use Rattle.std.proofs.lemmas.Bool.{ne_eqb}
 use Rattle.wa_types.specs.declared.operators.NumOp.{NumOp}
-use Rattle.wa_types.specs.declared.operators.NumOp.TheVariants.{I32Add, I32Sub, I32Mul, I32LeU, I32GtU, I32Eq, I32Or}
+use Rattle.wa_types.specs.declared.operators.NumOp.TheVariants.{I32Add, I32Sub, I32Mul, I32LtU, I32LeU, I32GtU, I32Eq, I32Or, I32WrapI64, I64And, I64ExtendI32U, I64ShrU}
 use Rattle.wa_types.specs.declared.values.ValType.{ValType}
 use Rattle.wa_types.specs.declared.values.ValType.TheVariants.{I32, I64}
 use Rattle.wa_types.specs.declared.values.Value.TheVariants as V
@@ -11,20 +11,24 @@ use Rattle.wa_types.specs.Counts.{depth_of}
 use Rattle.wa_types.specs.Frames.{width}
 use Rattle.wa_types.specs.Pausing.{calls_of}
 use Rattle.wa_types.specs.Sizes.{code_lists, CodeFits}
-use Rattle.wa_types.specs.Syntax.{const, num, global_get, basic, local_get, local_set, local_tee, unreachable, Code, done, plain, branch}
+use Rattle.wa_types.specs.Syntax.{const, num, select, global_get, basic, local_get, local_set, local_tee, unreachable, Code, done, plain, branch}
 use Rattle.frame_laws.specs.Bounds.{plain_reads, reads}
 use Rattle.local_spill.specs.Spilling.{stored_value, loaded_value, location_of}
 use Rattle.frame_laws.specs.Layout.{FrameField, kept, gap, fields_size, stores, loads}
 use Rattle.call_frames.specs.CallTests.{CallRow, at_call, at_either, at_most, at_row, row_test}
 use Rattle.call_frames.specs.FrameParts.{shared_size, scratch_raised, scratch_lowered, parts_stored, parts_loaded, frame_stored_by_call, frame_loaded_by_call, location_lowered, saving_by_call, restoring_by_call}
-use Rattle.call_frames.specs.PlainFrames.{SavedPart, at_every, at_these, SavedParts, rows_of, or_rows, at_rows, at_calls, parts_of, weighed, sizes_added, frames_of}
+use Rattle.call_frames.specs.CallWords.{word_of, words_chosen, bit_taken, at_words}
+use Rattle.call_frames.specs.PlainFrames.{is_one_of, words_behind, by_words, calls_test, SavedPart, at_every, at_these, SavedParts, rows_of, or_rows, at_rows, at_calls, parts_of, weighed, sizes_added, frames_of}
 use Rattle.call_frames.specs.PlainLaws.{FieldsSmall, NumbersSmall, PartsSmall, PlainSmall, PlainFramesDepth, PlainFramesHold}
-use Rattle.call_frames.proofs.PlainBounds.{behind_sizes, behind_parts}
+use Rattle.call_frames.proofs.PlainBounds.{behind_sizes, behind_parts, words_are_few}
 use Rattle.call_frames.proofs.PlainTold.{RowsSmall, rows_small}
+use Rattle.call_frames.proofs.WordsTold.{word_small}
 
 -- A property of code that stays where one of these instructions is put in front.
 pub record Stays (address : ℕ) (P : Code → Type 0) : Type 0 where
   pub number : (n : ℕ) (c : Code) → n < 2 ^ 32 → P c → P (plain (basic (const (V.I32 n))) c)
+  pub wide : (n : ℕ) (c : Code) → n < 2 ^ 64 → P c → P (plain (basic (const (V.I64 n))) c)
+  pub selects : (c : Code) → P c → P (plain (basic select) c)
   pub operator : (op : NumOp) (c : Code) → P c → P (plain (basic (num op)) c)
   pub got : (x : ℕ) (c : Code) → x < 2 ^ 32 → P c → P (plain (local_get x) c)
   pub set : (x : ℕ) (c : Code) → x < 2 ^ 32 → P c → P (plain (local_set x) c)
@@ -64,8 +68,38 @@ module _ (f : SavedParts) (small : PlainSmall f) where
     rows_have [] c lt h = stays.number 0 c (omega arith) h
     rows_have (r ∷ rs) c lt h = or_has rs (at_row f.index r) (λ rest q. at_row_has r rest lt.0 q) lt.1 c h
 
+    chosen_has : (calls : ℕ → Bool) (q n : ℕ) (c : Code) → q + n ≤ 1001 → P c → P (words_chosen f.index calls q n c)
+    chosen_has calls q zero c le h = h
+    chosen_has calls q (suc n) c le h =
+        let r4 : Code = words_chosen f.index calls (suc q) n c in
+        let r3 : Code = plain (basic select) r4 in
+        let r2 : Code = plain (basic (num I32LtU)) r3 in
+        let r1 : Code = plain (basic (const (V.I32 (64 * q)))) r2 in
+        let s = stays.selects r4 (chosen_has calls (suc q) n c (omega (arith, le)) h) in
+        let l = stays.number (64 * q) r2 (omega (arith, le)) (stays.operator I32LtU r3 s) in
+        stays.wide (word_of calls q) (plain (local_get f.index) r1) (word_small calls q) (stays.got f.index r1 small.index l)
+
+    taken_has : (c : Code) → P c → P (bit_taken f.index c)
+    taken_has c h =
+        let r4 : Code = plain (basic (num I32WrapI64)) c in
+        let r3 : Code = plain (basic (num I64And)) r4 in
+        let r2 : Code = plain (basic (const (V.I64 1))) r3 in
+        let r1 : Code = plain (basic (num I64ShrU)) r2 in
+        let r0 : Code = plain (basic (num I64ExtendI32U)) r1 in
+        stays.got f.index r0 small.index (stays.operator I64ExtendI32U r1 (stays.operator I64ShrU r2
+        (stays.wide 1 r3 (omega arith) (stays.operator I64And r4 (stays.operator I32WrapI64 c h)))))
+
+    words_have : (calls : ℕ → Bool) (n : ℕ) (c : Code) → n ≤ 1000 → P c → P (at_words f.index calls n c)
+    words_have calls n c le h =
+        stays.wide (word_of calls 0) (words_chosen f.index calls 1 n (bit_taken f.index c)) (word_small calls 0)
+        (chosen_has calls 1 n (bit_taken f.index c) (omega (arith, le)) (taken_has c h))
+
     test_has : (ks : List ℕ) (c : Code) → NumbersSmall ks → P c → P (at_calls f.index ks c)
-    test_has ks c lt h = rows_have (rows_of ks) c (rows_small ks lt) h
+    test_has ks c lt h = by (by_words ks) refl
+      where
+        by : (b : Bool) → by_words ks ≡ b → P (calls_test b f.index ks c)
+        by true e = words_have (is_one_of ks) (words_behind ks) c (words_are_few ks e) h
+        by false e = rows_have (rows_of ks) c (rows_small ks lt) h
 
     stores_have : (off : ℕ) (fs : List FrameField) (c : Code) → FieldsSmall fs → off + fields_size fs < 2 ^ 32 → P c → P (stores f.scratch off fs c)
     stores_have off [] c lt room h = h
@@ -180,6 +214,8 @@ module _ (f : SavedParts) (small : PlainSmall f) where
 fits_stays : (address : ℕ) → address < 2 ^ 32 → Stays address CodeFits
 fits_stays address lt = record {
   number = λ n c le h. (le, h);
+  wide = λ n c le h. (le, h);
+  selects = λ c h. (tt, h);
   operator = λ op c h. (tt, h);
   got = λ x c le h. (le, h);
   set = λ x c le h. (le, h);
@@ -204,6 +240,8 @@ calls_stay : (address : ℕ) → Stays address CallsNone
 unfolding calls_of
 calls_stay address = record {
   number = λ n c le h. h;
+  wide = λ n c le h. h;
+  selects = λ c h. h;
   operator = λ op c h. h;
   got = λ x c le h. h;
   set = λ x c le h. h;
@@ -236,6 +274,8 @@ calls_stop = refl
 lists_stay : (address n : ℕ) → Stays address (code_lists n)
 lists_stay address n = record {
   number = λ k c le h. (tt, h);
+  wide = λ k c le h. (tt, h);
+  selects = λ c h. (tt, h);
   operator = λ op c h. (tt, h);
   got = λ x c le h. (tt, h);
   set = λ x c le h. (tt, h);
@@ -260,6 +300,8 @@ module _ (st : ℕ) where
   reads_stay : (address : ℕ) → address ≢ st → Stays address Unread
   reads_stay address apart = record {
     number = λ k c le h. omega (arith, h);
+    wide = λ k c le h. omega (arith, h);
+    selects = λ c h. omega (arith, h);
     operator = λ op c h. omega (arith, h);
     got = λ x c le h. omega (arith, h);
     set = λ x c le h. omega (arith, h);
@@ -284,6 +326,8 @@ depth_stays : (address n : ℕ) → Stays address (Deep n)
 unfolding depth_of
 depth_stays address n = record {
   number = λ k c le h. h;
+  wide = λ k c le h. h;
+  selects = λ c h. h;
   operator = λ op c h. h;
   got = λ x c le h. h;
   set = λ x c le h. h;

@@ -1,5 +1,5 @@
 -- Frames that are plain data: their tests tell, and so does the code of their sizes.
-use Rattle.std.proofs.Common.{◌≡◌, ℕ, suc, ◌&&◌, sym, eqb-true, ◌+◌, ◌*◌, ◌^◌, ◌<◌, ◌≤◌, List, [], ◌∷◌}
+use Rattle.std.proofs.Common.{◌≡◌, ℕ, suc, ◌&&◌, sym, eqb-true, leb-true, leb-false, ◌+◌, ◌*◌, ◌^◌, ◌<◌, ◌≤◌, List, [], ◌∷◌}
 use Rattle.std.proofs.Common.{◌++◌, ◌%◌, Bool, true, false, nat_eq, refl, ap, ◌∙◌, subst, arith}
 use Rattle.std.specs.Prelude.{◌||◌, nat_le, if◌then◌else◌}
 use Rattle.wa_types.specs.declared.values.Value.{Value}
@@ -20,10 +20,13 @@ use Rattle.call_frames.specs.ByCall.{PartsTell, TestTells}
 use Rattle.call_frames.specs.CallTests.{CallRow, at_either, at_row, in_row, row_size}
 use Rattle.call_frames.specs.FrameParts.{own_size, shared_size, layout_at}
 use Rattle.call_frames.specs.PlainFrames.{SavedPart, at_every, at_these, SavedParts, is_one_of, onto_rows, rows_of, or_rows, at_rows}
-use Rattle.call_frames.specs.PlainFrames.{at_calls, joined_size, rows_size, test_size, parts_of, weighed, sizes_added, sizes_cost, sizes_summed, frames_of}
+use Rattle.call_frames.specs.CallWords.{words_size}
+use Rattle.call_frames.specs.PlainFrames.{calls_end, words_behind, by_words, calls_test, at_calls, joined_size, rows_size, test_size, parts_of, weighed, sizes_added, sizes_cost, sizes_summed, frames_of}
 use Rattle.call_frames.specs.PlainLaws.{CallsSmall, NumbersSmall, PartsSmall, PlainFramesTell, PlainFieldsAt}
 use Rattle.call_frames.proofs.FieldRows.{sizes_at}
+use Rattle.call_frames.proofs.PlainBounds.{words_less}
 use Rattle.call_frames.proofs.TestsTold.{either_law, longer_row, row_law, single_row}
+use Rattle.call_frames.proofs.WordsTold.{words_law}
 
 or_false : (b : Bool) → b ≡ (b || false)
 or_false true = refl
@@ -71,6 +74,22 @@ pub rows_small : (ks : List ℕ) → NumbersSmall ks → RowsSmall (rows_of ks)
 rows_small [] h = tt
 rows_small (k ∷ ks) h = onto_small k (rows_of ks) h.0 (rows_small ks h.1)
 
+-- ---- words of calls
+
+end_above : (ks : List ℕ) (j : ℕ) → is_one_of ks j ≡ true → j < calls_end ks
+end_above [] j e = cc
+end_above (k ∷ ks) j e = by (nat_eq j k) (nat_le (calls_end ks) k) refl refl e (λ h. end_above ks j h)
+  where
+    by : (a b : Bool) → nat_eq j k ≡ a → nat_le (calls_end ks) k ≡ b → (a || is_one_of ks j) ≡ true → (is_one_of ks j ≡ true → j < calls_end ks) → j < (if b then suc k else calls_end ks)
+    by true true s l h rest = let same = eqb-true j k s in omega (arith, same)
+    by true false s l h rest = let same = eqb-true j k s in let above = leb-false (calls_end ks) k l in omega (arith, same, above)
+    by false true s l h rest = let ih = rest h in let le = leb-true (calls_end ks) k l in omega (arith, ih, le)
+    by false false s l h rest = rest h
+
+-- all of them are in front of the last word
+pub words_above : (ks : List ℕ) (j : ℕ) → is_one_of ks j ≡ true → j < 64 * words_behind ks
+words_above ks j e = let lt = end_above ks j e in omega (arith, lt)
+
 -- ---- tests
 
 module _ (count index : ℕ) where
@@ -99,9 +118,15 @@ module _ (count index : ℕ) where
   rows_told (r ∷ rs) few small = or_told rs (in_row r) (at_row index r) (row_size r) few small.1 (row_law count index r few small.0)
 
   pub calls_told : (ks : List ℕ) → count ≤ 2 ^ 32 → NumbersSmall ks → TestTells count index (is_one_of ks) (λ next. at_calls index ks next) (test_size ks)
-  calls_told ks few small =
-      same_told (in_rows (rows_of ks)) (is_one_of ks) (λ next. at_rows index (rows_of ks) next) (test_size ks) (test_size ks) (named_in_rows ks) (omega arith)
-      (rows_told (rows_of ks) few (rows_small ks small))
+  calls_told ks few small = by (by_words ks) refl
+    where
+      by : (b : Bool) → by_words ks ≡ b → TestTells count index (is_one_of ks) (λ next. calls_test b index ks next) (test_size ks)
+      by true e =
+          same_told (is_one_of ks) (is_one_of ks) (λ next. calls_test true index ks next) (words_size (words_behind ks)) (test_size ks) (λ k. refl) (words_less ks e)
+          (words_law count index (words_behind ks) (is_one_of ks) (words_above ks))
+      by false e =
+          same_told (in_rows (rows_of ks)) (is_one_of ks) (λ next. calls_test false index ks next) (test_size ks) (test_size ks) (named_in_rows ks) (omega arith)
+          (rows_told (rows_of ks) few (rows_small ks small))
 
   parts_told : (ps : List SavedPart) → count ≤ 2 ^ 32 → CallsSmall ps → PartsTell count index (parts_of index ps)
   parts_told [] few small = tt

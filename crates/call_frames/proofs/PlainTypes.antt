@@ -1,12 +1,12 @@
 -- Codes of frames that are plain data have their types.
-use Rattle.std.proofs.Common.{◌≡◌, ℕ, ◌+◌, List, [], ◌∷◌, Option, Some, None, Bool, true, false, nat_eq, refl, sym, subst}
+use Rattle.std.proofs.Common.{◌≡◌, ℕ, zero, suc, ◌+◌, ◌*◌, List, [], ◌∷◌, Option, Some, None, Bool, true, false, nat_eq, refl, sym, subst}
 use Rattle.std.specs.Prelude.{slice_get}
 use Rattle.wa_types.specs.declared.values.ValType.{ValType}
 use Rattle.wa_types.specs.declared.values.ValType.TheVariants.{I32, I64}
 use Rattle.wa_types.specs.declared.values.Value.TheVariants as V
-use Rattle.wa_types.specs.declared.operators.NumOp.TheVariants.{I32Add, I32Sub, I32Mul, I32LeU, I32GtU, I32Eq, I32Or}
+use Rattle.wa_types.specs.declared.operators.NumOp.TheVariants.{I32Add, I32Sub, I32Mul, I32LtU, I32LeU, I32GtU, I32Eq, I32Or, I32WrapI64, I64And, I64ExtendI32U, I64ShrU}
 use Rattle.wa_types.specs.Accesses.{load_row, store_row}
-use Rattle.wa_types.specs.Syntax.{const, num, global_get, basic, local_get, local_set, local_tee, unreachable, Code, done, plain, branch}
+use Rattle.wa_types.specs.Syntax.{const, num, select, global_get, basic, local_get, local_set, local_tee, unreachable, Code, done, plain, branch}
 use Rattle.wa_types.specs.Frames.{width}
 use Rattle.wa_types.specs.Typing.{Around, gets, sets, tees, gets_global, loads as loads_sig, stores as stores_sig, Takes, Types}
 use Rattle.local_spill.specs.Spilling.{stored_value, loaded_value, location_of}
@@ -14,7 +14,8 @@ use Rattle.frame_laws.specs.Layout.{FrameField, kept, gap, fields_size, stores, 
 use Rattle.frame_laws.specs.Typed.{FieldsTyped}
 use Rattle.call_frames.specs.CallTests.{CallRow, at_call, at_either, at_most, at_row, row_test}
 use Rattle.call_frames.specs.FrameParts.{shared_size, scratch_raised, scratch_lowered, parts_stored, parts_loaded, frame_stored_by_call, frame_loaded_by_call, location_lowered}
-use Rattle.call_frames.specs.PlainFrames.{SavedPart, at_every, at_these, SavedParts, rows_of, or_rows, at_rows, at_calls, parts_of, weighed, sizes_added, frames_of}
+use Rattle.call_frames.specs.CallWords.{word_of, words_chosen, bit_taken, at_words}
+use Rattle.call_frames.specs.PlainFrames.{is_one_of, words_behind, by_words, calls_test, SavedPart, at_every, at_these, SavedParts, rows_of, or_rows, at_rows, at_calls, parts_of, weighed, sizes_added, frames_of}
 use Rattle.call_frames.specs.PlainLaws.{PartsTyped, PlainTyped, PlainSaveTyped, PlainRestoreTyped}
 use Rattle.call_frames.proofs.PlainBounds.{behind_sizes, behind_parts}
 
@@ -82,6 +83,34 @@ module _ (c : Around) where
   unfolding Types
   ordering ls outs next ins h = (I32 ∷ ins, (ins, refl, refl), h)
 
+  below : (ls : List (Option ValType)) (outs : List ValType) (next : Code) (ins : List ValType) → T ls next outs (I32 ∷ ins) → T ls (plain (basic (num I32LtU)) next) outs (I32 ∷ I32 ∷ ins)
+  unfolding Types
+  below ls outs next ins h = (I32 ∷ ins, (ins, refl, refl), h)
+
+  wide : (ls : List (Option ValType)) (outs : List ValType) (n : ℕ) (next : Code) (ins : List ValType) → T ls next outs (I64 ∷ ins) → T ls (plain (basic (const (V.I64 n))) next) outs ins
+  unfolding Types
+  wide ls outs n next ins h = (I64 ∷ ins, (ins, refl, refl), h)
+
+  selecting : (ls : List (Option ValType)) (outs : List ValType) (t : ValType) (next : Code) (ins : List ValType) → T ls next outs (t ∷ ins) → T ls (plain (basic select) next) outs (I32 ∷ t ∷ t ∷ ins)
+  unfolding Types
+  selecting ls outs t next ins h = (t ∷ ins, (t, ins, refl, refl), h)
+
+  extending : (ls : List (Option ValType)) (outs : List ValType) (next : Code) (ins : List ValType) → T ls next outs (I64 ∷ ins) → T ls (plain (basic (num I64ExtendI32U)) next) outs (I32 ∷ ins)
+  unfolding Types
+  extending ls outs next ins h = (I64 ∷ ins, (ins, refl, refl), h)
+
+  shifting : (ls : List (Option ValType)) (outs : List ValType) (next : Code) (ins : List ValType) → T ls next outs (I64 ∷ ins) → T ls (plain (basic (num I64ShrU)) next) outs (I64 ∷ I64 ∷ ins)
+  unfolding Types
+  shifting ls outs next ins h = (I64 ∷ ins, (ins, refl, refl), h)
+
+  masking : (ls : List (Option ValType)) (outs : List ValType) (next : Code) (ins : List ValType) → T ls next outs (I64 ∷ ins) → T ls (plain (basic (num I64And)) next) outs (I64 ∷ I64 ∷ ins)
+  unfolding Types
+  masking ls outs next ins h = (I64 ∷ ins, (ins, refl, refl), h)
+
+  wrapping : (ls : List (Option ValType)) (outs : List ValType) (next : Code) (ins : List ValType) → T ls next outs (I32 ∷ ins) → T ls (plain (basic (num I32WrapI64)) next) outs (I64 ∷ ins)
+  unfolding Types
+  wrapping ls outs next ins h = (I32 ∷ ins, (ins, refl, refl), h)
+
   stopping : (ls : List (Option ValType)) (outs : List ValType) (next : Code) (ins : List ValType) → T ls next outs ins
       → T ls (plain (basic (num I32GtU)) (branch None (plain unreachable done) done next)) outs (I32 ∷ I32 ∷ ins)
   unfolding Types
@@ -130,8 +159,36 @@ module _ (c : Around) where
     rows_typed ls outs [] next ins n = constant ls outs 0 next ins n
     rows_typed ls outs (r ∷ rs) next ins n = or_typed ls outs rs (at_row f.index r) (λ rest ins2 q. at_row_typed ls outs r rest ins2 q) next ins n
 
+    chosen_typed : (ls : List (Option ValType)) (outs : List ValType) (calls : ℕ → Bool) (q n : ℕ) (next : Code) (ins : List ValType) → T ls next outs (I64 ∷ ins)
+        → T ls (words_chosen f.index calls q n next) outs (I64 ∷ ins)
+    chosen_typed ls outs calls q zero next ins h = h
+    chosen_typed ls outs calls q (suc n) next ins h =
+        let r4 : Code = words_chosen f.index calls (suc q) n next in
+        let r3 : Code = plain (basic select) r4 in
+        let r2 : Code = plain (basic (num I32LtU)) r3 in
+        let r1 : Code = plain (basic (const (V.I32 (64 * q)))) r2 in
+        let s = selecting ls outs I64 r4 ins (chosen_typed ls outs calls (suc q) n next ins h) in
+        let l = constant ls outs (64 * q) r2 (I32 ∷ I64 ∷ I64 ∷ ins) (below ls outs r3 (I64 ∷ I64 ∷ ins) s) in
+        wide ls outs (word_of calls q) (plain (local_get f.index) r1) (I64 ∷ ins) (getting ls outs f.index I32 r1 (I64 ∷ I64 ∷ ins) t.index l)
+
+    words_typed : (ls : List (Option ValType)) (outs : List ValType) (calls : ℕ → Bool) (n : ℕ) (next : Code) (ins : List ValType) → T ls next outs (I32 ∷ ins)
+        → T ls (at_words f.index calls n next) outs ins
+    words_typed ls outs calls n next ins h =
+        let r4 : Code = plain (basic (num I32WrapI64)) next in
+        let r3 : Code = plain (basic (num I64And)) r4 in
+        let r2 : Code = plain (basic (const (V.I64 1))) r3 in
+        let r1 : Code = plain (basic (num I64ShrU)) r2 in
+        let r0 : Code = plain (basic (num I64ExtendI32U)) r1 in
+        let m = wide ls outs 1 r3 (I64 ∷ ins) (masking ls outs r4 ins (wrapping ls outs next ins h)) in
+        let b = getting ls outs f.index I32 r0 (I64 ∷ ins) t.index (extending ls outs r1 (I64 ∷ ins) (shifting ls outs r2 ins m)) in
+        wide ls outs (word_of calls 0) (words_chosen f.index calls 1 n (bit_taken f.index next)) ins (chosen_typed ls outs calls 1 n (bit_taken f.index next) ins b)
+
     test_typed : (ls : List (Option ValType)) (outs : List ValType) (ks : List ℕ) (next : Code) (ins : List ValType) → T ls next outs (I32 ∷ ins) → T ls (at_calls f.index ks next) outs ins
-    test_typed ls outs ks next ins n = rows_typed ls outs (rows_of ks) next ins n
+    test_typed ls outs ks next ins n = by (by_words ks)
+      where
+        by : (b : Bool) → T ls (calls_test b f.index ks next) outs ins
+        by true = words_typed ls outs (is_one_of ks) (words_behind ks) next ins n
+        by false = rows_typed ls outs (rows_of ks) next ins n
 
     -- ---- fields
 

@@ -1,11 +1,12 @@
 -- Frames that differ by call, as plain data: fields in a row, and the numbers of the calls that keep them. The tests of the call index
 -- and the code that tells the size of the call's frame are made from these.
-use Rattle.std.specs.Prelude.{◌<◌, ◌^◌, ℕ, suc, ◌+◌, List, [], ◌∷◌, ◌++◌, Bool, false, ◌||◌, nat_eq, if◌then◌else◌}
+use Rattle.std.specs.Prelude.{◌<◌, ◌^◌, ℕ, suc, ◌+◌, ◌*◌, ◌/◌, List, [], ◌∷◌, ◌++◌, length, Bool, true, false, ◌&&◌, ◌||◌, nat_eq, nat_le, if◌then◌else◌}
 use Rattle.wa_types.specs.declared.values.Value.TheVariants as V
 use Rattle.wa_types.specs.declared.operators.NumOp.TheVariants.{I32Add, I32Mul}
 use Rattle.wa_types.specs.Syntax.{const, num, basic, Code, plain}
 use Rattle.frame_laws.specs.Layout.{FrameField, fields_size, frame_size}
 use Rattle.call_frames.specs.CallTests.{CallRow, at_either, at_row, row_size}
+use Rattle.call_frames.specs.CallWords.{at_words}
 use Rattle.call_frames.specs.FrameParts.{FramePart, at_all, at_some, shared_size, CallFrames, layout_at}
 
 -- Fields in a row that all calls keep, or that the calls with these numbers keep.
@@ -54,11 +55,28 @@ abbrev pub at_rows : (index : ℕ) → List CallRow → Code → Code
 at_rows index [] next = plain (basic (const (V.I32 0))) next
 at_rows index (r ∷ rs) next = or_rows index (at_row index r) rs next
 
--- one of these calls: row by row, joined by `or`
-abbrev pub at_calls : (index : ℕ) → List ℕ → Code → Code
-at_calls index ks next = at_rows index (rows_of ks) next
+-- the least number above all of these
+abbrev pub calls_end : List ℕ → ℕ
+calls_end [] = 0
+calls_end (k ∷ ks) = if nat_le (calls_end ks) k then suc k else calls_end ks
 
--- how many instructions that has, which is what it costs
+-- how many words there are behind the first, the last being that of the calls above all of these
+abbrev pub words_behind : List ℕ → ℕ
+words_behind ks = (calls_end ks + 63) / 64
+
+-- Words are taken where there are at least twice as many rows.
+abbrev pub by_words : List ℕ → Bool
+by_words ks = nat_le (words_behind ks) 1000 && nat_le (2 * words_behind ks + 2) (length (rows_of ks))
+
+abbrev pub calls_test : (words : Bool) → (index : ℕ) → List ℕ → Code → Code
+calls_test true index ks next = at_words index (is_one_of ks) (words_behind ks) next
+calls_test false index ks next = at_rows index (rows_of ks) next
+
+-- one of these calls: by words, or row by row, joined by `or`
+abbrev pub at_calls : (index : ℕ) → List ℕ → Code → Code
+at_calls index ks next = calls_test (by_words ks) index ks next
+
+-- how many instructions the rows have; words have no more, and either costs as many
 abbrev pub joined_size : List CallRow → ℕ
 joined_size [] = 0
 joined_size (r ∷ rs) = row_size r + 1 + joined_size rs

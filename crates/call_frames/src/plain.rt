@@ -16,7 +16,7 @@ pub fn plain_frames_cost_little()
     ensures names { NamesCostLittle }
 {}
 
-/// How many instructions the codes have.
+/// How many instructions the codes have at most.
 pub fn plain_frames_have_sizes()
     ensures { PlainFramesSize }
 {}

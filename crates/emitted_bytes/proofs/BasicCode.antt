@@ -6,7 +6,7 @@ use Rattle.wa_types.specs.declared.values.ValType.TheVariants.{I32, I64}
 use Rattle.wa_types.specs.declared.values.Value.TheVariants as V
 use Rattle.wa_types.specs.declared.operators.NumOp.TheVariants.{I32LtU, I32Sub}
 use Rattle.wa_types.specs.Sizes.{value_fits, BasicFits, PlainFits, CodeFits}
-use Rattle.wa_types.specs.Syntax.{basic, num, const, local_get, local_set, local_tee, br, br_if, br_table, return, unreachable, call, call_indirect, Plain, a_block, Code, done, plain, nest, branch}
+use Rattle.wa_types.specs.Syntax.{basic, num, const, global_get, local_get, local_set, local_tee, br, br_if, br_table, return, unreachable, call, call_indirect, Plain, a_block, Code, done, plain, nest, branch}
 use Rattle.wa_types.specs.Frames.{width}
 use Rattle.wa_types.specs.Pausing.{Callee, direct, indirect}
 use Rattle.wa_types.specs.Points.{after}
@@ -19,7 +19,7 @@ use Rattle.rewrite_form.specs.Layout.{FrameField, kept, gap, fields_size, placed
 use Rattle.local_spill.specs.Spilling.{stored_value, loaded_value, locals_stored, locals_loaded}
 use Rattle.local_spill.specs.Spilling as Spilling
 use Rattle.rewrite_form.specs.Pieces.{Units, no_unit, call_unit, nest_unit, if_unit, any_unit, numbers_in, call_to, numbered, holds_call, call_total, piece_call, first_piece, unit_call, units}
-use Rattle.rewrite_form.specs.Guarded.{GuardIndices, raised_plain, raised, guarded, sought, one_more, noted, call_guarded, choice, arm, Exit, each_end, its_end, by_label, nowhere, exit_inside, last_piece, call_front, front}
+use Rattle.rewrite_form.specs.Guarded.{GuardIndices, raised_plain, raised, guarded, sought, one_more, index_noted, noted, call_guarded, choice, arm, Exit, each_end, its_end, by_label, nowhere, exit_inside, last_piece, call_front, front}
 
 -- what a basic instruction holds is in range
 abbrev pub PlainBasic : Plain → Type 0
@@ -263,7 +263,12 @@ module _ (i : GuardIndices) (small : i.state < 2 ^ 32) where
   sought_fits label by k first next l h g = (small, ((tt, (l, (tt, (tt, tt)))), raised_fits 0 by first h, g))
 
   noted_fits : (label k : ℕ) (next : Code) → k < 2 ^ 32 → BasicsFit next → BasicsFit (noted i label k next)
-  noted_fits label k next l h = (l, (tt, (small, (tt, h))))
+  noted_fits label k next l h = index_fits i.alone (small, (tt, h))
+    where
+      index_fits : (alone : Bool) → BasicsFit (plain (basic (global_get i.state)) (plain (br_if label) next))
+          → BasicsFit (index_noted alone i.index k (plain (basic (global_get i.state)) (plain (br_if label) next)))
+      index_fits true g = g
+      index_fits false g = (l, (tt, g))
 
   last_fits : (e : Exit) (c : Code) → BasicsFit c → BasicsFit (last_piece i e c)
   last_fits each_end c h = guarded_fits c done h tt

@@ -1,5 +1,5 @@
 -- What is put behind a list of instructions.
-use Rattle.std.proofs.Common.{◌≡◌, ℕ, ◌+◌, ◌<◌, ◌≤◌, ◌∷◌, ◌++◌, List, [], length, get_or, take, Option, Some, refl, sym, ap, ◌∙◌}
+use Rattle.std.proofs.Common.{◌≡◌, ℕ, ◌+◌, ◌<◌, ◌≤◌, ◌∷◌, ◌++◌, List, [], length, get_or, take, Option, Some, Bool, true, false, refl, sym, ap, subst, ◌∙◌}
 use Rattle.std.proofs.lemmas.List.{take_more, take_all}
 use Rattle.wa_types.specs.declared.values.Value.{Value}
 use Rattle.wa_types.specs.declared.values.Value.TheVariants as V
@@ -12,6 +12,7 @@ use Rattle.wa_types.proofs.ViewLemmas.{is_block, is_loop, is_if, is_plain, kind,
 use Rattle.wa_model.specs.declared.flat.Operand.{Operand}
 use Rattle.wa_model.specs.declared.flat.Operand.TheVariants.{Local, Const}
 use Rattle.wa_model.specs.Flat.{followed_by, got, all_got, set_to, slots_got}
+use Rattle.guard_form.specs.Guarded.{index_noted}
 use Rattle.flat_pieces.specs.Putting.{Puts}
 
 -- one instruction
@@ -23,6 +24,15 @@ put_on old mid new f g h k rest = k rest ∙ h (g rest)
 
 pub put_none : (old new : List Instr) → new ≡ old → Puts old new (λ c. c)
 put_none old new e rest = ap (λ s. onto s rest) e
+
+-- the index of the only call stands
+pub noted_alone : (alone : Bool) (x k : ℕ) (old new : List Instr) (f : Code → Code) → alone ≡ true → Puts old new f → Puts old new (λ c. index_noted alone x k (f c))
+noted_alone alone x k old new f e h = subst (λ b. Puts old new (λ c. index_noted b x k (f c))) (sym e) h
+
+-- else it is set
+pub noted_set : (alone : Bool) (x k : ℕ) (old new : List Instr) (f : Code → Code) → alone ≡ false
+    → Puts old new (λ c. plain (basic (const (V.I32 k))) (plain (local_set x) (f c))) → Puts old new (λ c. index_noted alone x k (f c))
+noted_set alone x k old new f e h = subst (λ b. Puts old new (λ c. index_noted b x k (f c))) (sym e) h
 
 -- one behind another: an instruction in front of code
 pub front_then : (x y : Instr) (rest : Code) → ((c : Code) → in_front y c ≡ in_front x c) → in_front y rest ≡ followed_by (in_front x done) rest

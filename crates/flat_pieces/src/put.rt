@@ -6,6 +6,7 @@ ghost use Rattle.wa_types.specs.Syntax.{const, num, global_get, basic, local_get
 ghost use Rattle.wa_types.specs.View.{code, in_front};
 ghost use Rattle.wa_model.specs.Flat.{followed_by, got, all_got, set_to, slots_got};
 ghost use Rattle.wasm_tree.specs.Kinds.{is_leaf};
+ghost use Rattle.guard_form.specs.Guarded.{index_noted};
 ghost use Rattle.flat_pieces.specs.Putting.{Puts};
 
 use std::alloc::{AllocError, Global};
@@ -93,19 +94,32 @@ pub fn put_index(out: &mut Vec<Instr>, index: u32, number: u32, op: NumOp) -> Re
     Ok(())
 }
 
-/// Puts what notes the index behind a call, and leaves by the label where the state isn't 0.
+/// Puts what leaves by the label where the state isn't 0.
+fn put_leave(out: &mut Vec<Instr>, state: u32, label: u32) -> Result<(), AllocError>
+    ensures { OnOk result (Puts out.old.items out.new.items (λ c. plain (basic (global_get state)) (plain (br_if label) c))) }
+{
+    out.push(Instr::GlobalGet(state))?;
+    out.push(Instr::BrIf(label))?;
+    Ok(())
+}
+
+/// Puts what notes the index behind a call, but for the only one, and leaves by the label where the state isn't 0.
 pub fn put_noted(
     out: &mut Vec<Instr>,
+    alone: bool,
     state: u32,
     index: u32,
     number: u32,
     label: u32,
 ) -> Result<(), AllocError>
-    ensures { OnOk result (Puts out.old.items out.new.items (λ c. plain (basic (const (V.I32 number))) (plain (local_set index) (plain (basic (global_get state)) (plain (br_if label) c))))) }
+    ensures { OnOk result (Puts out.old.items out.new.items (λ c. index_noted alone index number (plain (basic (global_get state)) (plain (br_if label) c)))) }
 {
+    if alone {
+        put_leave(out, state, label)?;
+        return Ok(());
+    }
     out.push(Instr::Const(Value::I32(number)))?;
     out.push(Instr::LocalSet(index))?;
-    out.push(Instr::GlobalGet(state))?;
-    out.push(Instr::BrIf(label))?;
+    put_leave(out, state, label)?;
     Ok(())
 }

@@ -19,9 +19,9 @@ use Rattle.flow_calls.specs.declared.sequence.Part.{Part}
 abbrev pub Rises : List ℕ → Type 0
 Rises xs = (i j : ℕ) → i < j → j < length xs → get_or xs i 0 < get_or xs j 0
 
--- the global of the state and the local of the index
+-- the global of the state and the local of the index, and whether the only call isn't noted
 abbrev pub indices : Guards → GuardIndices
-indices g = record { state = g.state; index = g.index }
+indices g = record { state = g.state; index = g.index; alone = g.alone }
 
 -- the piece so far, with statements to come
 abbrev pub first_of : (places : List ℕ) → Sequence → Stmts → Code

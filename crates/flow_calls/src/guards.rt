@@ -12,14 +12,15 @@ use flat_pieces::{put_test, raised};
 use std::alloc::{AllocError, Global};
 use wa_types::Instr;
 
-/// What the guards of one function are written by: the places of its numbered calls, the global of the state
-/// and the local of the call index.
+/// What the guards of one function are written by: the places of its numbered calls, the global of the state and
+/// the local of the call index; and whether its only numbered call isn't noted.
 #[derive(Drop)]
 pub struct Guards {
     pub alloc: Global,
     pub numbers: Vec<u32>,
     pub state: u32,
     pub index: u32,
+    pub alone: bool,
 }
 
 /// Whether the call at this place is numbered.

@@ -76,7 +76,14 @@ fn put_numbered_call(
     put_test(&mut block, guards.state, None, other, piece)?;
     put_slots(&mut block, taken(stack, args))?;
     put_copy(guards.alloc, &mut block, op)?;
-    put_noted(&mut block, guards.state, guards.index, at.number, depth + 1)?;
+    put_noted(
+        &mut block,
+        guards.alone,
+        guards.state,
+        guards.index,
+        at.number,
+        depth + 1,
+    )?;
     put_to(&mut block, to)?;
     at.call = block;
     at.piece = Vec::new(guards.alloc);

@@ -79,11 +79,11 @@ module _ (g : ℕ) (area : Area) (p : Module) (st n : ℕ) (f : WrittenFunc) (c 
   given s fn under ls (Some x) = (running s fn under ls (value_at ls x ∷ []) done [], within_of g area p _ _ 1 (walks (keeps g area) p 1 _ _ refl), refl, value_at ls x ∷ [], refl)
 
   pub unwinds_one : (out seek : ℕ) (s : Store) (fn : ℕ) (under : List Activation) (ls ops : List Value) (loc : ℕ)
-      → BodyLaw g area p st f c out seek → FrameCodes f c.number → value_at s.globals st ≡ V.I32 (suc n) → AreaAt f.layout.address area s loc → loc + frame_size f.layout ≤ area.at + area.len
+      → BodyLaw g area p st f c ls out seek → FrameCodes f c.number → value_at s.globals st ≡ V.I32 (suc n) → AreaAt f.layout.address area s loc → loc + frame_size f.layout ≤ area.at + area.len
       → LocalsFit f.layout ls
       → UnwindsTo g area p st f c out s fn under ls ops loc
   unwinds_one out seek s fn under ls ops loc law codes e ar fits living =
-      let a = law.leaves n s fn under ls ops e in
+      let a = law.leaves n s fn under ops e in
       let next : Code = result_got f.result in
       let b = by_state_on s fn under (noted ls) f.saving done next [] e in
       let lb : List Label = block_label 0 0 next done ∷ [] in
@@ -113,11 +113,11 @@ module _ (g : ℕ) (area : Area) (p : Module) (st n : ℕ) (f : WrittenFunc) (c 
       }
 
   pub stops_one : (out seek : ℕ) (s : Store) (fn : ℕ) (under : List Activation) (ls ops : List Value) (loc : ℕ)
-      → BodyLaw g area p st f c out seek → FrameCodes f c.number → value_at s.globals st ≡ V.I32 (suc n) → AreaAt f.layout.address area s loc → area.at + area.len < loc + frame_size f.layout
+      → BodyLaw g area p st f c ls out seek → FrameCodes f c.number → value_at s.globals st ≡ V.I32 (suc n) → AreaAt f.layout.address area s loc → area.at + area.len < loc + frame_size f.layout
       → LocalsFit f.layout ls
       → TrapsAt g area p (running s fn under ls ops c.behind c.labels) (unwinding f out) s
   stops_one out seek s fn under ls ops loc law codes e ar over living =
-      let a = law.leaves n s fn under ls ops e in
+      let a = law.leaves n s fn under ops e in
       let next : Code = result_got f.result in
       let b = by_state_on s fn under (noted ls) f.saving done next [] e in
       let lb : List Label = block_label 0 0 next done ∷ [] in
@@ -133,7 +133,7 @@ module _ (g : ℕ) (area : Area) (p : Module) (st n : ℕ) (f : WrittenFunc) (c 
       }
 
   pub rewinds_one : (out seek : ℕ) (s : Store) (fn : ℕ) (under : List Activation) (old ls : List Value) (loc : ℕ)
-      → BodyLaw g area p st f c out seek → FrameCodes f c.number → value_at s.globals st ≡ V.I32 (suc n) → AreaAt f.layout.address area s (loc + frame_size f.layout) → area.at + 8 ≤ loc
+      → BodyLaw g area p st f c old out seek → FrameCodes f c.number → value_at s.globals st ≡ V.I32 (suc n) → AreaAt f.layout.address area s (loc + frame_size f.layout) → area.at + 8 ≤ loc
       → HoldsFrameOf f.layout s.memory loc old c.number → c.number < 2 ^ 32 → LocalsFit f.layout old → length ls ≡ length old
       → RewindsTo g area p st f c seek s fn under old ls loc
   rewinds_one out seek s fn under old ls loc law codes e ar low holds small living size =

@@ -170,7 +170,7 @@ module _ (g : ℕ) (area : Area) (p : Module) where
           under = [];
           came_back = tt;
           locals = r.locals;
-          kept_same = record { size = re.size ∙ size; same = λ x h. re.back x (not_this v.fn.layout.index x v.locals v.fn.layout.fields f.living.past_index h) h };
+          kept_same = record { size = re.size ∙ size; index = re.index; same = λ x h. re.back x (not_this v.fn.layout.index x v.locals v.fn.layout.fields f.living.past_index h) h };
           after = r.after;
           lowered = r.lowered;
           goes = r.goes;
@@ -225,7 +225,7 @@ module _ (g : ℕ) (area : Area) (p : Module) where
           under = under1;
           came_back = (record { locals = ih.locals; kept_same = ks; is = refl }, ih.came_back);
           locals = r.locals;
-          kept_same = record { size = re.size ∙ ls2_size; same = λ x h. re.back x (not_this v.fn.layout.index x v.locals v.fn.layout.fields fv.living.past_index h) h };
+          kept_same = record { size = re.size ∙ ls2_size; index = re.index; same = λ x h. re.back x (not_this v.fn.layout.index x v.locals v.fn.layout.fields fv.living.past_index h) h };
           after = r.after;
           lowered = record { location = lo2.location; others = record { size = lo2.others.size ∙ lo1.others.size; same = λ x k h1 h2. lo2.others.same x k h1 h2 ∙ lo1.others.same x k h1 h2 } };
           goes = within_on g area p from here end (rewinding_all w vs) (2 * length w.site.slots + 1 + rewinding v.fn v.seek) (rewinding_all v (w ∷ vs)) ih.goes t2 (omega arith);

@@ -109,13 +109,13 @@ by_layout l body result = record {
 abbrev pub LayoutCodes : Type 0
 LayoutCodes = (l : Layout) (body : Code) (result : Option ℕ) (k : ℕ) → l.index ≢ l.scratch → FrameCodes (by_layout l body result) k
 
--- What a guarded body promises of a call where the state isn't 0: behind it the end of the function's block is reached with the
--- index noted; and from the body's start, where the index is the call's, its arguments are.
-pub record BodyLaw (g : ℕ) (area : Area) (p : Module) (st : ℕ) (f : WrittenFunc) (c : CallSite) (out seek : ℕ) : Type 0 where
-  pub leaves : (n : ℕ) (s : Store) (fn : ℕ) (under : List Activation) (ls ops : List Value) → value_at s.globals st ≡ V.I32 (suc n)
+-- What a guarded body promises of a call where the state isn't 0: behind it, with these locals, the end of the function's block is
+-- reached with the index the call's; and from the body's start, where the index is the call's, its arguments are.
+pub record BodyLaw (g : ℕ) (area : Area) (p : Module) (st : ℕ) (f : WrittenFunc) (c : CallSite) (ls : List Value) (out seek : ℕ) : Type 0 where
+  pub leaves : (n : ℕ) (s : Store) (fn : ℕ) (under : List Activation) (ops : List Value) → value_at s.globals st ≡ V.I32 (suc n)
       → KeptWithin g area p (running s fn under ls ops c.behind c.labels) out (running s fn under (slice_set ls f.layout.index (V.I32 c.number)) [] (epilogue st f) [])
-  pub seeks : (n : ℕ) (s : Store) (fn : ℕ) (under : List Activation) (ls : List Value) → value_at s.globals st ≡ V.I32 (suc n) → value_at ls f.layout.index ≡ V.I32 c.number
-      → KeptWithin g area p (running s fn under ls [] f.body (function_labels st f)) seek (running s fn under ls [] (site_code c) c.again)
+  pub seeks : (n : ℕ) (s : Store) (fn : ℕ) (under : List Activation) (locals : List Value) → value_at s.globals st ≡ V.I32 (suc n) → value_at locals f.layout.index ≡ V.I32 c.number
+      → KeptWithin g area p (running s fn under locals [] f.body (function_labels st f)) seek (running s fn under locals [] (site_code c) c.again)
 
 -- ---- one function unwinds
 
@@ -137,7 +137,7 @@ pub record UnwindsTo (g : ℕ) (area : Area) (p : Module) (st : ℕ) (f : Writte
 abbrev pub UnwindsOne : Type 0
 UnwindsOne =
     (g : ℕ) (area : Area) (p : Module) (st n : ℕ) (f : WrittenFunc) (c : CallSite) (out seek : ℕ) (s : Store) (fn : ℕ) (under : List Activation) (ls ops : List Value) (loc : ℕ)
-    → BodyLaw g area p st f c out seek → FrameCodes f c.number → value_at s.globals st ≡ V.I32 (suc n) → AreaAt f.layout.address area s loc → loc + frame_size f.layout ≤ area.at + area.len
+    → BodyLaw g area p st f c ls out seek → FrameCodes f c.number → value_at s.globals st ≡ V.I32 (suc n) → AreaAt f.layout.address area s loc → loc + frame_size f.layout ≤ area.at + area.len
     → LocalsFit f.layout ls
     → UnwindsTo g area p st f c out s fn under ls ops loc
 
@@ -145,7 +145,7 @@ UnwindsOne =
 abbrev pub StopsOne : Type 0
 StopsOne =
     (g : ℕ) (area : Area) (p : Module) (st n : ℕ) (f : WrittenFunc) (c : CallSite) (out seek : ℕ) (s : Store) (fn : ℕ) (under : List Activation) (ls ops : List Value) (loc : ℕ)
-    → BodyLaw g area p st f c out seek → FrameCodes f c.number → value_at s.globals st ≡ V.I32 (suc n) → AreaAt f.layout.address area s loc → area.at + area.len < loc + frame_size f.layout
+    → BodyLaw g area p st f c ls out seek → FrameCodes f c.number → value_at s.globals st ≡ V.I32 (suc n) → AreaAt f.layout.address area s loc → area.at + area.len < loc + frame_size f.layout
     → LocalsFit f.layout ls
     → TrapsAt g area p (running s fn under ls ops c.behind c.labels) (unwinding f out) s
 
@@ -167,6 +167,6 @@ pub record RewindsTo (g : ℕ) (area : Area) (p : Module) (st : ℕ) (f : Writte
 abbrev pub RewindsOne : Type 0
 RewindsOne =
     (g : ℕ) (area : Area) (p : Module) (st n : ℕ) (f : WrittenFunc) (c : CallSite) (out seek : ℕ) (s : Store) (fn : ℕ) (under : List Activation) (old ls : List Value) (loc : ℕ)
-    → BodyLaw g area p st f c out seek → FrameCodes f c.number → value_at s.globals st ≡ V.I32 (suc n) → AreaAt f.layout.address area s (loc + frame_size f.layout) → area.at + 8 ≤ loc
+    → BodyLaw g area p st f c old out seek → FrameCodes f c.number → value_at s.globals st ≡ V.I32 (suc n) → AreaAt f.layout.address area s (loc + frame_size f.layout) → area.at + 8 ≤ loc
     → HoldsFrameOf f.layout s.memory loc old c.number → c.number < 2 ^ 32 → LocalsFit f.layout old → length ls ≡ length old
     → RewindsTo g area p st f c seek s fn under old ls loc

@@ -40,7 +40,7 @@ AllKept (x ∷ xs) ps = IsKept x ps × AllKept xs ps
 
 -- Its body and the codes of its frames keep their promise, its frame can be saved, and the call took the values of its slots, which are saved.
 pub record LevelFits (g : ℕ) (area : Area) (p : Module) (st address : ℕ) (v : Level) : Type 0 where
-  pub law : BodyLaw g area p st v.fn v.site v.out v.seek
+  pub law : BodyLaw g area p st v.fn v.site v.locals v.out v.seek
   pub codes : FrameCodes v.fn v.site.number
   pub address_is : v.fn.layout.address ≡ address
   pub living : LocalsFit v.fn.layout v.locals
@@ -143,9 +143,10 @@ abbrev pub Chain : Module → (st : ℕ) → List (Option ℕ) → Level → Lis
 Chain p st table v [] = Unit {0}
 Chain p st table v (w ∷ vs) = Enters p st table w v × Chain p st table w vs
 
--- Locals that came back: those that are kept are as they were.
+-- Locals that came back: those that are kept are as they were, and the index is the call's.
 pub record SameKept (v : Level) (locals : List Value) : Type 0 where
   pub size : length locals ≡ length v.locals
+  pub index : value_at locals v.fn.layout.index ≡ V.I32 v.site.number
   pub same : (x : ℕ) → IsKept x v.fn.layout.fields → value_at locals x ≡ value_at v.locals x
 
 pub record CameBack (v : Level) (a : Activation) : Type 0 where

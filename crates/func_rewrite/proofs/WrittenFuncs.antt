@@ -28,7 +28,7 @@ use Rattle.local_spill.specs.declared.RuntimeIds.{RuntimeIds}
 use Rattle.local_spill.specs.declared.frames.Layout.{Layout as LayoutValue}
 use Rattle.local_spill.specs.declared.frames.Place.{Place}
 use Rattle.frame_laws.specs.Layout.{FrameField, Layout as FrameLayout, fields_size, placed, spilled_by}
-use Rattle.guard_form.specs.Guarded.{guarded_body, function_body}
+use Rattle.guard_form.specs.Guarded.{guard_indices, guarded_body, function_body}
 use Rattle.guard_form.specs.Pieces.{call_total}
 use Rattle.written_frames.specs.Numbering.{callees, gets_number}
 use Rattle.written_frames.specs.Emitted.{IsAllWritten, holds_operand, is_kept, field_where, frame_layout, written_func}
@@ -157,7 +157,7 @@ module _ (m : Module) (s : Settings) (which : List Bool) (f : Func) (v : Flatten
     whole g i k ps guarded = function_body g (restoring i k ps done) (saving i k ps done) (result_got (flattened m x f).result) guarded
 
     abbrev front_of : Pieces → (state : ℕ) → Code
-    front_of p state = guarded_body (record { state = state; index = length (flattened m x f).locals }) p.exits p.first p.units
+    front_of p state = guarded_body (guard_indices state (length (flattened m x f).locals) p.exits p.units) p.exits p.first p.units
 
     abbrev layout : FrameLayout
     layout = frame_layout m s which x f

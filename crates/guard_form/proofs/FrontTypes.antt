@@ -8,7 +8,7 @@ use Rattle.wa_types.specs.Syntax.{Plain, Shape, num, global_get, basic, local_ge
 use Rattle.wa_types.specs.Pausing.{Callee, direct, indirect}
 use Rattle.wa_types.specs.Typing.{Around, gets, sets, gets_global, jump, may_jump, jumps, all_there, all_alike, agrees_with, sig, Takes, label, listed, Types}
 use Rattle.wa_model.specs.Flat.{followed_by, got, set_to, slots_got, result_got}
-use Rattle.guard_form.specs.Guarded.{raise, raised_plain, raised, GuardIndices, by_state, index_with, guarded, sought, noted, call_guarded, choice, arm, Exit, each_end, its_end, by_label, nowhere, exit_behind, exit_inside, last_piece, call_front, body_exit, front}
+use Rattle.guard_form.specs.Guarded.{raise, raised_plain, raised, GuardIndices, by_state, index_with, guarded, sought, index_noted, noted, call_guarded, choice, arm, Exit, each_end, its_end, by_label, nowhere, exit_behind, exit_inside, last_piece, call_front, body_exit, front}
 use Rattle.guard_form.specs.Pieces.{Units, no_unit, call_unit, nest_unit, if_unit, any_unit, numbers_in, call_to}
 use Rattle.guard_form.specs.Typed.{UnitsTyped, UnitsTypedFrom, ExitTyped, an_i32, FrontTyped, FrontTypedFrom, BodyTyped, BodyTypedFrom}
 use Rattle.guard_form.proofs.PieceTypes.{types_then}
@@ -180,13 +180,19 @@ module _ (c : Around) where
     results_too ls None behind outs mids h g = subst (λ ms. Types c ls behind [] ms) (sym h) g
     results_too ls (Some x) behind outs mids h g = (h.0, h.1, subst (λ ms. Types c ls behind [] ms) (sym h.2) g)
 
+    index_typed : (alone : Bool) (ls : Labels) (k : ℕ) (ms : List ValType) (next : Code) (outs : List ValType) → Types c ls next outs ms
+        → Types c ls (index_noted alone i.index k next) outs ms
+    unfolding Types
+    index_typed true ls k ms next outs h = h
+    index_typed false ls k ms next outs h = (I32 ∷ ms, (ms, refl, refl), (ms, sets_index ls ms, h))
+
     -- behind a call in labels where the function's block has this one
     calls_noted : (ls : Labels) (l k : ℕ) (x : Callee) (to : Option ℕ) (behind : Code) (outs mids : List ValType) → slice_get ls l ≡ Some None → Types c ls behind [] outs
         → Types c ls (plain (call_to x) (set_to to done)) outs mids → Types c ls (plain (call_to x) (noted i l k (set_to to behind))) [] mids
     unfolding Types
     calls_noted ls l k x to behind outs mids e hb h =
         let ms = h.0 in
-        (ms, h.1, (I32 ∷ ms, (ms, refl, refl), (ms, sets_index ls ms, (I32 ∷ ms, gets_state ls ms, (ms, leads ls l ms e, results_too ls to behind outs ms h.2 hb)))))
+        (ms, h.1, index_typed i.alone ls k ms _ [] (I32 ∷ ms, gets_state ls ms, (ms, leads ls l ms e, results_too ls to behind outs ms h.2 hb)))
 
     -- a call's result in other labels
     called_too : (ls ls2 : Labels) (x : Callee) (to : Option ℕ) (outs mids : List ValType) → Types c ls (plain (call_to x) (set_to to done)) outs mids

@@ -8,3 +8,4 @@ pub mod UnitLemmas
 pub mod Walks
 pub mod UnitCounts
 pub mod PlacesOfCalls
+pub mod PlacesBelow

@@ -11,7 +11,7 @@ use Rattle.wa_model.specs.declared.flat.Operand.TheVariants.{Local, Const}
 use Rattle.wa_model.specs.Rewrites.{instructions_and_labels}
 use Rattle.wa_model.specs.Flat.{followed_by, got, set_to, slots_got}
 use Rattle.guard_form.specs.Bounds.{over, unit_count, SizeBound, DepthBound, PassingBound, plain_reads, reads, ReadsBound}
-use Rattle.guard_form.specs.Guarded.{raise, raised_plain, raised, GuardIndices, guarded, sought, one_more, noted, call_guarded, choice, arm, Exit, each_end, its_end, by_label, nowhere, exit_inside, last_piece, call_front, front}
+use Rattle.guard_form.specs.Guarded.{raise, raised_plain, raised, GuardIndices, guarded, sought, one_more, index_noted, noted, call_guarded, choice, arm, Exit, each_end, its_end, by_label, nowhere, exit_inside, last_piece, call_front, front}
 use Rattle.guard_form.specs.Pieces.{Units, no_unit, call_unit, nest_unit, if_unit, any_unit, numbers_in, call_to, flat_units}
 
 abbrev size : Code → ℕ
@@ -124,14 +124,20 @@ size_call i (by_label l) false k first by_own next n h = let a = h false in let 
 size_call i nowhere true k first by_own next n h = let a = h true in let b = size_sought i 1 2 k first (by_own true) in omega arith
 size_call i nowhere false k first by_own next n h = let a = h false in let b = size_guarded i first (by_own false) in omega arith
 
+size_noted : (alone : Bool) (x k : ℕ) (next : Code) → size (index_noted alone x k next) ≤ size next + 2
+unfolding instructions_and_labels
+size_noted true x k next = omega arith
+size_noted false x k next = omega arith
+
 size_called : (i : GuardIndices) (own : Bool) (d k : ℕ) (slots : List ℕ) (x : Callee) (to : Option ℕ) (behind : Code)
-    → size (call_guarded i own d k slots x to behind) ≡ length slots + 5 + set_size to + size behind
+    → size (call_guarded i own d k slots x to behind) ≤ length slots + 5 + set_size to + size behind
 unfolding instructions_and_labels
 size_called i own d k slots x to behind =
     let e5 = no_labels x in
     let e7 = size_raised 0 (one_more own 0) behind in
     let e8 = size_set to (raised 0 (one_more own 0) behind) in
     let e9 = size_slots slots (plain (call_to x) (noted i (one_more own d) k (set_to to (raised 0 (one_more own 0) behind)))) in
+    let e10 = size_noted i.alone i.index k (plain (basic (global_get i.state)) (plain (br_if (one_more own d)) (set_to to (raised 0 (one_more own 0) behind)))) in
     omega arith
 
 size_front : (i : GuardIndices) (e : Exit) (d k : ℕ) (first : Code) (us : Units) → size (front i e d k first us) ≤ size (followed_by first (flat_units us)) + 11 * unit_count us + 2
@@ -274,10 +280,16 @@ deep_call i nowhere true k first by_own next n h f g =
     let a = h true in let b = deep_sought i 1 2 k first (by_own true) (max (deep first + 1) (deep (by_own true))) (omega arith) (omega arith) (omega arith) in omega arith
 deep_call i nowhere false k first by_own next n h f g = let a = h false in deep_guarded i first (by_own false) n (omega arith) (omega arith)
 
+deep_noted : (alone : Bool) (x k : ℕ) (next : Code) → deep (index_noted alone x k next) ≡ deep next
+unfolding depth_of
+deep_noted true x k next = refl
+deep_noted false x k next = refl
+
 deep_called : (i : GuardIndices) (own : Bool) (d k : ℕ) (slots : List ℕ) (x : Callee) (to : Option ℕ) (behind : Code) → deep (call_guarded i own d k slots x to behind) ≡ deep behind
 unfolding depth_of
 deep_called i own d k slots x to behind =
     deep_slots slots (plain (call_to x) (noted i (one_more own d) k (set_to to (raised 0 (one_more own 0) behind))))
+    ∙ deep_noted i.alone i.index k (plain (basic (global_get i.state)) (plain (br_if (one_more own d)) (set_to to (raised 0 (one_more own 0) behind))))
     ∙ deep_set to (raised 0 (one_more own 0) behind) ∙ deep_raised 0 (one_more own 0) behind
 
 deep_front : (i : GuardIndices) (e : Exit) (d k : ℕ) (first : Code) (us : Units) → deep (front i e d k first us) ≤ deep (followed_by first (flat_units us)) + 2
@@ -442,6 +454,10 @@ module _ (i : GuardIndices) where
   reads_one nowhere true k first by_own next n h = let a = h true in let b = reads_sought 1 2 k first (by_own true) in omega arith
   reads_one nowhere false k first by_own next n h = let a = h false in let b = reads_guarded first (by_own false) in omega arith
 
+  reads_noted : (alone : Bool) (x k : ℕ) (next : Code) → reads i.state (index_noted alone x k next) ≡ reads i.state next
+  reads_noted true x k next = refl
+  reads_noted false x k next = omega arith
+
   reads_called : (own : Bool) (d k : ℕ) (slots : List ℕ) (x : Callee) (to : Option ℕ) (behind : Code)
       → reads i.state (call_guarded i own d k slots x to behind) ≤ reads i.state behind + 1
   reads_called own d k slots x to behind =
@@ -450,6 +466,7 @@ module _ (i : GuardIndices) where
       let e8 = reads_set i.state to (raised 0 (one_more own 0) behind) in
       let e9 = reads_slots i.state slots (plain (call_to x) (noted i (one_more own d) k (set_to to (raised 0 (one_more own 0) behind)))) in
       let o = one_read i.state (basic (global_get i.state)) in
+      let e10 = reads_noted i.alone i.index k (plain (basic (global_get i.state)) (plain (br_if (one_more own d)) (set_to to (raised 0 (one_more own 0) behind)))) in
       omega arith
 
   reads_front : (e : Exit) (d k : ℕ) (first : Code) (us : Units)

@@ -7,7 +7,7 @@ use Rattle.wa_types.specs.Syntax.{global_get, basic, Code, done, plain, nest, br
 use Rattle.wa_model.specs.Rewrites.{instructions_and_labels}
 use Rattle.wa_model.specs.Flat.{Stmts, no_more, computes, copies, calls, leaps, leaps_if, leaps_by, nests, decides, halts, followed_by, set_to, last_of}
 use Rattle.guard_form.specs.Bounds.{unit_count, over, one_if, numbered_calls, holding_constructs, reads, PassingSmall, UnitsCounted, GuardedReadsFew, WrittenReadsFew}
-use Rattle.guard_form.specs.Guarded.{each_end, body_exit, GuardIndices}
+use Rattle.guard_form.specs.Guarded.{each_end, body_exit, GuardIndices, guard_indices}
 use Rattle.guard_form.specs.Pieces.{Units, no_unit, call_unit, nest_unit, if_unit, call_to, numbers_in, call_total, numbered, holds_call, flat_units, first_piece, unit_call, units}
 use Rattle.guard_form.proofs.Grouped.{or_false, joins_law}
 use Rattle.guard_form.proofs.Sizes.{size_then, size_slots, size_set, size_got, one_read, reads_law}
@@ -189,7 +189,7 @@ counted_law ps n s =
 
 pub guarded_reads : GuardedReadsFew
 guarded_reads st ps f none =
-    let i : GuardIndices = record { state = st; index = length f.locals } in
+    let i : GuardIndices = guard_indices st (length f.locals) false (units ps 0 f.body) in
     let r = reads_law i each_end 0 0 (first_piece ps 0 f.body) (units ps 0 f.body) in
     let c = (counted ps 0 f.body).1 in
     let join = ap (reads st) (joins_law ps 0 f.body) in

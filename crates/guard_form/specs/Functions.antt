@@ -7,7 +7,7 @@ use Rattle.wa_types.specs.Pausing.{Callee, callee}
 use Rattle.wa_types.specs.Pruned.{pruned}
 use Rattle.wa_model.specs.Flat.{followed_by, result_got}
 use Rattle.guard_form.specs.Pieces.{Units, no_unit, call_unit, nest_unit, if_unit, any_unit, flat_units}
-use Rattle.guard_form.specs.Guarded.{GuardIndices, written_body}
+use Rattle.guard_form.specs.Guarded.{GuardIndices, guard_indices, written_body}
 
 -- A function whose body is guarded: how many flat locals it has, whether runs leave its sequences by labels, what restores and what
 -- saves its frame, the local of its result, and its flat statements in pieces and units.
@@ -37,7 +37,7 @@ extra_types (with_guards f) = I32 ∷ I32 ∷ I64 ∷ []
 
 -- the call index stands behind the flat locals
 abbrev pub indices_of : (state : ℕ) → GuardedFunc → GuardIndices
-indices_of st f = record { state = st; index = f.size }
+indices_of st f = guard_indices st f.size f.exits f.body
 
 -- the body in flat code
 abbrev pub flat_code : Role → Code

@@ -1,6 +1,6 @@
 -- The written body of a flat function: a piece runs in state 0 alone. A rewinding run leaves a numbered call's block where the saved
 -- index isn't the call's; behind the last call of a sequence another label often serves, or none is needed.
-use Rattle.std.specs.Prelude.{ℕ, suc, ◌+◌, List, length, map, Option, Some, None, Bool, true, false, nat_lt, if◌then◌else◌}
+use Rattle.std.specs.Prelude.{ℕ, suc, ◌+◌, List, length, map, Option, Some, None, Bool, true, false, nat_eq, nat_lt, if◌then◌else◌}
 use Rattle.wa_types.specs.Pausing.{Callee}
 use Rattle.wa_types.specs.declared.values.ValType.TheVariants.{I32}
 use Rattle.wa_types.specs.declared.values.Value.TheVariants as V
@@ -30,10 +30,12 @@ raised d n (branch r a b rest) = branch r (raised (suc d) n a) (raised (suc d) n
 
 -- ---- the guarded code
 
--- The global of the state, and the local of the call index.
+-- The global of the state, and the local of the call index; and whether the function has one numbered call alone, so that the local
+-- holds that call's number 0 throughout, as it begins, and nothing sets it.
 pub record GuardIndices : Type 0 where
   pub state : ℕ
   pub index : ℕ
+  pub alone : Bool
 
 -- a test of the state's global: the first arm where it isn't 0
 abbrev pub by_state : (state : ℕ) → (then_arm else_arm next : Code) → Code
@@ -54,9 +56,14 @@ guarded i (branch r a b rest) next = by_state i.state done (raised 0 1 (branch r
 abbrev pub sought : GuardIndices → (label by k : ℕ) → Code → (next : Code) → Code
 sought i l n k first next = by_state i.state (index_with i (basic (num I32Ne)) k (plain (br_if l) done)) (raised 0 n first) next
 
+-- The index is set, but for the only call.
+abbrev pub index_noted : (alone : Bool) → (index k : ℕ) → (next : Code) → Code
+index_noted true x k next = next
+index_noted false x k next = plain (basic (const (V.I32 k))) (plain (local_set x) next)
+
 -- Behind call k: the index is noted, and where the state isn't 0 the function's block is left by this label.
 abbrev pub noted : GuardIndices → (label k : ℕ) → (next : Code) → Code
-noted i l k next = plain (basic (const (V.I32 k))) (plain (local_set i.index) (plain (basic (global_get i.state)) (plain (br_if l) next)))
+noted i l k next = index_noted i.alone i.index k (plain (basic (global_get i.state)) (plain (br_if l) next))
 
 -- In a state that isn't 0, whether the call of the index stands in the then arm, where k is the first number in the arms.
 abbrev pub choice : GuardIndices → (k : ℕ) → (then_arm else_arm : Units) → Code
@@ -146,6 +153,15 @@ abbrev pub body_exit : (exits : Bool) → Exit
 body_exit true = nowhere
 body_exit false = each_end
 
+-- Of a function whose runs leave by labels the only numbered call isn't noted.
+abbrev pub is_alone : (exits : Bool) → Units → Bool
+is_alone true us = nat_eq (numbers_in us) 1
+is_alone false us = false
+
+-- the indices of a function with these units
+abbrev pub guard_indices : (state index : ℕ) → (exits : Bool) → Units → GuardIndices
+guard_indices st x exits us = record { state = st; index = x; alone = is_alone exits us }
+
 -- the guarded code of a function's sequence
 abbrev pub guarded_body : GuardIndices → (exits : Bool) → (first : Code) → Units → Code
 guarded_body i exits first us = front i (body_exit exits) 0 0 first us
@@ -161,4 +177,4 @@ written_body i exits restoring saving result first us = function_body i.state re
 
 -- The guarded code of a flat function, of which the calls at these places are numbered, each in a block of its own.
 abbrev pub guarded_code : (state : ℕ) → (places : List ℕ) → FlatFunc → Code
-guarded_code st places f = guarded_body (record { state = st; index = length f.locals }) false (first_piece places 0 f.body) (units places 0 f.body)
+guarded_code st places f = guarded_body (guard_indices st (length f.locals) false (units places 0 f.body)) false (first_piece places 0 f.body) (units places 0 f.body)

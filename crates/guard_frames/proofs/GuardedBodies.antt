@@ -39,20 +39,20 @@ pub same_code : SameCode
 same_code st f l = refl
 
 pub body_keeps : BodyKeeps
-body_keeps g area p st k h f l slots x to behind rest xs u arms place bottom =
+body_keeps g area p st k h f l slots x to behind rest xs ls u arms place bottom held =
     record {
-      leaves = λ n s fn under ls ops e.
-          let q = unwinds_law p st n k h f s fn under ls ops to behind rest xs e in
-          let d1 = all_keep g area p _ _ 4 [] q in
+      leaves = λ n s fn under ops e.
+          let q = unwinds_law p st n k h f s fn under ls ops slots x to behind rest xs e place held in
+          let d1 = all_keep g area p _ _ q.cost [] q.goes in
           record {
-            cost = 4;
-            within = omega arith;
-            goes = subst (λ i. GoesKeeping g area p (from s fn under ls ops) 4
+            cost = q.cost;
+            within = q.within;
+            goes = subst (λ i. GoesKeeping g area p (from s fn under ls ops) q.cost
                 (running s fn under (slice_set ls i (V.I32 k)) [] (epilogue st (written_of st f l)) [])) (sym u.index)
                 d1;
           };
-      seeks = λ n s fn under ls e i.
-          let q = seeks_law p st n k f s fn under ls slots x to behind rest xs e (ap (value_at ls) (sym u.index) ∙ i) arms place bottom in
+      seeks = λ n s fn under ls2 e i.
+          let q = seeks_law p st n k f s fn under ls2 slots x to behind rest xs e (ap (value_at ls2) (sym u.index) ∙ i) arms place bottom in
           record {
             cost = q.cost;
             within = q.within;

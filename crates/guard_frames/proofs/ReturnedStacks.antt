@@ -2,6 +2,7 @@
 use Rattle.std.proofs.Common.{◌≡◌, ℕ, suc, ◌<◌, List, [], ◌∷◌, ◌++◌, length, take, drop, refl, sym, ap, ◌∙◌, subst, arith, length-append, length-drop, take-append-drop, ⊎_elim}
 use Rattle.std.proofs.lemmas.List.{length-take-le}
 use Rattle.wa_types.specs.declared.values.Value.{Value}
+use Rattle.wa_types.specs.declared.values.Value.TheVariants as V
 use Rattle.wa_types.specs.Syntax.{Code}
 use Rattle.wa_model.specs.Store.{value_at}
 use Rattle.wa_model.specs.Configuration.{Activation, waiting}
@@ -12,13 +13,14 @@ use Rattle.frame_laws.specs.Stack.{AllCameBack}
 use Rattle.guard_form.specs.Functions.{with_guards}
 use Rattle.guard_form.specs.Pieces.{flat_units}
 use Rattle.guard_form.specs.Places.{flat_labels, noted_code, call_labels}
+use Rattle.guard_form.proofs.PlacesBelow.{alone_number}
 use Rattle.guard_frames.specs.Joined.{CallFrame}
 use Rattle.guard_frames.specs.Levels.{flat_waiting, levels_of, FlatFieldsFit, MayStand}
 use Rattle.guard_frames.specs.Returned.{FlatAgain, StacksReturn}
 use Rattle.guard_runs.specs.Alike.{Setting}
 use Rattle.guard_runs.specs.Beside.{Locals}
 use Rattle.guard_runs.specs.Stopped.{Stopped, host, above}
-use Rattle.guard_frames.proofs.WaitingLevels.{got_left, kept_left}
+use Rattle.guard_frames.proofs.WaitingLevels.{got_left, got_behind, kept_left}
 
 kept_there : (ls : List Value) (x : ℕ) (ps : List FrameField) → FlatFieldsFit ls ps → IsKept x ps → x < length ls
 kept_there ls x [] h k = absurd k
@@ -42,7 +44,12 @@ module _ (v : Setting) (lay : Activation → CallFrame) where
       let n1 : length ls2 ≡ length ls = length-take-le (length ls) r.locals (omega arith) in
       let n2 : length extra2 ≡ length extra = length-drop (length ls) r.locals ∙ omega arith in
       let whole : ls2 ++ extra2 ≡ r.locals = take-append-drop (length ls) r.locals in
-      let both2 : Locals (with_guards f) ls2 extra2 = record { size = n1 ∙ both.size; more = n2 ∙ both.more } in
+      let index : value_at extra2 0 ≡ V.I32 k = sym (got_behind ls2 extra2 f.size (n1 ∙ both.size)) ∙ ap (λ ys. value_at ys f.size) whole ∙ ap (value_at r.locals) (sym may.1.index) ∙ ks.index in
+      let both2 : Locals (with_guards f) ls2 extra2 = record {
+        size = n1 ∙ both.size;
+        more = n2 ∙ both.more;
+        held = λ a. index ∙ ap V.I32 (alone_number v.globals f k slots x to behind rest xs pl a);
+      } in
       let count = ih.count in
       let code : Code = noted_code v.globals f xs k to behind rest in
       let made : Stopped v callee (waiting fn ls2 [] taken (set_to to (followed_by behind (flat_units rest))) (flat_labels f xs) ∷ ih.new)

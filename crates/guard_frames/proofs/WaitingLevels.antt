@@ -35,6 +35,12 @@ got_left [] extra x lt = absurd (omega arith)
 got_left (v ∷ ls) extra zero lt = refl
 got_left (v ∷ ls) extra (suc x) lt = got_left ls extra x (omega arith)
 
+-- the first behind them
+pub got_behind : (ls extra : List Value) (n : ℕ) → length ls ≡ n → value_at (ls ++ extra) n ≡ value_at extra 0
+got_behind [] extra n e = ap (value_at extra) (sym e)
+got_behind (v ∷ ls) extra zero e = let never : ⊥ = omega (arith, e) in absurd never
+got_behind (v ∷ ls) extra (suc n) e = got_behind ls extra n (omega (arith, e))
+
 -- flat locals stand before the index and the scratch local
 spots_fit : (y : ℕ) (ls extra : List Value) (ps : List FrameField) → length ls ≤ y → FlatFieldsFit ls ps → FieldsFit y (ls ++ extra) ps
 spots_fit y ls extra [] le h = tt
@@ -196,7 +202,8 @@ module _ (v : Setting) (pair : Paired v) where
           acts = ap (λ more. activation_of w ∷ more) ih.acts;
           fit = (
             record {
-              law = body_keeps g area v.written v.globals k h f cl slots x to behind rest xs u may.5 pl may.4;
+              law = body_keeps g area v.written v.globals k h f cl slots x to behind rest xs (ls ++ extra) u may.5 pl may.4
+                  (λ a. got_behind ls extra f.size both.size ∙ both.held a);
               codes = u.codes;
               address_is = may.2;
               living = record {

@@ -1,13 +1,16 @@
 -- A guarded function as one that is written with frames.
-use Rattle.std.specs.Prelude.{◌≡◌, ℕ, List, length, Option, ◌∷◌}
+use Rattle.std.specs.Prelude.{◌≡◌, ℕ, List, length, Option, ◌∷◌, true}
 use Rattle.wa_types.specs.Pausing.{Callee}
 use Rattle.wa_types.specs.Syntax.{Code, Module}
+use Rattle.wa_types.specs.declared.values.Value.{Value}
+use Rattle.wa_types.specs.declared.values.Value.TheVariants as V
+use Rattle.wa_model.specs.Store.{value_at}
 use Rattle.wa_model.specs.declared.answers.Area.{Area}
 use Rattle.frame_laws.specs.Function.{WrittenFunc, function_code, CallSite, BodyLaw, FrameCodes}
 use Rattle.frame_laws.specs.Layout.{Layout, restore_cost, save_cost}
 use Rattle.guard_form.specs.Bounds.{passing}
 use Rattle.guard_form.specs.Functions.{GuardedFunc, with_guards, indices_of, written_code, ArmsHold}
-use Rattle.guard_form.specs.Guarded.{guarded_body}
+use Rattle.guard_form.specs.Guarded.{is_alone, guarded_body}
 use Rattle.guard_form.specs.Pieces.{Units, call_unit, call_to}
 use Rattle.guard_form.specs.Places.{Enclosing, BodyPlace, noted_code, call_labels}
 use Rattle.guard_runs.specs.Rewinding.{NoneBelow}
@@ -54,9 +57,10 @@ pub record Uses (st : ℕ) (f : GuardedFunc) (k : ℕ) (l : CallFrame) : Type 0 
 abbrev pub SameCode : Type 0
 SameCode = (st : ℕ) (f : GuardedFunc) (l : CallFrame) → function_code st (written_of st f l) ≡ written_code st (with_guards f)
 
--- Its body keeps the promise that frames ask for, at each numbered call.
+-- Its body keeps the promise that frames ask for, at each numbered call, where the index of a call that isn't noted is 0.
 abbrev pub BodyKeeps : Type 0
 BodyKeeps =
     (g : ℕ) (area : Area) (p : Module) (st k h : ℕ) (f : GuardedFunc) (l : CallFrame) (slots : List ℕ) (x : Callee) (to : Option ℕ) (behind : Code) (rest : Units) (xs : List Enclosing)
-    → Uses st f k l → ArmsHold f.body → BodyPlace st f k (call_unit slots x to behind rest) xs → NoneBelow xs
-    → BodyLaw g area p st (written_of st f l) (site_of st f k h slots x to behind rest xs) 4 (passing f.first f.body)
+    (ls : List Value)
+    → Uses st f k l → ArmsHold f.body → BodyPlace st f k (call_unit slots x to behind rest) xs → NoneBelow xs → (is_alone f.exits f.body ≡ true → value_at ls f.size ≡ V.I32 0)
+    → BodyLaw g area p st (written_of st f l) (site_of st f k h slots x to behind rest xs) ls 4 (passing f.first f.body)

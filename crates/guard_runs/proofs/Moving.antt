@@ -1,5 +1,5 @@
 -- With the state 0 the guarded code makes each reduction of the flat code.
-use Rattle.std.proofs.Common.{◌≡◌, ℕ, zero, suc, ◌+◌, ◌≤◌, ◌<◌, List, [], ◌∷◌, ◌++◌, length, map, take, drop, reverse, Option, Some, None, Bool, true, false, refl, sym, ap, ◌∙◌, subst, arith, append_assoc, length-append, length-set}
+use Rattle.std.proofs.Common.{◌≡◌, ℕ, zero, suc, ◌+◌, ◌≤◌, ◌<◌, List, [], ◌∷◌, ◌++◌, length, map, take, drop, reverse, Option, Some, None, Bool, true, false, refl, sym, ap, ◌∙◌, subst, arith, append_assoc, length-append, length-set, get_or-set_same}
 use Rattle.std.specs.Prelude.{nat_lt, if◌then◌else◌, slice_set, ◌&&◌}
 use Rattle.std.proofs.lemmas.List.{length-map, map-append, length-reverse, length-take-le}
 use Rattle.wa_types.specs.declared.values.ValType.{ValType}
@@ -16,10 +16,11 @@ use Rattle.wa_model.specs.Configuration.{Label, block_label, loop_label, Activat
 use Rattle.wa_model.specs.Step.{Next, steps, asks, traps, stuck, keep, result_count, leave, jump, with_top, with_number, choose, zero_of, entered, invoke, param_count, same_types, same_func_type}
 use Rattle.wa_model.specs.Flat.{followed_by, set_to, result_got}
 use Rattle.guard_form.specs.Functions.{GuardedFunc, Role, as_is, with_guards, size_of, extra_types, indices_of, flat_code, written_code, Calls, PiecesCall, RoleCalls}
-use Rattle.guard_form.specs.Guarded.{raise, raised, by_state, one_more, arm, Exit, each_end, its_end, by_label, nowhere, exit_inside, own_block, front}
+use Rattle.guard_form.specs.Guarded.{raise, raised, by_state, one_more, arm, Exit, each_end, its_end, by_label, nowhere, exit_inside, own_block, index_noted, is_alone, front}
 use Rattle.guard_form.specs.Pieces.{Units, no_unit, call_unit, nest_unit, if_unit, any_unit, flat_units, numbers_in}
 use Rattle.guard_form.specs.Places.{Enclosing, in_a_block, in_a_loop, flat_labels, exit_at, written_labels, has_block, label_more, BodyPlace, past_call, call_code, noted_code, call_labels}
-use Rattle.guard_runs.specs.Beside.{Sides, Twin, both_import, both_defined, Together, BehindPiece, guard_end, before_call, before_if, sequence_end, func_end, tail_at, InPiece, outside, block_in, loop_in, at_body, Locals, BothWait, in_a_piece, at_number, Callers, host, above, Near, Matched, both_step, both_ask, both_return, both_trap, flat_stuck}
+use Rattle.guard_form.proofs.PlacesBelow.{alone_number}
+use Rattle.guard_runs.specs.Beside.{Sides, Twin, both_import, both_defined, Together, BehindPiece, guard_end, before_call, before_if, sequence_end, func_end, tail_at, InPiece, outside, block_in, loop_in, at_body, IndexHeld, Locals, BothWait, in_a_piece, at_number, Callers, host, above, Near, Matched, both_step, both_ask, both_return, both_trap, flat_stuck}
 use Rattle.guard_runs.proofs.SilentStretches.{Comes, on, walks}
 use Rattle.guard_form.proofs.CodeLemmas.{calls_pruned, then_done, raised_none, raise_out, raise_in, raise_on, set_behind}
 use Rattle.guard_runs.proofs.Settling.{Ctx, cq, cp, no_lag, later, wider, Arounds, calls_at, arounds, reads, to_else, settle, settle_piece}
@@ -43,6 +44,11 @@ same_params t u e = same_long t.params u.params (by (same_types t.params u.param
 
 room_deep : (n : ℕ) → nat_lt (n + 1) 4096 ≡ true → suc n < 4096
 room_deep n e = grind arith
+
+-- a function begins with the index 0
+pub zeros_held : (r : Role) → IndexHeld r (map zero_of (extra_types r))
+zeros_held (as_is n body) = tt
+zeros_held (with_guards f) = λ a. refl
 
 module _ (w : Sides) where
   pub unders_long : (g : ℕ) (under under' : List Activation) → Callers w g under under' → length under ≡ length under'
@@ -85,10 +91,18 @@ module _ (w : Sides) where
   }
 
   pub both_set : {r : Role} (ls extra : List Value) (y : ℕ) (v : Value) → Locals r ls extra → Locals r (slice_set ls y v) extra
-  both_set ls extra y v b = record { size = length-set ls y v ∙ b.size; more = b.more }
+  both_set ls extra y v b = record { size = length-set ls y v ∙ b.size; more = b.more; held = b.held }
 
-  pub both_aside : {r : Role} (ls extra : List Value) (y : ℕ) (v : Value) → Locals r ls extra → Locals r ls (slice_set extra y v)
-  both_aside ls extra y v b = record { size = b.size; more = length-set extra y v ∙ b.more }
+  -- the index of a call is set
+  pub index_set : (f : GuardedFunc) (ls extra : List Value) (k : ℕ) → (is_alone f.exits f.body ≡ true → k ≡ 0) → Locals (with_guards f) ls extra
+      → Locals (with_guards f) ls (slice_set extra 0 (V.I32 k))
+  index_set f ls extra k none b =
+      let more = b.more in
+      record {
+        size = b.size;
+        more = length-set extra 0 (V.I32 k) ∙ b.more;
+        held = λ a. get_or-set_same extra 0 (V.I32 k) (V.I32 0) (omega arith) ∙ ap V.I32 (none a);
+      }
 
   abbrev pub with_local : {r : Role} (x : Ctx w r) (y : ℕ) (v : Value) → Ctx w r
   with_local x y v = record {
@@ -107,8 +121,8 @@ module _ (w : Sides) where
     both = both_set x.ls x.extra y v x.both;
   }
 
-  abbrev pub with_index : {r : Role} (x : Ctx w r) (v : Value) → Ctx w r
-  with_index x v = record {
+  abbrev pub with_index : (f : GuardedFunc) (x : Ctx w (with_guards f)) (k : ℕ) → (is_alone f.exits f.body ≡ true → k ≡ 0) → Ctx w (with_guards f)
+  with_index f x k none = record {
     s = x.s;
     s' = x.s';
     alike = x.alike;
@@ -120,8 +134,8 @@ module _ (w : Sides) where
     us = x.us;
     deep = x.deep;
     ls = x.ls;
-    extra = slice_set x.extra 0 v;
-    both = both_aside x.ls x.extra 0 v x.both;
+    extra = slice_set x.extra 0 (V.I32 k);
+    both = index_set f x.ls x.extra k none x.both;
   }
 
   module _ (ok : Together w) where
@@ -184,20 +198,7 @@ module _ (w : Sides) where
         → Near w 9 (cq w x ops (set_to to (followed_by behind (flat_units rest))) (flat_labels f xs))
         (cp w x ops (noted_code w.state f xs k to behind rest) (call_labels w.state f h xs k rest))
     unfolding followed_by
-    noted_near f x ops k h slots c to behind rest xs pl =
-        let x2 = with_index x (V.I32 k) in
-        let own = has_block f rest xs in
-        let lb' = call_labels w.state f h xs k rest in
-        let next : Code = set_to to (raised 0 (one_more own 0) behind) in
-        let l : ℕ = one_more own (length xs) in
-        let from = cp w x ops (noted_code w.state f xs k to behind rest) lb' in
-        let test : Code = plain (basic (global_get w.state)) (plain (br_if l) next) in
-        let two : Comes p from 2 (cp w x2 ops test lb') = subst (λ ls. Comes p from 2 (running x.s' x.fn x.under' ls ops test lb'))
-        (set_behind x.ls x.extra f.size (V.I32 k) x.both.size) (walks p 2 _ _ refl) in
-        let four : Comes p from 4 (cp w x2 ops next lb') = on p 2 2 _ _ _ two
-        (on p 1 1 _ _ _ (reads w ok x2 ops (plain (br_if l) next) lb') (walks p 1 (cp w x2 (V.I32 0 ∷ ops) (plain (br_if l) next) lb') _ refl)) in
-        let ca = (calls_at w f (pieces x f refl) k (call_unit slots c to behind rest) xs pl).0 in
-        later w 4 5 9 _ _ _ four (by_to x2 ca to) (omega arith)
+    noted_near f x ops k h slots c to behind rest xs pl = by_alone (is_alone f.exits f.body) (λ a. alone_number w.state f k slots c to behind rest xs pl a)
       where
         co : BehindPiece w (with_guards f) (one_more (has_block f rest xs) 0) (flat_units rest) (flat_labels f xs) (call_labels w.state f h xs k rest)
         co = behind_call f h k slots c to behind rest xs pl
@@ -208,6 +209,34 @@ module _ (w : Sides) where
         by_to y ca None = settle_piece w ok y (pieces y) co ops 0 _ _ outside behind (calls_pruned w.free behind ca)
         by_to y ca (Some z) = settle_piece w ok y (pieces y) co ops 0 _ _ outside (plain (local_set z) behind)
             (calls_pruned w.free (plain (local_set z) behind) (tt, ca))
+
+        lb' : List Label
+        lb' = call_labels w.state f h xs k rest
+
+        next : Code
+        next = set_to to (raised 0 (one_more (has_block f rest xs) 0) behind)
+
+        test : Code
+        test = plain (basic (global_get w.state)) (plain (br_if (one_more (has_block f rest xs) (length xs))) next)
+
+        ca : Calls w.free behind
+        ca = (calls_at w f (pieces x f refl) k (call_unit slots c to behind rest) xs pl).0
+
+        -- the state is 0
+        passes : (y : Ctx w (with_guards f)) → Comes p (cp w y ops test lb') 2 (cp w y ops next lb')
+        passes y =
+            on p 1 1 _ _ _ (reads w ok y ops (plain (br_if (one_more (has_block f rest xs) (length xs))) next) lb')
+            (walks p 1 (cp w y (V.I32 0 ∷ ops) (plain (br_if (one_more (has_block f rest xs) (length xs))) next) lb') _ refl)
+
+        by_alone : (alone : Bool) → (is_alone f.exits f.body ≡ true → k ≡ 0)
+            → Near w 9 (cq w x ops (set_to to (followed_by behind (flat_units rest))) (flat_labels f xs)) (cp w x ops (index_noted alone f.size k test) lb')
+        by_alone true none = later w 2 5 9 _ _ _ (passes x) (by_to x ca to) (omega arith)
+        by_alone false none =
+            let y = with_index f x k none in
+            let from = cp w x ops (index_noted false f.size k test) lb' in
+            let two : Comes p from 2 (cp w y ops test lb') = subst (λ ls. Comes p from 2 (running x.s' x.fn x.under' ls ops test lb'))
+            (set_behind x.ls x.extra f.size (V.I32 k) x.both.size) (walks p 2 _ _ refl) in
+            later w 4 5 9 _ _ _ (on p 2 2 _ _ _ two (passes y)) (by_to y ca to) (omega arith)
 
     pub resume : (s s' : Store) → w.like s s' → (g : ℕ) (a a' : Activation) (under under' : List Activation) (vs : List Value) → BothWait w g a a' → length under < 4096
         → Callers w a.func under under'
@@ -410,7 +439,7 @@ module _ (w : Sides) where
               deep = deep;
               ls = args ++ zs;
               extra = more;
-              both = record { size = long; more = length-map (extra_types (w.role y)) zero_of };
+              both = record { size = long; more = length-map (extra_types (w.role y)) zero_of; held = zeros_held (w.role y) };
             }
 
             by_room : (b : Bool) → nat_lt (length x.under + 1) 4096 ≡ b

@@ -1,10 +1,10 @@
 -- The way to one call in a state that isn't 0, and out of the function behind it.
-use Rattle.std.proofs.Common.{◌≡◌, ◌≢◌, ℕ, suc, ◌+◌, ◌-◌, ◌≤◌, ◌<◌, List, [], ◌∷◌, length, Option, None, Bool, true, false, refl, sym, ap, subst, inr, ⊎_elim, arith}
+use Rattle.std.proofs.Common.{◌≡◌, ◌≢◌, ℕ, zero, suc, ◌+◌, ◌-◌, ◌≤◌, ◌<◌, List, [], ◌∷◌, length, Option, None, Bool, true, false, refl, sym, ap, ◌∙◌, subst, inr, ⊎_elim, arith}
 use Rattle.std.specs.Prelude.{slice_set}
 use Rattle.std.proofs.lemmas.List.{drop_all}
 use Rattle.wa_types.specs.declared.values.Value.{Value}
 use Rattle.wa_types.specs.declared.values.Value.TheVariants as V
-use Rattle.wa_types.specs.Syntax.{br_if, a_block, a_loop, Code, done, plain, nest, Module}
+use Rattle.wa_types.specs.Syntax.{global_get, basic, br_if, a_block, a_loop, Code, done, plain, nest, Module}
 use Rattle.wa_types.specs.Pausing.{Callee}
 use Rattle.wa_model.specs.Store.{Store, value_at}
 use Rattle.wa_model.specs.Configuration.{Label, block_label, loop_label, Activation, Configuration, running}
@@ -12,9 +12,10 @@ use Rattle.wa_model.specs.Step.{steps, jump}
 use Rattle.wa_model.specs.Flat.{set_to, result_got}
 use Rattle.guard_form.specs.Bounds.{over, passing}
 use Rattle.guard_form.specs.Functions.{GuardedFunc, indices_of, ArmsHold}
-use Rattle.guard_form.specs.Guarded.{raised, GuardIndices, by_state, one_more, arm, exit_inside, call_guarded, guarded_body, front}
+use Rattle.guard_form.specs.Guarded.{raised, GuardIndices, by_state, one_more, arm, exit_inside, call_guarded, index_noted, is_alone, guarded_body, front}
 use Rattle.guard_form.specs.Pieces.{Units, call_unit, nest_unit, if_unit, any_unit, numbers_in}
 use Rattle.guard_form.specs.Places.{Enclosing, in_a_block, in_a_loop, exit_at, written_labels, has_block, label_more, BodyPlace, at_start, past_call, past_block, past_loop, past_if, in_block, in_loop, in_then, in_else, call_code, noted_code, call_labels}
+use Rattle.guard_form.proofs.PlacesBelow.{alone_number}
 use Rattle.guard_runs.specs.Rewinding.{Within, NoneBelow, Seeks, Unwinds}
 use Rattle.guard_runs.proofs.SilentStretches.{Comes, none, one, on, walks}
 use Rattle.guard_form.proofs.UnitLemmas.{any_is, counted}
@@ -197,9 +198,34 @@ module _ (p : Module) (st : ℕ) (f : GuardedFunc) (s : Store) (fn : ℕ) (under
   leaves_call true (loop_label h a b) xs = leaves_all xs
   leaves_call false label xs = leaves_all xs
 
+-- a value that stands there already
+set_there : (ls : List Value) (x : ℕ) (v : Value) → value_at ls x ≡ v → slice_set ls x v ≡ ls
+set_there [] x v e = refl
+set_there (y ∷ ls) zero v e = ap (λ z. z ∷ ls) (sym e)
+set_there (y ∷ ls) (suc x) v e = ap (λ zs. y ∷ zs) (set_there ls x v e)
+
+-- the index becomes k, or is k already
+notes : (p : Module) (s : Store) (fn : ℕ) (under : List Activation) (ls ops : List Value) (x k : ℕ) (next : Code) (labels : List Label) (alone : Bool)
+    → (alone ≡ true → slice_set ls x (V.I32 k) ≡ ls)
+    → Within p (running s fn under ls ops (index_noted alone x k next) labels) 2 (running s fn under (slice_set ls x (V.I32 k)) ops next labels)
+notes p s fn under ls ops x k next labels true h = record {
+  cost = 0;
+  within = omega arith;
+  goes = (subst (λ vs. Comes p (running s fn under ls ops next labels) 0 (running s fn under vs ops next labels)) (sym (h refl)) (none p (running s fn under ls ops next labels))).by;
+}
+notes p s fn under ls ops x k next labels false h = record { cost = 2; within = omega arith; goes = (walks p 2 _ _ refl).by }
+
 pub unwinds_law : Unwinds
-unwinds_law p st n k h f s fn under ls ops to behind rest xs state =
-    (on p 3 1 _ _ _ three (one p 0 _ _ refl (leaves_call p st f s fn under (slice_set ls f.size (V.I32 k)) ops (has_block f rest xs) _ xs))).by
+unwinds_law p st n k h f s fn under ls ops slots x to behind rest xs state pl held =
+    let front = notes p s fn under ls ops f.size k test lb' (is_alone f.exits f.body) same in
+    let within = front.within in
+    record {
+      cost = front.cost + 2;
+      within = omega arith;
+      goes =
+          (on p front.cost 2 _ _ _ (record { by = front.goes })
+          (on p 1 1 _ _ _ gets_it (one p 0 _ _ refl (leaves_call p st f s fn under ls2 ops (has_block f rest xs) _ xs)))).by;
+    }
   where
     lb' : List Label
     lb' = call_labels st f h xs k rest
@@ -207,8 +233,14 @@ unwinds_law p st n k h f s fn under ls ops to behind rest xs state =
     ls2 : List Value
     ls2 = slice_set ls f.size (V.I32 k)
 
+    same : is_alone f.exits f.body ≡ true → slice_set ls f.size (V.I32 k) ≡ ls
+    same a = set_there ls f.size (V.I32 k) (held a ∙ ap V.I32 (sym (alone_number st f k slots x to behind rest xs pl a)))
+
     tail : Code
     tail = plain (br_if (one_more (has_block f rest xs) (length xs))) (set_to to (raised 0 (one_more (has_block f rest xs) 0) behind))
 
-    three : Comes p (running s fn under ls ops (noted_code st f xs k to behind rest) lb') 3 (running s fn under ls2 (V.I32 (suc n) ∷ ops) tail lb')
-    three = subst (λ v. Comes p (running s fn under ls ops (noted_code st f xs k to behind rest) lb') 3 (running s fn under ls2 (v ∷ ops) tail lb')) state (walks p 3 _ _ refl)
+    test : Code
+    test = plain (basic (global_get st)) tail
+
+    gets_it : Comes p (running s fn under ls2 ops test lb') 1 (running s fn under ls2 (V.I32 (suc n) ∷ ops) tail lb')
+    gets_it = subst (λ v. Comes p (running s fn under ls2 ops test lb') 1 (running s fn under ls2 (v ∷ ops) tail lb')) state (walks p 1 _ _ refl)

@@ -12,7 +12,7 @@ pub fn calls_are_sought()
     ensures { Seeks }
 {}
 
-/// Behind a call that returns in such a state the index is noted, and the end of the function's block is reached.
+/// Behind a call that returns in such a state the index is its number, and the end of the function's block is reached.
 pub fn calls_are_left()
     ensures { Unwinds }
 {}

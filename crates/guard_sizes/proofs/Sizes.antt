@@ -1,5 +1,5 @@
 -- How large and how deep rewritten functions are, and what they cost at a pause.
-use Rattle.std.proofs.Common.{ℕ, ◌+◌, ◌*◌, ◌≤◌, length, Option, Some, None, max, ap, arith}
+use Rattle.std.proofs.Common.{false, ℕ, ◌+◌, ◌*◌, ◌≤◌, length, Option, Some, None, max, ap, arith}
 use Rattle.wa_types.specs.Bounds.{code_weight, plain_weight}
 use Rattle.wa_types.specs.Counts.{count_of, depth_of}
 use Rattle.wa_types.specs.Pruned.{pruned}
@@ -8,7 +8,7 @@ use Rattle.wa_types.specs.Syntax.{Plain, basic, local_get, local_set, local_tee,
 use Rattle.wa_model.specs.Flat.{FlatFunc, code_of, body_of}
 use Rattle.wa_model.specs.Rewrites.{instructions_and_labels}
 use Rattle.flat_laws.specs.Flatten.{flattened}
-use Rattle.guard_form.specs.Guarded.{each_end, GuardIndices, guarded_code}
+use Rattle.guard_form.specs.Guarded.{each_end, GuardIndices, guard_indices, guarded_code}
 use Rattle.guard_form.specs.Pieces.{first_piece, units}
 use Rattle.frame_laws.specs.Sizes.{result_size}
 use Rattle.guard_sizes.specs.Rewritten.{rewritten, RewrittenIsSmall}
@@ -78,7 +78,7 @@ small_law m i x f st places l valid at keeps =
     let g = flattened m x f in
     let first = first_piece places 0 g.body in
     let us = units places 0 g.body in
-    let ids : GuardIndices = record { state = st; index = length g.locals } in
+    let ids : GuardIndices = guard_indices st (length g.locals) false us in
     let joins = ap instructions_and_labels (joins_law places 0 g.body) in
     let joins_depth = ap depth_of (joins_law places 0 g.body) in
     let flat = flat_size m x f in

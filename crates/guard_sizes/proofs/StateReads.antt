@@ -15,7 +15,8 @@ use Rattle.flat_laws.specs.FlatModule.{flat_func, flat_module}
 use Rattle.flat_laws.specs.Flatten.{flattened}
 use Rattle.flat_laws.proofs.FlatModules.{flat_is_typed}
 use Rattle.guard_form.specs.Bounds.{plain_reads, reads}
-use Rattle.guard_form.specs.Guarded.{GuardIndices}
+use Rattle.guard_form.specs.Guarded.{GuardIndices, guard_indices}
+use Rattle.guard_form.specs.Pieces.{units}
 use Rattle.guard_form.proofs.UnitCounts.{written_reads}
 use Rattle.frame_laws.specs.Layout.{Layout, fields_size, placed, restore_code, save_code}
 use Rattle.guard_sizes.specs.Rewritten.{RewrittenReadsFew}
@@ -74,7 +75,7 @@ module _ (st : ℕ) where
 pub reads_law : RewrittenReadsFew
 reads_law m x f st places l valid at below apart =
     let g = flattened m x f in
-    let ids : GuardIndices = record { state = st; index = length g.locals } in
+    let ids : GuardIndices = guard_indices st (length g.locals) false (units places 0 g.body) in
     let c = around (flat_module m []) (flat_func m x f) in
     let named = typed_named c _ (flat_func m x f).body _ _ (flat_is_typed m [] x f valid at) in
     written_reads ids false (restore_code l done) (save_code l done) (result_got g.result) places g.body (unread st _ (code_of g.body) below named.0) (restore_unread st l apart)

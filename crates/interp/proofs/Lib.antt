@@ -1,15 +1,4 @@
+pub mod AnswerRoom
 pub mod AskLemmas
-pub mod CallLemmas
 pub mod FittingTurns
-pub mod Fronts
-pub mod JumpLemmas
-pub mod LoadLemmas
-pub mod MakeLemmas
-pub mod NumberLemmas
-pub mod OperandLemmas
-pub mod ProgramLemmas
-pub mod ReduceLemmas
-pub mod RoomKept
-pub mod RoomLemmas
 pub mod RunLemmas
-pub mod TypeLemmas

@@ -1,11 +1,5 @@
-pub mod Access
-pub mod Effects
-pub mod Stacks
-pub mod Faults
+pub use Rattle.interp_make.specs.Faults
 pub mod Host
 pub mod Instance
-pub mod Making
-pub mod Rooms
 pub mod Runs
-pub mod Told
-pub mod View
+pub mod WaitRooms

@@ -7,15 +7,13 @@ ghost use Rattle.wa_types.specs.Validity.{Valid as IsValid};
 ghost use Rattle.wa_types.specs.View.{module_of};
 ghost use Rattle.wa_types.specs.contracts.instrs.Instr as instr;
 ghost use Rattle.wa_model.specs.Step.{memory_max};
-ghost use Rattle.interp.specs.Rooms.{WaitRoom, wait_prop};
+ghost use Rattle.interp.specs.WaitRooms.{WaitRoom, wait_prop};
 
 use crate::go_on::{call_from_outside, go_on};
-use crate::make::{MakeFault, open};
-use crate::program::{Program, make_program};
 use crate::run::Steps;
-use crate::spaces::all_memories;
-use crate::store::Store;
 use crate::turns::{Turn, Wait};
+use interp_make::{MakeFault, open};
+use interp_reduce::{Program, Store, all_memories, make_program};
 use std::alloc::{AllocError, Global};
 use std::mem;
 use wa_types::{Module, Value};
@@ -37,12 +35,12 @@ pub struct Instance<'m> {
 
 impl<'m> Instance<'m> {
     ghost use Rattle.interp.specs.Instance.{Awaits, CallLacks, Calls, FitsAgain, ResumeLacks, Resumes, nothing, waits_of};
-    ghost use Rattle.interp.specs.Faults.{FailsAs};
+    ghost use Rattle.interp_make.specs.Faults.{FailsAs};
     ghost use Rattle.wa_types.specs.Modules.{func_sorts, func_type_at, imported, imported_global};
     ghost use Rattle.wa_model.specs.Fitting.{types_of, global_types, results_of, StoreFits};
     ghost use Rattle.wa_types.specs.declared.values.ValType.{ValType};
     ghost use Rattle.wa_model.specs.Instantiation.{opening, opens};
-    ghost use Rattle.interp.specs.Rooms.{HasFewInstrs};
+    ghost use Rattle.interp_reduce.specs.Rooms.{HasFewInstrs};
     ghost use Rattle.interp.specs.Host.{code_in, store_in, waits_in, memory_of, CallsAside, Pokes};
 
     /// An instance of a module whose imported globals have these values, one each of its type, before its start function
@@ -206,7 +204,7 @@ impl<'m> Instance<'m> {
 }
 
 /// Takes off what the call took, and puts the answer in its place.
-#[tactic(auto, using(crate::proofs::OperandLemmas::answering))]
+#[tactic(auto, using(crate::proofs::AnswerRoom::answering))]
 fn answer(operands: &mut Vec<Value>, taken: usize, value: Option<Value>) -> Result<(), AllocError>
     ensures puts { IfOk result (λ _. reverse operands.new.items ≡ option_to_list value ++ drop taken (reverse operands.old.items)) }
     ensures holds { vec_capacity operands.old ≤ vec_capacity operands.new }

@@ -4,15 +4,11 @@ ghost use Rattle.wa_types.specs.Validity.{Valid};
 ghost use Rattle.wa_types.specs.View.{module_of};
 ghost use Rattle.wa_model.specs.Step.{memory_max};
 ghost use Rattle.wa_model.specs.Fitting.{Fits};
-ghost use Rattle.interp.specs.Rooms.{StackRoom};
+ghost use Rattle.interp_reduce.specs.StackRooms.{StackRoom};
 ghost use Rattle.interp.specs.Runs.{LacksAt, RunsTo};
-ghost use Rattle.interp.specs.View.{store_of, running_of};
+ghost use Rattle.interp_reduce.specs.View.{store_of, running_of};
 
-use crate::activation::Stack;
-use crate::flow::Flow;
-use crate::program::Program;
-use crate::reduce::reduce;
-use crate::store::Store;
+use interp_reduce::{Flow, Program, Stack, Store, reduce};
 use std::alloc::AllocError;
 use wa_types::{Trap, Value};
 

@@ -1,4 +1,4 @@
-use crate::activation::Stack;
+use interp_reduce::Stack;
 use wa_model::Call;
 use wa_types::{Trap, Value};
 

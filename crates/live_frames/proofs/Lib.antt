@@ -1,3 +1,4 @@
 pub mod PieceLemmas
 pub mod PutSteps
 pub mod WholeCodes
+pub mod WordSteps

@@ -11,7 +11,7 @@ use Rattle.local_spill.specs.Spilling.{stored_value, loaded_value}
 use Rattle.frame_laws.specs.Layout.{fields_size, stores, loads}
 use Rattle.call_frames.specs.CallTests.{CallRow, at_row, row_test}
 use Rattle.call_frames.specs.FrameParts.{parts_stored, parts_loaded}
-use Rattle.call_frames.specs.PlainFrames.{SavedPart, rows_of, at_rows, at_calls, parts_of, sizes_added}
+use Rattle.call_frames.specs.PlainFrames.{SavedPart, rows_of, at_rows, parts_of, sizes_added}
 use Rattle.call_classes.specs.declared.frames.KeptLocal.{KeptLocal}
 use Rattle.call_classes.specs.declared.frames.KeptPart.{KeptPart}
 use Rattle.live_frames.specs.Putting.{rows_joined}
@@ -58,9 +58,9 @@ pub row_put : (old new : List Instr) (index : ℕ) (r : CallRow) (one from_0 : B
 row_put old new index r one from_0 e f h rest =
     h rest ∙ ap (λ b. onto old (row_test b from_0 index r.first r.more rest)) (sym e) ∙ ap (λ b. onto old (row_test (nat_eq r.more 0) b index r.first r.more rest)) (sym f)
 
--- What is put, with the tests of the rows from a place on, is the test of all calls.
+-- What is put, with the tests of the rows from a place on, is that of all rows.
 abbrev pub Owes : (old new : List Instr) → (index : ℕ) → (calls : List ℕ) → (at : ℕ) → Type 0
-Owes old new index calls at = (rest : Code) → onto new (rows_joined index (rows_of (drop at calls)) rest) ≡ onto old (at_calls index calls rest)
+Owes old new index calls at = (rest : Code) → onto new (rows_joined index (rows_of (drop at calls)) rest) ≡ onto old (at_rows index (rows_of calls) rest)
 
 pub row_first : (old new : List Instr) (index : ℕ) (calls : List ℕ) (r : CallRow) (end : ℕ) → rows_of (drop 0 calls) ≡ r ∷ rows_of (drop end calls) → Puts old new (at_row index r)
     → Owes old new index calls end
@@ -75,10 +75,10 @@ row_next old mid mid2 new index calls at r end is h o before rest =
     let others : Code = rows_joined index (rows_of (drop end calls)) rest in
     o others ∙ h (plain (basic (num I32Or)) others) ∙ ap (λ rs. onto mid (rows_joined index rs rest)) (sym is) ∙ before rest
 
-pub rows_end : (old new : List Instr) (index : ℕ) (calls : List ℕ) (at : ℕ) → length calls ≤ at → Owes old new index calls at → Puts old new (at_calls index calls)
+pub rows_end : (old new : List Instr) (index : ℕ) (calls : List ℕ) (at : ℕ) → length calls ≤ at → Owes old new index calls at → Puts old new (at_rows index (rows_of calls))
 rows_end old new index calls at le h rest = ap (λ js. onto new (rows_joined index (rows_of js) rest)) (sym (drop_all at calls le)) ∙ h rest
 
-pub none_put : (old new : List Instr) (index : ℕ) (calls : List ℕ) → length calls ≡ 0 → Puts old new (λ c. plain (basic (const (V.I32 0))) c) → Puts old new (at_calls index calls)
+pub none_put : (old new : List Instr) (index : ℕ) (calls : List ℕ) → length calls ≡ 0 → Puts old new (λ c. plain (basic (const (V.I32 0))) c) → Puts old new (at_rows index (rows_of calls))
 none_put old new index [] e h rest = h rest
 none_put old new index (k ∷ ks) e h rest = absurd (omega (arith, e))
 

@@ -12,5 +12,6 @@ mod sizing;
 mod spilling;
 mod storing;
 mod testing;
+mod words;
 
 pub use spilling::{restoring, saving};

@@ -11,7 +11,7 @@ ghost use Rattle.call_classes.specs.Views.{part_view, part_views};
 use crate::putting::size_of;
 use crate::testing::put_test;
 use call_classes::KeptPart;
-use std::alloc::AllocError;
+use std::alloc::{AllocError, Global};
 use wa_types::{Instr, NumOp, Value};
 
 /// Puts what adds so many bytes for a 1 on top to the number below it.
@@ -25,32 +25,43 @@ fn put_weighed(out: &mut Vec<Instr>, size: u32) -> Result<(), AllocError>
 }
 
 /// Puts what adds the size of a part, where the call keeps it and others don't.
-fn put_size_added(out: &mut Vec<Instr>, index: u32, part: &KeptPart) -> Result<(), AllocError>
+fn put_size_added(
+    alloc: Global,
+    out: &mut Vec<Instr>,
+    index: u32,
+    part: &KeptPart,
+) -> Result<(), AllocError>
     requires { part_fields (part_view part.now) ≤ 50000 }
     ensures { OnOk result (Puts out.old.items out.new.items (sizes_added index (part_view part.now ∷ []))) }
 {
     match part {
         KeptPart::Every(_) => Ok(()),
         KeptPart::These(class) => {
-            put_test(out, index, &class.calls)?;
+            put_test(alloc, out, index, &class.calls)?;
             put_weighed(out, size_of(&class.fields))
         }
     }
 }
 
 /// Puts what adds the sizes of the call's own parts to the number on top.
-fn put_sizes_added(out: &mut Vec<Instr>, index: u32, parts: &[KeptPart]) -> Result<(), AllocError>
+fn put_sizes_added(
+    alloc: Global,
+    out: &mut Vec<Instr>,
+    index: u32,
+    parts: &[KeptPart],
+) -> Result<(), AllocError>
     requires { FewParts (part_views parts.now) }
     ensures { OnOk result (Puts out.old.items out.new.items (sizes_added index (part_views parts.now))) }
 {
     for part in parts {
-        put_size_added(out, index, part)?;
+        put_size_added(alloc, out, index, part)?;
     }
     Ok(())
 }
 
 /// Puts what leaves the size of the call's frame on top, of which so many bytes are all calls'.
 pub(crate) fn put_size(
+    alloc: Global,
     out: &mut Vec<Instr>,
     index: u32,
     shared: u32,
@@ -60,6 +71,6 @@ pub(crate) fn put_size(
     ensures { OnOk result (Puts out.old.items out.new.items (λ c. plain (basic (const (value_32 shared))) (sizes_added index (part_views parts.now) c))) }
 {
     out.push(Instr::Const(Value::I32(shared)))?;
-    put_sizes_added(out, index, parts)?;
+    put_sizes_added(alloc, out, index, parts)?;
     Ok(())
 }

@@ -35,7 +35,7 @@ pub fn saving(
     let mut out = Vec::new(alloc);
     let scratch = base + 1;
     let shared = shared_of(&parts.parts);
-    put_size(&mut out, base, shared + 4, &parts.parts)?;
+    put_size(alloc, &mut out, base, shared + 4, &parts.parts)?;
     put_room_test(alloc, &mut out, address, scratch)?;
     put_parts_stored(alloc, &mut out, base, scratch, &parts.parts)?;
     put_index_saved(&mut out, base, scratch, shared)?;

@@ -6,10 +6,11 @@ ghost use Rattle.wa_types.specs.declared.operators.NumOp.TheVariants.{I32Sub};
 ghost use Rattle.wa_types.specs.declared.values.Value.TheVariants.{I32 as value_32};
 ghost use Rattle.wa_types.specs.View.{code};
 ghost use Rattle.call_frames.specs.CallTests.{at_call, at_most, at_row};
-ghost use Rattle.call_frames.specs.PlainFrames.{at_calls};
+ghost use Rattle.call_frames.specs.PlainFrames.{at_calls, at_rows, rows_of};
 ghost use Rattle.local_spill.specs.Putting.{Puts};
 ghost use Rattle.call_classes.specs.CallRows.{row_view};
 
+use crate::words::{by_words, put_words};
 use call_classes::{RowAt, row_at};
 use std::alloc::{AllocError, Global};
 use wa_types::{Instr, NumOp, Value};
@@ -58,9 +59,9 @@ fn put_row(out: &mut Vec<Instr>, index: u32, row: RowAt) -> Result<(), AllocErro
     put_at_most(out, row.more)
 }
 
-/// Puts the test of the index that is 1 at these calls and 0 at all others.
-pub(crate) fn put_test(out: &mut Vec<Instr>, index: u32, calls: &[u32]) -> Result<(), AllocError>
-    ensures { OnOk result (Puts out.old.items out.new.items (at_calls index calls.now)) }
+/// Puts the test that is 1 at these calls and 0 at all others, row by row.
+fn put_rows(out: &mut Vec<Instr>, index: u32, calls: &[u32]) -> Result<(), AllocError>
+    ensures { OnOk result (Puts out.old.items out.new.items (at_rows index (rows_of calls.now))) }
 {
     if calls.is_empty() {
         out.push(Instr::Const(Value::I32(0)))?;
@@ -78,6 +79,21 @@ pub(crate) fn put_test(out: &mut Vec<Instr>, index: u32, calls: &[u32]) -> Resul
     Ok(())
 }
 
+/// Puts the test of the index that is 1 at these calls and 0 at all others.
+pub(crate) fn put_test(
+    alloc: Global,
+    out: &mut Vec<Instr>,
+    index: u32,
+    calls: &[u32],
+) -> Result<(), AllocError>
+    ensures { OnOk result (Puts out.old.items out.new.items (at_calls index calls.now)) }
+{
+    if by_words(calls) {
+        return put_words(alloc, out, index, calls);
+    }
+    put_rows(out, index, calls)
+}
+
 /// Puts code that runs at these calls alone.
 pub(crate) fn put_under_test(
     alloc: Global,
@@ -88,7 +104,7 @@ pub(crate) fn put_under_test(
 ) -> Result<(), AllocError>
     ensures { OnOk result (Puts out.old.items out.new.items (λ c. at_calls index calls.now (branch None (code arm.items) done c))) }
 {
-    put_test(out, index, calls)?;
+    put_test(alloc, out, index, calls)?;
     out.push(Instr::If {
         result: None,
         then_arm: arm,

@@ -16,7 +16,7 @@ use Rattle.flat_laws.specs.Flatten.{flattened}
 use Rattle.func_rewrite.specs.Flattened.{Flattened}
 use Rattle.asyncify_runtime.specs.Ids.{ids_behind}
 use Rattle.local_spill.specs.declared.RuntimeIds.{RuntimeIds}
-use Rattle.guard_form.specs.Guarded.{guarded_body, function_body}
+use Rattle.guard_form.specs.Guarded.{guard_indices, guarded_body, function_body}
 use Rattle.call_frames.specs.FrameParts.{restoring_by_call, saving_by_call}
 use Rattle.call_frames.specs.PlainFrames.{SavedParts, frames_of}
 use Rattle.live_form.specs.SlimModule.{Pieces, SlimPieces}
@@ -77,7 +77,7 @@ module _ (m : Module) (s : Settings) (which : List Bool) (f : Func) (v : Flatten
   whole g guarded = function_body g (restoring_by_call (frames_of told) done) (saving_by_call (frames_of told) done) (result_got (flattened m x f).result) guarded
 
   abbrev front_of : Pieces → (state : ℕ) → Code
-  front_of p state = guarded_body (record { state = state; index = length (flattened m x f).locals }) p.exits p.first p.units
+  front_of p state = guarded_body (guard_indices state (length (flattened m x f).locals) p.exits p.units) p.exits p.first p.units
 
   pub live_is : (locals : List Run) (body : Code) → locals ≡ f.locals ++ map one_run (drop v.first_slot v.func.locals.items ++ I32 ∷ I32 ∷ I64 ∷ [])
       → IsSlimBody m ns ids.state x f (restoring_by_call (frames_of told) done) (saving_by_call (frames_of told) done) body → IsLiveWritten m s which x f (mk_func f.sort locals body)

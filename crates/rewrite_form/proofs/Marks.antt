@@ -18,7 +18,7 @@ use Rattle.wa_model.specs.Store.{gives}
 use Rattle.slim_modules.specs.Slim as S
 use Rattle.slim_modules.specs.Slim.{Free, Slims, Terms}
 use Rattle.slim_modules.specs.Pieces.{Units, no_unit, call_unit, nest_unit, if_unit, any_unit, numbers_in, call_to, flat_units}
-use Rattle.slim_modules.specs.Guarded.{raise, raised_plain, raised, GuardIndices, by_state, index_with, guarded, sought, one_more, noted, call_guarded, choice, arm, Exit, each_end, its_end, by_label, nowhere, exit_inside, last_piece, call_front, body_exit, guarded_body, front, written_body}
+use Rattle.slim_modules.specs.Guarded.{raise, raised_plain, raised, GuardIndices, by_state, index_with, guarded, sought, one_more, index_noted, noted, call_guarded, choice, arm, Exit, each_end, its_end, by_label, nowhere, exit_inside, last_piece, call_front, body_exit, guarded_body, front, written_body}
 
 -- ---- marks
 
@@ -127,10 +127,15 @@ module _ {X : Type 0} (k : Marking X) where
         ∙ ap (λ xs. xs ++ marks_of (raised 0 m a) ++ marks_of c) (marks_index n (num I32Ne) (plain (br_if l) done) ∙ unmarked (br_if l) done (k.on_br_if l))
         ∙ ap (λ xs. xs ++ marks_of c) (marks_raised 0 m a)
 
+    index_unmarked : (alone : Bool) (n : ℕ) (c : Code) → marks_of (index_noted alone i.index n c) ≡ marks_of c
+    index_unmarked true n c = refl
+    index_unmarked false n c =
+        unmarked (basic (const (V.I32 n))) (plain (local_set i.index) c) (k.on_basic (const (V.I32 n)))
+        ∙ unmarked (local_set i.index) c (k.on_set i.index)
+
     marks_noted : (l n : ℕ) (c : Code) → marks_of (noted i l n c) ≡ marks_of c
     marks_noted l n c =
-        unmarked (basic (const (V.I32 n))) (plain (local_set i.index) (plain (basic (global_get i.state)) (plain (br_if l) c))) (k.on_basic (const (V.I32 n)))
-        ∙ unmarked (local_set i.index) (plain (basic (global_get i.state)) (plain (br_if l) c)) (k.on_set i.index)
+        index_unmarked i.alone n (plain (basic (global_get i.state)) (plain (br_if l) c))
         ∙ unmarked (basic (global_get i.state)) (plain (br_if l) c) (k.on_basic (global_get i.state))
         ∙ unmarked (br_if l) c (k.on_br_if l)
 

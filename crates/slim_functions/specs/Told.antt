@@ -4,7 +4,7 @@ use Rattle.wa_types.specs.Frames.{SlotPairs}
 use Rattle.wa_types.specs.Modules.{locals_of}
 use Rattle.wa_types.specs.Syntax.{Code, Func, Module}
 use Rattle.wa_model.specs.Flat.{FlatFunc}
-use Rattle.guard_form.specs.Guarded.{guarded_body}
+use Rattle.guard_form.specs.Guarded.{guard_indices, guarded_body}
 use Rattle.flat_laws.specs.Flatten.{flattened}
 use Rattle.unit_pieces.specs.declared.pieces.Pieces.{Pieces}
 use Rattle.slim_pieces.specs.Inside.{first_code, units_in}
@@ -21,7 +21,7 @@ PiecesTold ps low count g (Some p) =
 pub record GuardedSlim (m : Module) (places : List ℕ) (state x : ℕ) (f : Func) (c : Code) : Type 0 where
   pub pieces : PiecesAndUnits
   pub slim : SlimPieces m places x f pieces
-  pub code : c ≡ guarded_body (record { state = state; index = length (flattened m x f).locals }) pieces.exits pieces.first pieces.units
+  pub code : c ≡ guarded_body (guard_indices state (length (flattened m x f).locals) pieces.exits pieces.units) pieces.exits pieces.first pieces.units
 
 abbrev pub GuardedTold : (places : List ℕ) → (low count state : ℕ) → FlatFunc → Code → Type 0
 GuardedTold ps low count state g c =

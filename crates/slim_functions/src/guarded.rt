@@ -12,7 +12,7 @@ use flow_calls::Guards;
 use flow_rewrite::guard;
 use slim_pieces::slim_pieces;
 use std::alloc::{AllocError, Global};
-use unit_pieces::guarded_pieces;
+use unit_pieces::{guarded_pieces, has_one_call};
 use wa_model::FlatFunc;
 use wa_types::Instr;
 
@@ -40,6 +40,7 @@ pub fn guard_slim(
         numbers: Vec::new(alloc),
         state,
         index: func.locals.len() as u32,
+        alone: has_one_call(&pieces),
     };
     guarded_pieces(&guards, &pieces)
 }

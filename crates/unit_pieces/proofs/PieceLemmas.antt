@@ -13,7 +13,7 @@ use Rattle.wa_model.specs.declared.flat.Operand.{Operand}
 use Rattle.wa_model.specs.declared.flat.Operand.TheVariants.{Local, Const}
 use Rattle.wa_model.specs.Flat.{followed_by, got, set_to, slots_got}
 use Rattle.guard_form.specs.Pieces.{call_to}
-use Rattle.guard_form.specs.Guarded.{GuardIndices, index_with, raised_plain, raised, sought, noted}
+use Rattle.guard_form.specs.Guarded.{GuardIndices, index_with, raised_plain, raised, sought, index_noted, noted}
 use Rattle.flat_pieces.specs.Putting.{Puts}
 use Rattle.flat_pieces.specs.Raising.{LabelsBelow, Raisable}
 use Rattle.unit_pieces.specs.declared.pieces.Target.{Target}
@@ -58,7 +58,7 @@ search_of i l m k first old new other inside eo ei puts = λ rest.
 
 pub called_of : (i : GuardIndices) (label k : ℕ) (tail : Code) (x : Callee) (slots : List ℕ) (to : Option ℕ) (l1 l2 l3 l4 l5 l6 : List Instr)
     → Puts l1 l2 (slots_got slots) → Puts l2 l3 (plain (call_to x))
-    → Puts l3 l4 (λ c. plain (basic (const (V.I32 k))) (plain (local_set i.index) (plain (basic (global_get i.state)) (plain (br_if label) c))))
+    → Puts l3 l4 (λ c. index_noted i.alone i.index k (plain (basic (global_get i.state)) (plain (br_if label) c)))
     → Puts l4 l5 (set_to to) → code l6 ≡ onto l5 tail → code l6 ≡ onto l1 (slots_got slots (plain (call_to x) (noted i label k (set_to to tail))))
 called_of i label k tail x slots to l1 l2 l3 l4 l5 l6 p2 p3 p4 p5 e6 =
     e6 ∙ p5 tail ∙ p4 (set_to to tail) ∙ p3 (noted i label k (set_to to tail)) ∙ p2 (plain (call_to x) (noted i label k (set_to to tail)))

@@ -1,6 +1,7 @@
 -- Units, one by one.
 use Rattle.std.proofs.Common.{◌≡◌, ℕ, zero, suc, ◌+◌, ◌<◌, ◌≤◌, ◌^◌, ◌∷◌, List, [], length, get_or, drop, Option, None, Bool, true, false, subst, refl, sym, ap, ◌∙◌, arith, add-one, drop-cons}
-use Rattle.std.specs.Prelude.{if◌then◌else◌}
+use Rattle.std.specs.Prelude.{if◌then◌else◌, min, nat_eq}
+use Rattle.std.proofs.lemmas.Bool.{ne_eqb}
 use Rattle.std.specs.declared.vec.Vec.{Vec}
 use Rattle.std.specs.declared.alloc.Global.{Global}
 use Rattle.wa_types.specs.declared.instrs.Instr.{Instr}
@@ -130,6 +131,41 @@ count_front (Call slots x to behind) rest = omega arith
 count_front (Block' first s body behind) rest = omega arith
 count_front (Loop' first s body behind) rest = omega arith
 count_front (If' o fa s a fb t b behind) rest = omega arith
+
+pub numbers_front : (u : Unit) (rest : Units) → numbers_in (unit_in_front u rest) ≡ numbers_in (unit_in_front u no_unit) + numbers_in rest
+unfolding unit_in_front
+numbers_front (Call slots x to behind) rest = omega arith
+numbers_front (Block' first s body behind) rest = omega arith
+numbers_front (Loop' first s body behind) rest = omega arith
+numbers_front (If' o fa s a fb t b behind) rest = omega arith
+
+-- ---- one numbered call alone
+
+-- so many were found, up to 2, with these units to come
+pub record Found (all found left : ℕ) : Type 0 where
+  pub few : found ≤ 2
+  pub same : min (found + left) 2 ≡ min all 2
+
+pub one_more_found : (all found new : ℕ) (xs : List Unit) (i : ℕ) (u : Unit) → i < length xs → u ≡ get_or xs i u → Found all found (numbers_in (units_of (drop i xs)))
+    → new ≡ min (found + min (numbers_in (unit_in_front u no_unit)) 2) 2 → Found all new (numbers_in (units_of (drop (i + 1) xs)))
+one_more_found all found new xs i u lt at h is =
+    let n = ap numbers_in (units_step xs i u lt at) ∙ numbers_front u (units_of (drop (i + 1) xs)) in
+    let few = h.few in
+    let same = h.same in
+    record { few = grind arith; same = grind arith }
+
+pub all_found : (all found : ℕ) (xs : List Unit) (i : ℕ) → length xs ≤ i → Found all found (numbers_in (units_of (drop i xs))) → found ≡ min all 2
+all_found all found xs i le h =
+    let n = ap numbers_in (units_end xs i le) in
+    let few = h.few in
+    let same = h.same in
+    grind arith
+
+pub one_call : (n found : ℕ) → found ≡ min n 2 → nat_eq found 1 ≡ nat_eq n 1
+one_call zero found e = let z : found ≡ 0 = omega (arith, e) in ap (λ k. nat_eq k 1) z
+one_call (suc zero) found e = let z : found ≡ 1 = omega (arith, e) in ap (λ k. nat_eq k 1) z
+one_call (suc (suc n)) found e =
+    ne_eqb found 1 (λ z. let never : ⊥ = omega (arith, e, z) in never) ∙ sym (ne_eqb (suc (suc n)) 1 (λ z. let never : ⊥ = omega (arith, z) in never))
 
 -- ---- from the labels of the flat code
 

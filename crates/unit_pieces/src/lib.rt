@@ -7,10 +7,12 @@
 
 mod calls;
 mod conditions;
+mod counts;
 mod exits;
 mod pieces;
 mod sequences;
 
+pub use counts::has_one_call;
 pub use exits::ExitTo;
 pub use pieces::{Pieces, Target, Unit};
 pub use sequences::guarded_pieces;

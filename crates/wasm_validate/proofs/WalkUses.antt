@@ -12,7 +12,7 @@ use Rattle.wa_types.specs.View.{in_front, code}
 use Rattle.wa_types.specs.Pruned.{is_last, is_last_instr}
 use Rattle.wa_types.specs.Typing.{GlobalType, Around, Sig, moves, leaves, drops, selects, lacks, late, listed, sig, basic_sig, may_jump, calls, calls_at, gets, sets, tees, gets_global, sets_global, accesses, loads, stores, with_memory, Takes, label, Types}
 use Rattle.wa_types.proofs.ViewLemmas.{in_block, in_loop, in_if, code_step}
-use Rattle.wasm_validate.specs.Table.{plain_of}
+use Rattle.validate_modules.specs.Table.{plain_of}
 use Rattle.wa_types.specs.Syntax.{Func, Module}
 use Rattle.std.proofs.Common.{arith, nat_lt, ◌-◌}
 use Rattle.std.specs.List.{filter_map}
@@ -21,11 +21,11 @@ use Rattle.wa_types.specs.declared.syntax.Func.{Func as FuncValue}
 use Rattle.wa_types.specs.declared.syntax.Module.{Module as ModuleValue}
 use Rattle.wa_types.specs.View.{module_of, func_of}
 use Rattle.wa_types.specs.Modules.{around, defined_at, func_imports, imported_func}
-use Rattle.wasm_validate.proofs.FuncLemmas.{func_at}
+use Rattle.validate_modules.proofs.FuncLemmas.{func_at}
 use Rattle.wa_types.specs.Validity.{Valid}
-use Rattle.wasm_tree.specs.Kinds.{is_leaf}
-use Rattle.wasm_validate.specs.Walk.{Walk, outset, Stays, Inside, TypedAt}
-use Rattle.wasm_validate.proofs.Trees.{is_block, is_loop, is_branch, is_plain, kind}
+use Rattle.validate_modules.specs.Kinds.{is_leaf}
+use Rattle.validate_modules.specs.Walk.{Walk, outset, Stays, Inside, TypedAt}
+use Rattle.validate_modules.proofs.InstrKinds.{is_block, is_loop, is_branch, is_plain, kind}
 
 -- control may come behind it
 abbrev pub Passes : Sig → Type 0

@@ -14,17 +14,17 @@ use Rattle.wa_types.specs.Syntax.{Plain, Shape, a_block, a_loop, Code, done, pla
 use Rattle.wa_types.specs.View.{in_front, code}
 use Rattle.wa_types.specs.Typing.{Around, Types, sig, listed, Sig, moves, leaves, drops, selects, Takes}
 use Rattle.wa_types.proofs.ViewLemmas.{in_block, in_loop, in_if}
-use Rattle.wasm_validate.specs.declared.table.Asks as D
-use Rattle.wasm_validate.specs.Stack.{sig_of, tested}
-use Rattle.wasm_validate.specs.Table.{plain_of, Says}
-use Rattle.wasm_validate.specs.Walk.{left_at, Walk, outset, Stays, Inside, CanTake, own_at, under_at, around_or, standing}
-use Rattle.wasm_tree.specs.Kinds.{is_leaf}
+use Rattle.validate_modules.specs.Asks as D
+use Rattle.validate_modules.specs.Table.{sig_of, tested}
+use Rattle.validate_modules.specs.Table.{plain_of, Says}
+use Rattle.validate_modules.specs.Walk.{left_at, Walk, outset, Stays, Inside, CanTake, own_at, under_at, around_or, standing}
+use Rattle.validate_modules.specs.Kinds.{is_leaf}
 use Rattle.wa_types.specs.Modules.{around}
 use Rattle.wa_types.specs.Syntax.{Func}
 use Rattle.wa_types.specs.declared.syntax.Module.{Module as ModuleValue}
 use Rattle.wa_types.specs.View.{module_of}
-use Rattle.wasm_validate.proofs.Lists.{reverse_listed}
-use Rattle.wasm_validate.proofs.Trees.{is_block, is_loop, is_branch, is_plain, kind}
+use Rattle.validate_modules.proofs.LabelLemmas.{reverse_listed}
+use Rattle.validate_modules.proofs.InstrKinds.{is_block, is_loop, is_branch, is_plain, kind}
 
 rest_of : (ys : List ValType) (n : ℕ) → n ≤ length ys → reverse (take (length ys - n) ys) ≡ drop n (reverse ys)
 rest_of ys n le =

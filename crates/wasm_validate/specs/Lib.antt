@@ -1,9 +1,4 @@
-pub mod Judging
-pub mod Laws
-pub mod Outside
-pub mod Running
-pub mod Spaces
-pub mod Stack
-pub mod Table
-pub mod Validated
-pub mod Walk
+pub use Rattle.validate_modules.specs.Laws
+pub use Rattle.validate_modules.specs.Running
+pub use Rattle.validate_modules.specs.Validated
+pub use Rattle.validate_modules.specs.Walk

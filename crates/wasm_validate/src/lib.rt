@@ -1,28 +1,16 @@
-//! Which modules are valid, and the first fault of those that aren't (standard, section 3).
+//! Which modules are valid, the first fault of those that aren't (standard, section 3), and walks over their bodies.
 //!
 //! `validate` answers a module exactly where it is valid, and else its first fault. A `Valid` is a valid module that
 //! meets the size rule: its `module` says both. `Typing` walks the types of operands over the pruned body of a
-//! function of such a module; its contracts speak of the typing relation alone (`specs/Walk.antt`), and
+//! function of such a module; its contracts speak of the typing relation alone (`specs/Walk.antt` of `validate_modules`), and
 //! `proofs/WalkUses.antt` has what a caller needs at each instruction.
 //!
-//! Below, a body is checked from front to back over a stack of types, some of them unknown (`stack`, `table`,
-//! `bodies`). What that computes stands in `specs/Running.antt`, and `proofs/Right.antt` shows that it is the typing
-//! relation, or the first fault. The rules outside the bodies stand in `indices`, `outside` and `names`, in their
-//! order in `rules`. What a module has under each index is gathered once (`spaces`), and a body's context is lent
-//! from it (`context`).
+//! Below stand the index spaces and contexts (`validate_spaces`), what an instruction asks of the operands (`validate_table`),
+//! the check of a body (`validate_bodies`), the rules outside the bodies (`validate_rules`), and modules as a whole
+//! (`validate_modules`).
 #![tactic(auto)]
 
-mod bodies;
-mod context;
-mod indices;
-mod names;
-mod outside;
-mod rules;
-mod spaces;
-mod stack;
-mod table;
-mod valid;
 mod walk;
 
-pub use valid::{Valid, ValidateFault, validate};
+pub use validate_modules::{Valid, ValidateFault, validate};
 pub use walk::Typing;

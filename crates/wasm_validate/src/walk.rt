@@ -4,14 +4,13 @@ ghost use Rattle.wa_types.specs.Modules.{around, defined_at};
 ghost use Rattle.wa_types.specs.Syntax.{done, Func as PlainFunc};
 ghost use Rattle.wa_types.specs.Typing.{Takes, Types};
 ghost use Rattle.wa_types.specs.View.{func_type_of, in_front, module_of};
-ghost use Rattle.wasm_tree.specs.Kinds.{is_leaf};
-ghost use Rattle.wasm_validate.specs.Stack.{sig_of, tested};
-ghost use Rattle.wasm_validate.specs.Walk.{left_at, outset, own_at, under_at, CanTake, Inside, Stays, TypedAt};
+ghost use Rattle.validate_modules.specs.Kinds.{is_leaf};
+ghost use Rattle.validate_modules.specs.Table.{sig_of, tested};
+ghost use Rattle.validate_modules.specs.Walk.{left_at, outset, own_at, under_at, CanTake, Inside, Stays, TypedAt};
 
-use crate::table::{Asks, asks_at, listing};
-use crate::valid::Valid;
 use std::alloc::{AllocError, Global};
 use std::marker::Model;
+use validate_modules::{Asks, Valid, asks_at, listing};
 use wa_types::{FuncType, Instr, ValType};
 
 /// A walk of the types of operands over the pruned body of a function. Contracts see where it stands: what stands
@@ -28,7 +27,7 @@ pub struct Typing<'m> {
 
 impl<'m> Model for Typing<'m> {
     ghost use Rattle.std.specs.Prelude.{◌<◌, ◌≤◌, length};
-    ghost use Rattle.wasm_validate.specs.Walk.{standing, Walk};
+    ghost use Rattle.validate_modules.specs.Walk.{standing, Walk};
 
     ghost Value = { Walk };
 

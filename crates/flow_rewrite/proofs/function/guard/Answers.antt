@@ -1,6 +1,6 @@
 use Rattle.guard_form.specs.Bounds.{reads, reads_bound}
 use Rattle.guard_form.proofs.UnitCounts.{guarded_reads}
-use Rattle.std.proofs.Common.{◌≤◌, sym, subst, ap, ◌∙◌}
+use Rattle.std.proofs.Common.{◌≤◌, false, refl, sym, subst, ap, ◌∙◌}
 use Rattle.wa_types.specs.View.{code}
 use Rattle.wa_model.specs.FlatView.{flat_func_of, stmts}
 use Rattle.guard_form.specs.Guarded.{guarded_code}
@@ -11,16 +11,16 @@ use Rattle.flow_rewrite.proofs.function.guard.Goals as goal
 
 pub guarded_body-requires : goal.guarded_body-requires
 guarded_body-requires c = λ h.
-    let g : Guards = record { alloc = c.args.alloc; numbers = c.in_ok-from_slice.field-0; state = c.args.state; index = c.len.result } in
+    let g : Guards = record { alloc = c.args.alloc; numbers = c.in_ok-from_slice.field-0; state = c.args.state; index = c.len.result; alone = false } in
     let f = flat_func_of c.args.func.now in
     part_raisable g f c.in_ok-part.part (subst (λ xs. IsPart (indices g) g.numbers.items 0 0 0 (stmts xs) c.in_ok-part.part) c.deref.ensures.value c.in_ok-part.ensures)
     (func_ready g f (c.len.ensures ∙ c.args.func.now.locals.ok.0) (subst Rises (sym c.in_ok-from_slice.ensures.items) c.requires.rises) c.requires.fits c.requires.few) h
 
 pub returns-clause-body : goal.returns-clause-body
 returns-clause-body c =
-    let g : Guards = record { alloc = c.args.alloc; numbers = c.in_ok-from_slice.field-0; state = c.args.state; index = c.len.result } in
+    let g : Guards = record { alloc = c.args.alloc; numbers = c.in_ok-from_slice.field-0; state = c.args.state; index = c.len.result; alone = false } in
     let f = flat_func_of c.args.func.now in
-    whole_is g f c.in_ok-part.part (code c.in_ok-body.body.items) (c.len.ensures ∙ c.args.func.now.locals.ok.0)
+    whole_is g f c.in_ok-part.part (code c.in_ok-body.body.items) refl (c.len.ensures ∙ c.args.func.now.locals.ok.0)
     (subst (λ xs. IsPart (indices g) g.numbers.items 0 0 0 (stmts xs) c.in_ok-part.part) c.deref.ensures.value c.in_ok-part.ensures) c.in_ok-body.ensures
     ∙ ap (λ xs. guarded_code c.args.state xs f) c.in_ok-from_slice.ensures.items
 

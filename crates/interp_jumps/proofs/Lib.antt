@@ -1,0 +1,4 @@
+pub mod JumpLemmas
+pub mod NumberLemmas
+pub mod ReduceLemmas
+pub mod RoomKept

@@ -1,0 +1,3 @@
+pub mod StackRooms
+pub mod Stacks
+pub mod Told

@@ -1,0 +1,52 @@
+use Rattle.std.proofs.Common.{arith, ◌≡◌, ◌+◌, ◌-◌, ◌<◌, [], ◌∷◌, ◌++◌, length, map, reverse, take, drop, List, ap, sym, ◌∙◌, subst}
+use Rattle.std.proofs.lemmas.List.{length-reverse, length-map}
+use Rattle.wa_types.specs.Modules.{declared_locals}
+use Rattle.wa_types.specs.View.{code, func_of, module_of}
+use Rattle.wa_model.specs.Configuration as C
+use Rattle.wa_model.specs.Configuration.{Configuration, running, waiting}
+use Rattle.wa_model.specs.Step.{steps, asks, zero_of}
+use Rattle.interp_program.specs.Activation.{Activation}
+use Rattle.interp_program.specs.View.{label_of, waiting_of, running_of, taking}
+use Rattle.interp_program.proofs.OperandLemmas.{top_first}
+use Rattle.interp_reduce.proofs.CallLemmas.{asked_at, entered_at, entered_runs}
+use Rattle.interp_reduce.proofs.calls.invoke.Goals as goal
+
+pub returns-then-func-program-clause-tells : goal.returns-then-func-program-clause-tells
+returns-then-func-program-clause-tells c =
+    let m = module_of c.args.program.now.source.now in
+    let k = c.args.stack.now in
+    let ops = reverse k.here.operands.items in
+    λ s. (
+      asked_at m s k.here.func (map waiting_of (reverse k.under.items)) k.here.locals.items ops (code k.here.code.now) (map label_of (reverse k.here.labels.items)) c.args.own c.args.params c.args.func c.in_default.ensures (subst (λ i. c.args.func < i) c.args.program.now.imports_are c.if-func-program.true)
+          ∙ ap (λ p. asks c.args.params c.args.func (reverse (take p (drop c.args.own ops))) (taking (c.args.own + c.args.params) (running_of s k))) (let e : c.args.params ≡ c.args.own + c.args.params - c.args.own = omega arith in e),
+      omega arith,
+    )
+
+pub returns-clause-tells : goal.returns-clause-tells
+returns-clause-tells c =
+    let m = module_of c.args.program.now.source.now in
+    let k = c.args.stack.now in
+    let under = map waiting_of (reverse k.under.items) in
+    let ops = reverse k.here.operands.items in
+    let rest = code k.here.code.now in
+    let labels = map label_of (reverse k.here.labels.items) in
+    let f = func_of c.in-Some.callee.now in
+    let n = c.args.own + c.args.params in
+    let w = waiting k.here.func k.here.locals.items (drop n ops) (take n ops) rest labels in
+    let args = c.args_of-args.result.now in
+    let ls = args ++ map zero_of (declared_locals f.locals) in
+    let size = k.under.ok.0 in
+    let room : length under + 1 < 4096 = omega (arith, length-map (reverse k.under.items) waiting_of, length-reverse k.under.items) in
+    let locals = ap (λ v. v ++ map zero_of (declared_locals f.locals)) c.args_of-args.ensures in
+    let pushed = top_first c.push.new.self.items k.under.items _ c.in_ok-push.ensures.items in
+    λ s.
+    let here : Activation → List C.Activation → Configuration = λ h u. running s h.func u h.locals.items (reverse h.operands.items) (code h.code.now) (map label_of (reverse h.labels.items)) in
+    let after : running_of s (record { here = c.replace-caller.new.dest; under = c.push.new.self }) ≡ running s c.args.func (w ∷ under) ls [] f.body [] =
+    ap (λ u. here c.replace-caller.new.dest (map waiting_of u)) pushed
+    ∙ ap (λ a. here c.replace-caller.new.dest (waiting_of (record { activation = a; taken = n }) ∷ under)) c.replace-caller.ensures.value
+    ∙ ap (λ h. here h (w ∷ under)) c.replace-caller.ensures.after
+    ∙ entered_runs s c.in_ok-entered.entered c.args.func args f (w ∷ under) c.in_ok-entered.ensures.entered in (
+      entered_at m s k.here.func under k.here.locals.items ops rest labels c.args.own c.args.params c.args.func f ls c.in-Some.ensures room locals
+          ∙ ap (steps c.args.params) (sym after),
+      omega arith,
+    )

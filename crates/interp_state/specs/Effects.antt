@@ -1,0 +1,34 @@
+-- What an instruction that touches only its operands and the store does to all operands, topmost first.
+use Rattle.std.specs.Prelude.{◌≡◌, ℕ, List, ◌++◌, take, drop, Option}
+use Rattle.wa_types.specs.declared.values.Value.{Value}
+use Rattle.wa_types.specs.declared.values.Trap.{Trap}
+use Rattle.wa_types.specs.Syntax.{Basic}
+use Rattle.wa_model.specs.Store.{Store, Did, works, fails, lacks, takes, act}
+use Rattle.interp_state.specs.declared.flow.Flow.{Flow}
+use Rattle.interp_state.specs.declared.flow.Flow.TheVariants.{Moved, Trapped, Spent}
+
+pub data Effect : Type 0 where
+  worked : (store : Store) → (operands : List Value) → Effect
+  trapped : (trap : Trap) → Effect
+  nothing : Effect
+
+abbrev pub effect_over : List Value → Did → Effect
+effect_over below (works s results) = worked s (results ++ below)
+effect_over below (fails trap) = trapped trap
+effect_over below lacks = nothing
+
+-- the effect of an instruction on a store and all operands
+abbrev pub effect : Option ℕ → Basic → Store → List Value → Effect
+effect most b s ops = effect_over (drop (takes b) ops) (act most b s (take (takes b) ops))
+
+-- a reduction that costs 1 came to this effect, with this store and these operands behind it
+abbrev pub Shows : Effect → Flow → Store → List Value → Type 0
+Shows e (Moved more) s ops = (more ≡ 0) × (e ≡ worked s ops)
+Shows e (Trapped more trap) s ops = (more ≡ 0) × (e ≡ trapped trap)
+Shows e Spent s ops = e ≡ nothing
+Shows e _ s ops = ⊥
+
+-- a reduction that led to no next configuration
+abbrev pub Unmoved : Flow → Type 0
+Unmoved (Moved more) = ⊥
+Unmoved _ = Unit {0}

@@ -1,0 +1,34 @@
+-- What the validator's stack of operand types stands for.
+use Rattle.std.specs.Prelude.{◌≡◌, ℕ, ◌≤◌, List, reverse, length, take, drop, Option, Some, None, Bool, if◌then◌else◌}
+use Rattle.wa_types.specs.declared.values.ValType.{ValType}
+use Rattle.validate_bodies.specs.declared.stack.Operands.{Operands}
+use Rattle.validate_bodies.specs.Running.{Next, goes, stops}
+
+-- the operands of the innermost construct, the topmost first
+unfoldable pub known_at : ℕ → List (Option ValType) → List (Option ValType)
+known_at base xs = reverse (drop base xs)
+
+abbrev pub known : Operands → List (Option ValType)
+known o = known_at o.base o.types.items
+
+abbrev pub Deep : Operands → Type 0
+Deep o = o.base ≤ length o.types.items
+
+-- the operands of the other constructs stay
+pub record Level (a b : Operands) : Type 0 where
+  pub base : b.base ≡ a.base
+  pub kept : take a.base b.types.items ≡ take a.base a.types.items
+  pub deep : Deep b
+
+-- what is left where an operand was there
+abbrev pub popped : Bool → List (Option ValType) → Option (List (Option ValType))
+popped b os = if b then Some os else None
+
+abbrev pub passed : Bool → List (Option ValType) → Bool → Next
+passed b os free = if b then goes os free else stops 8
+
+-- what became of the operands: the next ones, or a rule that fails
+abbrev pub Applied : Next → Option ℕ → List (Option ValType) → Bool → Type 0
+Applied (goes os free) None os' free' = (os' ≡ os) × (free' ≡ free)
+Applied (stops r) (Some q) os' free' = q ≡ r
+Applied _ _ os' free' = ⊥

@@ -1,0 +1,178 @@
+ghost use Rattle.std.specs.Prelude.{◌≡◌, [], ◌∷◌, false, ◌+◌, ◌<◌, ◌^◌, reverse, List, IfOk};
+ghost use Rattle.wa_types.specs.declared.values.ValType.{ValType as ValTypeValue};
+ghost use Rattle.wa_types.specs.FirstFault.{size, mid};
+ghost use Rattle.wa_types.specs.Syntax.{Code, done};
+ghost use Rattle.wa_types.specs.Typing.{listed};
+ghost use Rattle.wa_types.specs.View.{code, in_front};
+ghost use Rattle.validate_bodies.specs.Judging.{Finds, Judged};
+ghost use Rattle.validate_bodies.specs.Running.{body_verdict, checks, fine};
+ghost use Rattle.validate_bodies.specs.Stack.{known, Deep, Level};
+
+use crate::stack::{Operands, apply, ends, pop, push_result};
+use std::alloc::{AllocError, AllocFailed, Global};
+use validate_table::{Context, asks_at};
+use wa_types::{Instr, ValType};
+
+/// Why a body wasn't found typed: the rule that fails first, and the number of the instruction, `else` or `end`
+/// where it fails.
+#[derive(Clone, Copy, Debug, PartialEq, Eq)]
+pub enum BodyFail {
+    Memory,
+    Invalid { rule: u8, at: u64 },
+}
+
+/// The same without the place, where the check stops: small enough to be handed up in a register.
+#[derive(Clone, Copy, Debug, PartialEq, Eq)]
+enum Flaw {
+    Memory,
+    Breaks(u8),
+}
+
+impl From<AllocError> for Flaw {
+    ghost use Rattle.std.specs.Prelude.{◌≡◌};
+    ghost use Rattle.validate_bodies.specs.declared.bodies.Flaw.TheVariants.{Memory};
+
+    ghost from_gives = { λ _ e. e ≡ Memory };
+
+    fn from(_error: AllocError) -> Flaw {
+        Flaw::Memory
+    }
+}
+
+impl From<AllocFailed<Option<ValType>>> for Flaw {
+    ghost use Rattle.std.specs.Prelude.{◌≡◌};
+    ghost use Rattle.validate_bodies.specs.declared.bodies.Flaw.TheVariants.{Memory};
+
+    ghost from_gives = { λ _ e. e ≡ Memory };
+
+    fn from(_error: AllocFailed<Option<ValType>>) -> Flaw {
+        Flaw::Memory
+    }
+}
+
+#[tactic(auto, using(validate_table::proofs::InstrKinds::middling))]
+fn middle(arm: &[Instr]) -> u64
+    ensures { result ≡ mid (code arm.now) }
+{
+    if arm.is_empty() { 0 } else { 1 }
+}
+
+// Checks the code of a construct, up to its end.
+#[cycle(check)]
+#[tactic(auto, using(crate::proofs::Trees::bodies))]
+fn check_body(
+    context: &Context<'_>,
+    labels: &mut Vec<Option<ValType>>,
+    o: &mut Operands,
+    body: &[Instr],
+    label: Option<ValType>,
+    gives: Option<ValType>,
+    at: &mut u64,
+) -> Result<(), Flaw>
+    requires deep { Deep o.old }
+    requires room { at.old + size (code body.now) < 2 ^ 64 }
+    ensures labels { IfOk result (λ _. labels.new.items ≡ labels.old.items) }
+    ensures level { IfOk result (λ _. Level o.old o.new) }
+    ensures free { IfOk result (λ _. o.new.free ≡ o.old.free) }
+    ensures known { IfOk result (λ _. known o.new ≡ known o.old) }
+    ensures place { IfOk result (λ _. at.new ≡ at.old + size (code body.now)) }
+    ensures judged { Judged result at.new (checks context.now (label ∷ reverse labels.old.items) (code body.now) (listed gives) [] false at.old) fine }
+{
+    let base = o.base;
+    let free = o.free;
+    let height = o.types.len();
+    labels.push(label)?;
+    o.base = height;
+    o.free = false;
+    for instr in body {
+        check_instr(context, labels, o, instr, at)?;
+    }
+    if !ends(o, gives) {
+        return Err(Flaw::Breaks(8));
+    }
+    o.base = base;
+    o.free = free;
+    let _ = labels.pop();
+    Ok(())
+}
+
+#[cycle(check)]
+#[tactic(auto, using(crate::proofs::Trees::instrs))]
+fn check_instr(
+    context: &Context<'_>,
+    labels: &mut Vec<Option<ValType>>,
+    o: &mut Operands,
+    instr: &Instr,
+    at: &mut u64,
+) -> Result<(), Flaw>
+    requires deep { Deep o.old }
+    requires room { at.old + size (in_front instr.now done) < 2 ^ 64 }
+    ensures labels { IfOk result (λ _. labels.new.items ≡ labels.old.items) }
+    ensures level { IfOk result (λ _. Level o.old o.new) }
+    ensures place { IfOk result (λ _. at.new ≡ at.old + size (in_front instr.now done)) }
+    ensures judged { (rest : Code) (outs : List ValType) → Judged result at.new (checks context.now (reverse labels.old.items) (in_front instr.now rest) outs (known o.old) o.old.free at.old) (checks context.now (reverse labels.old.items) rest outs (known o.new) o.new.free at.new) }
+{
+    match instr {
+        Instr::Block { result, body } => {
+            *at += 1;
+            check_body(context, labels, o, body, *result, *result, at)?;
+            *at += 1;
+            push_result(o, *result)?;
+            Ok(())
+        }
+        Instr::Loop { result, body } => {
+            *at += 1;
+            check_body(context, labels, o, body, None, *result, at)?;
+            *at += 1;
+            push_result(o, *result)?;
+            Ok(())
+        }
+        Instr::If {
+            result,
+            then_arm,
+            else_arm,
+        } => {
+            if !pop(o, ValType::I32) {
+                return Err(Flaw::Breaks(8));
+            }
+            *at += 1;
+            check_body(context, labels, o, then_arm, *result, *result, at)?;
+            *at += middle(else_arm);
+            check_body(context, labels, o, else_arm, *result, *result, at)?;
+            *at += 1;
+            push_result(o, *result)?;
+            Ok(())
+        }
+        _ => {
+            if let Some(rule) = apply(o, asks_at(context, labels, instr))? {
+                return Err(Flaw::Breaks(rule));
+            }
+            *at += 1;
+            Ok(())
+        }
+    }
+}
+
+/// Whether a body has its type; if not, its first fault. The stacks are emptied first, so that one pair of them serves
+/// all bodies.
+pub fn check_whole(
+    context: &Context<'_>,
+    labels: &mut Vec<Option<ValType>>,
+    o: &mut Operands,
+    body: &[Instr],
+) -> Result<(), BodyFail>
+    requires { size (code body.now) < 2 ^ 64 }
+    ensures { Finds result (body_verdict context.now (code body.now)) }
+{
+    labels.clear();
+    o.types.clear();
+    o.base = 0;
+    o.free = false;
+    let mut at = 0;
+    let result = context.result();
+    match check_body(context, labels, o, body, result, result, &mut at) {
+        Ok(()) => Ok(()),
+        Err(Flaw::Memory) => Err(BodyFail::Memory),
+        Err(Flaw::Breaks(rule)) => Err(BodyFail::Invalid { rule, at }),
+    }
+}

@@ -1,0 +1,4 @@
+pub mod ExpressionLemmas
+pub mod NameLemmas
+pub mod OrderedNames
+pub mod OutsideLemmas

@@ -1,0 +1,2 @@
+pub mod ContextLemmas
+pub mod SpaceLemmas

@@ -1,7 +1,0 @@
-use Rattle.std.proofs.Common.{◌≡◌, take, map}
-use Rattle.wa_types.specs.declared.syntax.Func.{Func}
-use Rattle.wasm_validate.specs.Spaces.{ends_of}
-use Rattle.wasm_validate.proofs.spaces.all_ends.Given as goal
-
-abbrev pub invariant-loop-func : goal.invariant-loop-func
-invariant-loop-func l = map (λ w. w.items) l.all.items ≡ map (λ (f : Func). ends_of f.locals.items) (take l.func-index l.funcs)
