@@ -103,7 +103,8 @@ fn put_stmt_rows(
         Stmt::Loop(body) => {
             let mut inner = copied(alloc, set)?;
             pass_stmt(alloc, tos, set, stmt)?;
-            tos.push(copied(alloc, set)?)?;
+            let head = copied(alloc, set)?;
+            tos.push(head)?;
             let first = put_body_rows(alloc, rows, numbers, last, tos, &mut inner, body)?;
             tos.pop();
             Ok(first)
