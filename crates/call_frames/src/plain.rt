@@ -1,12 +1,13 @@
 //! Laws of frames that are plain data. Each is the contract of a function that does nothing.
 
-ghost use Rattle.call_frames.specs.PlainLaws.{NamesCostLittle, PlainFieldsAt, PlainFramesCost, PlainFramesDepth, PlainFramesHold, PlainFramesSize, PlainFramesTell, PlainRestoreTyped, PlainSaveTyped};
+ghost use Rattle.call_frames.specs.PlainLaws.{DigitsAddUp, NamesCostLittle, PlainFieldsAt, PlainFramesCost, PlainFramesDepth, PlainFramesHold, PlainFramesSize, PlainFramesTell, PlainRestoreTyped, PlainSaveTyped};
 
 /// Frames that are told by numbers of calls have tests that tell, code that tells their sizes, and at each call the fields of the
-/// parts that name it.
+/// parts that name it. Sums of sizes are what their binary digits add up to.
 pub fn plain_frames_tell()
     ensures tell { PlainFramesTell }
     ensures fields { PlainFieldsAt }
+    ensures digits { DigitsAddUp }
 {}
 
 /// At each call both codes together cost at most what the tests do, 6 for each field that this call keeps, and 28; and tests cost
