@@ -48,7 +48,8 @@ holds_end sums bytes part named sizes h = record { size = h.size; within = h.wit
 -- .. of what one part adds
 pub holds_part : (sums : ℕ → ℕ) (bytes part : ℕ) (named : List ℕ) (sizes : List OwnSize) (ws : List WeighedCalls) → ws ≡ record { calls = named; bytes = bytes } ∷ []
     → HoldSums sums bytes part named sizes → Sums (λ k. sums k + weight_at k ws) part sizes
-holds_part sums bytes part named sizes ws e h = sums_same (λ k. sums k + (if is_one_of named k then bytes else 0)) (λ k. sums k + weight_at k ws) part sizes same (holds_end sums bytes part named sizes h)
+holds_part sums bytes part named sizes ws e h =
+    sums_same (λ k. sums k + (if is_one_of named k then bytes else 0)) (λ k. sums k + weight_at k ws) part sizes same (holds_end sums bytes part named sizes h)
   where
     same : (k : ℕ) → sums k + (if is_one_of named k then bytes else 0) ≡ sums k + weight_at k ws
     same k =

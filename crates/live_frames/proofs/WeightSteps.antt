@@ -76,5 +76,6 @@ pub added_same : (old new : List Instr) (index : ℕ) (ws all : List WeighedCall
 added_same old new index ws all e h rest = h rest ∙ ap (λ xs. onto old (weights_added index xs rest)) e
 
 -- one row of calls
-pub alone_put : (old new : List Instr) (index : ℕ) (ks : List ℕ) (w : WeighedCalls) → ks ≡ w.calls → Puts old new (λ c. at_calls index ks (weighed w.bytes c)) → Puts old new (weights_added index (w ∷ []))
+pub alone_put : (old new : List Instr) (index : ℕ) (ks : List ℕ) (w : WeighedCalls) → ks ≡ w.calls → Puts old new (λ c. at_calls index ks (weighed w.bytes c))
+    → Puts old new (weights_added index (w ∷ []))
 alone_put old new index ks w e h rest = h rest ∙ ap (λ xs. onto old (at_calls index xs (weighed w.bytes rest))) e
