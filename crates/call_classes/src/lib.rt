@@ -19,4 +19,5 @@ mod rows;
 pub use classing::saved_parts;
 pub use frames::{CallClass, FrameParts, KeptLocal, KeptPart};
 pub use laws::sets_are_framed;
+pub use measuring::row_size;
 pub use rows::{RowAt, row_at};

@@ -12,7 +12,7 @@ use crate::frames::{CallClass, KeptPart};
 use crate::rows::{RowAt, row_at};
 
 /// How many instructions the test of a row has.
-fn row_size(row: RowAt) -> u64
+pub fn row_size(row: RowAt) -> u64
     ensures size { result ≡ row_size (row_view row) }
     ensures few { result ≤ 5 }
 {

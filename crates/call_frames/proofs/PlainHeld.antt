@@ -18,10 +18,12 @@ use Rattle.frame_laws.specs.Layout.{FrameField, kept, gap, fields_size, stores, 
 use Rattle.call_frames.specs.CallTests.{CallRow, at_call, at_either, at_most, at_row, row_test}
 use Rattle.call_frames.specs.FrameParts.{shared_size, scratch_raised, scratch_lowered, parts_stored, parts_loaded, frame_stored_by_call, frame_loaded_by_call, location_lowered, saving_by_call, restoring_by_call}
 use Rattle.call_frames.specs.CallWords.{word_of, words_chosen, bit_taken, at_words}
-use Rattle.call_frames.specs.PlainFrames.{is_one_of, words_behind, by_words, calls_test, SavedPart, at_every, at_these, SavedParts, rows_of, or_rows, at_rows, at_calls, parts_of, weighed, sizes_added, frames_of}
+use Rattle.call_frames.specs.PlainFrames.{is_one_of, words_behind, by_words, calls_test, SavedPart, at_every, at_these, SavedParts, rows_of, or_rows, at_rows, at_calls, parts_of, weighed, frames_of}
+use Rattle.call_frames.specs.PlainFrames.{WeighedCalls, part_weights, own_weights, weights_added}
 use Rattle.call_frames.specs.PlainLaws.{FieldsSmall, NumbersSmall, PartsSmall, PlainSmall, PlainFramesDepth, PlainFramesHold}
 use Rattle.call_frames.proofs.PlainBounds.{behind_sizes, behind_parts, words_are_few}
-use Rattle.call_frames.proofs.PlainTold.{RowsSmall, rows_small}
+use Rattle.call_frames.proofs.PlainTold.{RowsSmall, calls_small, parts_named, rows_small}
+use Rattle.call_frames.proofs.PlaneSums.{shorter_named, shorter_small, WeightsNamed, WeightsSmall}
 use Rattle.call_frames.proofs.WordsTold.{word_small}
 
 -- A property of code that stays where one of these instructions is put in front.
@@ -36,6 +38,12 @@ pub record Stays (address : ℕ) (P : Code → Type 0) : Type 0 where
   pub global : (c : Code) → P c → P (plain (basic (global_get address)) c)
   pub stored : (t : ValType) (off : ℕ) (c : Code) → off < 2 ^ 32 → P c → P (stored_value t off c)
   pub loaded : (t : ValType) (off : ℕ) (c : Code) → off < 2 ^ 32 → P c → P (loaded_value t off c)
+
+-- the sizes of parts are in range
+parts_add : (n : ℕ) (ps : List SavedPart) → PartsSmall n ps → WeightsSmall (part_weights ps)
+parts_add n [] h = tt
+parts_add n (at_every fs ∷ ps) h = parts_add n ps h.1
+parts_add n (at_these ks fs ∷ ps) h = let room = h.2 in (omega (arith, room), parts_add n ps h.3)
 
 -- Of code with branches that has P, the arms have A.
 module _ (f : SavedParts) (small : PlainSmall f) where
@@ -129,16 +137,13 @@ module _ (f : SavedParts) (small : PlainSmall f) where
 
   module _ (P A : Code → Type 0) (stays : Stays f.address P) (inside : Stays f.address A) (empty : A done) (stop : A (plain unreachable done))
       (branches : (a c : Code) → A a → P c → P (branch None a done c)) where
-    added_has : (ps : List SavedPart) (c : Code) → PartsSmall shared ps → P c → P (sizes_added f.index ps c)
-    added_has [] c lt h = h
-    added_has (at_every fs ∷ ps) c lt h = added_has ps c lt.1 h
-    added_has (at_these ks fs ∷ ps) c lt h =
-        let room = lt.2 in
-        let w = fields_size fs in
-        let rest : Code = sizes_added f.index ps c in
+    added_has : (ws : List WeighedCalls) (c : Code) → WeightsNamed ws → WeightsSmall ws → P c → P (weights_added f.index ws c)
+    added_has [] c named lt h = h
+    added_has (w ∷ ws) c named lt h =
+        let rest : Code = weights_added f.index ws c in
         let r2 : Code = plain (basic (num I32Add)) rest in
-        test_has P stays ks (weighed w rest) lt.0
-        (stays.number w (plain (basic (num I32Mul)) r2) (omega arith) (stays.operator I32Mul r2 (stays.operator I32Add rest (added_has ps c lt.3 h))))
+        test_has P stays w.calls (weighed w.bytes rest) named.0
+        (stays.number w.bytes (plain (basic (num I32Mul)) r2) lt.0 (stays.operator I32Mul r2 (stays.operator I32Add rest (added_has ws c named.1 lt.1 h))))
 
     stored_has : (off : ℕ) (ps : List SavedPart) (c : Code) → PartsSmall shared ps → off + shared_size (parts_of f.index ps) ≤ shared → P c
         → P (parts_stored f.scratch off (parts_of f.index ps) c)
@@ -190,8 +195,10 @@ module _ (f : SavedParts) (small : PlainSmall f) where
         let h4 = stays.operator I32GtU r4 (branches (plain unreachable done) stored stop p) in
         let h2 = location_has P stays r1 (stays.tee f.scratch r2 small.scratch (stays.operator I32Sub r3 h4)) in
         let room = stays.global (loaded_value I32 4 r0) (stays.loaded I32 4 r0 (omega arith) h2) in
-        let sized = added_has f.parts (behind_sizes f done) small.parts room in
-        stays.number (shared + 4) (sizes_added f.index f.parts (behind_sizes f done)) few sized
+        let ws = own_weights f.parts in
+        let named = shorter_named (part_weights f.parts) (parts_named f.parts (calls_small shared f.parts small.parts)) in
+        let sized = added_has ws (behind_sizes f done) named (shorter_small (part_weights f.parts) (parts_add shared f.parts small.parts)) room in
+        stays.number (shared + 4) (weights_added f.index ws (behind_sizes f done)) few sized
 
     pub restoring_has : P done → P (restoring_by_call (frames_of f) done)
     restoring_has h =

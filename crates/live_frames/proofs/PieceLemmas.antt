@@ -10,7 +10,7 @@ use Rattle.local_spill.specs.Spilling.{stored_value, loaded_value}
 use Rattle.frame_laws.specs.Layout.{FrameField, kept, gap, fields_size, stores, loads}
 use Rattle.call_frames.specs.CallTests.{CallRow, at_either, at_row}
 use Rattle.call_frames.specs.FrameParts.{parts_stored, parts_loaded, scratch_raised, scratch_lowered, shared_size}
-use Rattle.call_frames.specs.PlainFrames.{SavedPart, at_every, at_these, or_rows, at_calls, parts_of, weighed, sizes_added}
+use Rattle.call_frames.specs.PlainFrames.{SavedPart, at_every, at_these, or_rows, at_calls, parts_of}
 use Rattle.call_frames.proofs.FieldRows.{join_size}
 use Rattle.call_classes.specs.declared.frames.KeptLocal.{KeptLocal}
 use Rattle.call_classes.specs.declared.frames.KeptPart.{KeptPart}
@@ -136,11 +136,6 @@ every_few fields le = let l = length-map fields kept_field in omega (arith, l, l
 
 -- ---- one more part
 
-added_behind : (index : ℕ) (ps : List SavedPart) (p : SavedPart) (c : Code) → sizes_added index (ps ++ p ∷ []) c ≡ sizes_added index ps (sizes_added index (p ∷ []) c)
-added_behind index [] p c = refl
-added_behind index (at_every fs ∷ ps) p c = added_behind index ps p c
-added_behind index (at_these ks fs ∷ ps) p c = ap (λ z. at_calls index ks (weighed (fields_size fs) z)) (added_behind index ps p c)
-
 stored_behind : (index sp off : ℕ) (ps : List SavedPart) (p : SavedPart) (c : Code)
     → parts_stored sp off (parts_of index (ps ++ p ∷ [])) c ≡ parts_stored sp off (parts_of index ps) (parts_stored sp (off + shared_bytes index ps) (parts_of index (p ∷ [])) c)
 stored_behind index sp off [] p c = let z : off ≡ off + 0 = omega arith in ap (λ n. parts_stored sp n (parts_of index (p ∷ [])) c) z
@@ -158,10 +153,6 @@ loaded_front index sp off (at_every fs) ps c =
 loaded_front index sp off (at_these ks fs) ps c =
     let z : off + 0 ≡ off = omega arith in
     ap (λ n. parts_loaded sp n (parts_of index ps) (at_calls index ks (branch None (scratch_lowered sp (fields_size fs) (loads sp off fs done)) done c))) z
-
-pub part_added : (index : ℕ) (xs : List KeptPart) (i : ℕ) (d : KeptPart) (c : Code) → i < length xs
-    → sizes_added index (part_views (take i xs)) (sizes_added index (part_view (get_or xs i d) ∷ []) c) ≡ sizes_added index (part_views (take (i + 1) xs)) c
-part_added index xs i d c lt = sym (added_behind index (part_views (take i xs)) (part_view (get_or xs i d)) c) ∙ ap (λ ps. sizes_added index ps c) (sym (map_more part_view xs i d lt))
 
 module _ (index sp : ℕ) (xs : List KeptPart) (i : ℕ) (d : KeptPart) (lt : i < length xs) where
   pub part_stored : (o : ℕ) (c : Code) → o ≡ shared_bytes index (part_views (take i xs))

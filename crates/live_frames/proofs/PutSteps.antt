@@ -11,12 +11,12 @@ use Rattle.local_spill.specs.Spilling.{stored_value, loaded_value}
 use Rattle.frame_laws.specs.Layout.{fields_size, stores, loads}
 use Rattle.call_frames.specs.CallTests.{CallRow, at_row, row_test}
 use Rattle.call_frames.specs.FrameParts.{parts_stored, parts_loaded}
-use Rattle.call_frames.specs.PlainFrames.{SavedPart, rows_of, at_rows, parts_of, sizes_added}
+use Rattle.call_frames.specs.PlainFrames.{SavedPart, rows_of, at_rows, parts_of}
 use Rattle.call_classes.specs.declared.frames.KeptLocal.{KeptLocal}
 use Rattle.call_classes.specs.declared.frames.KeptPart.{KeptPart}
 use Rattle.live_frames.specs.Putting.{rows_joined}
 use Rattle.call_classes.specs.Views.{fields_of, part_view, part_views}
-use Rattle.live_frames.proofs.PieceLemmas.{stored_more, loaded_more, joined_is, shared_bytes, part_added, part_stored, part_loaded}
+use Rattle.live_frames.proofs.PieceLemmas.{stored_more, loaded_more, joined_is, shared_bytes, part_stored, part_loaded}
 
 -- what is put, told otherwise
 pub put_same : {X : Type 0} (old new : List Instr) (f : X → Code → Code) (x y : X) → x ≡ y → Puts old new (f x) → Puts old new (f y)
@@ -84,10 +84,6 @@ none_put old new index (k ∷ ks) e h rest = absurd (omega (arith, e))
 
 -- ---- parts
 
-pub added_step : (old mid new : List Instr) (index : ℕ) (xs : List KeptPart) (i : ℕ) (d : KeptPart) → i < length xs → Puts old mid (sizes_added index (part_views (take i xs)))
-    → Puts mid new (sizes_added index (part_view (get_or xs i d) ∷ [])) → Puts old new (sizes_added index (part_views (take (i + 1) xs)))
-added_step old mid new index xs i d lt h k rest = k rest ∙ h (sizes_added index (part_view (get_or xs i d) ∷ []) rest) ∙ ap (onto old) (part_added index xs i d rest lt)
-
 module _ (old mid new : List Instr) (index sp : ℕ) (xs : List KeptPart) (i : ℕ) (d : KeptPart) (lt : i < length xs) where
   pub part_stored_step : (o : ℕ) → o ≡ shared_bytes index (part_views (take i xs)) → Puts old mid (parts_stored sp 0 (parts_of index (part_views (take i xs))))
       → Puts mid new (parts_stored sp o (parts_of index (part_view (get_or xs i d) ∷ []))) → Puts old new (parts_stored sp 0 (parts_of index (part_views (take (i + 1) xs))))
@@ -98,10 +94,6 @@ module _ (old mid new : List Instr) (index sp : ℕ) (xs : List KeptPart) (i : �
   part_loaded_step off o e h k rest = k rest ∙ h (parts_loaded sp off (parts_of index (part_view (get_or xs i d) ∷ [])) rest) ∙ ap (onto old) (part_loaded index sp xs i d lt off o rest e)
 
 -- all parts
-pub added_end : (old new : List Instr) (index : ℕ) (xs : List KeptPart) (i : ℕ) → length xs ≤ i → Puts old new (sizes_added index (part_views (take i xs)))
-    → Puts old new (sizes_added index (part_views xs))
-added_end old new index xs i le h rest = h rest ∙ ap (λ ys. onto old (sizes_added index (part_views ys) rest)) (take_all i xs le)
-
 module _ (old new : List Instr) (index sp : ℕ) (xs : List KeptPart) (i : ℕ) (le : length xs ≤ i) where
   pub part_stored_end : Puts old new (parts_stored sp 0 (parts_of index (part_views (take i xs)))) → Puts old new (parts_stored sp 0 (parts_of index (part_views xs)))
   part_stored_end h rest = h rest ∙ ap (λ ys. onto old (parts_stored sp 0 (parts_of index (part_views ys)) rest)) (take_all i xs le)

@@ -25,7 +25,7 @@ fn past(call: u32, end: u64) -> u64
 }
 
 /// The least number above all of these.
-fn calls_end(calls: &[u32]) -> u64
+pub(crate) fn calls_end(calls: &[u32]) -> u64
     ensures end { result ≡ calls_end calls.now }
     ensures small { result ≤ 4294967296 }
 {

@@ -2,7 +2,7 @@ use Rattle.std.proofs.Common.{◌+◌, ap, ◌∙◌}
 use Rattle.wa_types.specs.declared.values.Value.TheVariants as V
 use Rattle.wa_types.specs.Syntax.{const, basic, plain}
 use Rattle.call_frames.specs.FrameParts.{parts_stored}
-use Rattle.call_frames.specs.PlainFrames.{parts_of, sizes_added}
+use Rattle.call_frames.specs.PlainFrames.{own_weights, parts_of, weights_added}
 use Rattle.local_spill.proofs.PutLemmas.{put_first, put_on}
 use Rattle.call_classes.specs.Views.{part_views}
 use Rattle.live_frames.proofs.PieceLemmas.{shared_bytes}
@@ -15,7 +15,7 @@ returns c count rest =
     let base = c.args.base in
     let sp = base + 1 in
     let size = c.shared_of-shared.ensures.size base ∙ ap (λ ps. shared_bytes base (part_views ps)) c.deref.ensures.value in
-    let sizes = put_same _ _ (λ ps next. plain (basic (const (V.I32 (c.shared_of-shared.result + 4)))) (sizes_added base (part_views ps) next)) _ _
+    let sizes = put_same _ _ (λ ps next. plain (basic (const (V.I32 (c.shared_of-shared.result + 4)))) (weights_added base (own_weights (part_views ps)) next)) _ _
     c.deref-2.ensures.value c.in_ok-put_size.ensures in
     let parts = put_same _ _ (λ ps. parts_stored sp 0 (parts_of base (part_views ps))) _ _ c.deref-3.ensures.value c.in_ok-put_parts_stored.ensures in
     put_first _ _ _ c.new-out.ensures.items
