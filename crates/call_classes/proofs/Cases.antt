@@ -1,10 +1,10 @@
 -- Parts of a few functions, as the definitions compute them.
-use Rattle.std.proofs.Common.{◌≡◌, List, [], ◌∷◌, refl}
+use Rattle.std.proofs.Common.{◌≡◌, List, [], ◌∷◌, false, refl}
 use Rattle.wa_types.specs.declared.values.ValType.{ValType}
 use Rattle.wa_types.specs.declared.values.ValType.TheVariants.{I32, I64}
 use Rattle.call_frames.specs.Layout.{FrameField, kept}
 use Rattle.call_frames.specs.PlainFrames.{at_every, at_these}
-use Rattle.call_classes.specs.CallParts.{call_parts}
+use Rattle.call_classes.specs.CallParts.{are_better, groups, tests_most}
 
 abbrev a : FrameField
 a = kept 0 I32
@@ -22,22 +22,18 @@ abbrev types : List ValType
 types = I32 ∷ I64 ∷ I32 ∷ I64 ∷ []
 
 -- all calls keep the same
-shared : call_parts types ((a ∷ c ∷ []) ∷ (a ∷ c ∷ []) ∷ []) ≡ at_every (a ∷ c ∷ []) ∷ []
-unfolding call_parts
+shared : groups types ((a ∷ c ∷ []) ∷ (a ∷ c ∷ []) ∷ []) ≡ at_every (a ∷ c ∷ []) ∷ []
 shared = refl
 
 -- the second call keeps two locals more, which are a group
-two_more : call_parts types ((c ∷ []) ∷ (a ∷ b ∷ c ∷ []) ∷ []) ≡ at_these (1 ∷ []) (a ∷ b ∷ []) ∷ at_every (c ∷ []) ∷ []
-unfolding call_parts
+two_more : groups types ((c ∷ []) ∷ (a ∷ b ∷ c ∷ []) ∷ []) ≡ at_these (1 ∷ []) (a ∷ b ∷ []) ∷ at_every (c ∷ []) ∷ []
 two_more = refl
 
--- four groups, but three classes, which are shorter
-classes : call_parts types ((a ∷ b ∷ []) ∷ (c ∷ []) ∷ (a ∷ d ∷ []) ∷ [])
-    ≡ at_these (0 ∷ []) (a ∷ b ∷ []) ∷ at_these (1 ∷ []) (c ∷ []) ∷ at_these (2 ∷ []) (a ∷ d ∷ []) ∷ []
-unfolding call_parts
-classes = refl
-
 -- a call that keeps nothing is in no part
-nothing : call_parts types ([] ∷ (b ∷ []) ∷ []) ≡ at_these (1 ∷ []) (b ∷ []) ∷ []
-unfolding call_parts
+nothing : groups types ([] ∷ (b ∷ []) ∷ []) ≡ at_these (1 ∷ []) (b ∷ []) ∷ []
 nothing = refl
+
+-- four groups, but three classes, which are shorter
+classes : are_better (tests_most 4 3) (groups types ((a ∷ b ∷ []) ∷ (c ∷ []) ∷ (a ∷ d ∷ []) ∷ []))
+    (at_these (0 ∷ []) (a ∷ b ∷ []) ∷ at_these (1 ∷ []) (c ∷ []) ∷ at_these (2 ∷ []) (a ∷ d ∷ []) ∷ []) ≡ false
+classes = refl

@@ -14,7 +14,7 @@ use Rattle.call_classes.specs.CallParts.{keeps, keepers, same_calls, with_field,
 use Rattle.call_classes.specs.Classes.{AllAre, AllShared, NumbersBelow, FewFields, FewParts, KeepByClasses, KeepCheaply, KeepSets, named_length, part_fields, shared_fields}
 use Rattle.call_classes.specs.Views.{class_part, class_parts, fields_in, kept_field, kept_total, kept_where}
 use Rattle.call_classes.proofs.GroupLemmas.{AreGroups, Rows, fields_where, groups_fields, grouped_groups, keepers_few, row_fields, shared_below, shared_named, shared_same}
-use Rattle.call_classes.proofs.PartLemmas.{Sized, both_true, join_true}
+use Rattle.call_classes.proofs.SizedSets.{Sized, both_true, join_true}
 
 -- ---- groups keep the sets
 

@@ -6,17 +6,16 @@ use Rattle.std.proofs.lemmas.List.{length-map}
 use Rattle.wa_types.specs.declared.values.ValType.{ValType}
 use Rattle.call_classes.specs.declared.frames.CallClass.{CallClass}
 use Rattle.call_classes.specs.declared.frames.KeptPart.{KeptPart}
-use Rattle.call_classes.specs.CallParts.{are_better, better_parts, call_parts, classed, grouped, groups, kept_by_sets, parts_length, shared_where, tests_most}
+use Rattle.call_classes.specs.CallParts.{are_better, better_parts, grouped, groups, kept_by_sets, parts_length, shared_where, tests_most}
 use Rattle.call_classes.specs.Classes.{AllAre, AllShared, FewFields, FewParts, KeepByClasses, KeepCheaply}
 use Rattle.call_classes.specs.Views.{class_parts, fields_in, part_views, sets_of}
 use Rattle.call_classes.proofs.ChoiceLemmas.{chosen_alike, chosen_keep, classes_few, groups_few, groups_short, named_most, total_short}
 use Rattle.call_classes.proofs.GroupLemmas.{Rows}
-use Rattle.call_classes.proofs.PartLemmas.{sets_sized}
+use Rattle.call_classes.proofs.SizedSets.{sets_sized}
 
 -- groups and classes of the calls of these sets
 pub record AreMade (types : List ValType) (sets : List (Vec Bool Global)) (made_groups made_classes : List KeptPart) : Type 0 where
   pub groups_are : part_views made_groups ≡ groups types (kept_by_sets types (sets_of sets))
-  pub classes_are : part_views made_classes ≡ classed 0 (kept_by_sets types (sets_of sets)) []
   pub keep : KeepByClasses types (sets_of sets) (part_views made_classes)
   pub few : FewParts (part_views made_classes)
 
@@ -34,11 +33,9 @@ module _ (types : List ValType) (sets : List (Vec Bool Global)) where
   rows_many = length-map (sets_of sets) (λ (s : List Bool). fields_in 0 s types) ∙ length-map sets (λ (s : Vec Bool Global). s.items)
 
   pub are_made : (gs cs : List KeptPart) (raw classes : List CallClass) → part_views gs ≡ map (shared_where (length sets)) (class_parts raw)
-      → class_parts raw ≡ grouped 0 types rows [] → part_views cs ≡ class_parts classes → class_parts classes ≡ classed 0 rows []
-      → KeepByClasses types (sets_of sets) (class_parts classes) → FewFields classes → AreMade types sets gs cs
-  are_made gs cs raw classes eg er ec es keep few = record {
+      → class_parts raw ≡ grouped 0 types rows [] → part_views cs ≡ class_parts classes → KeepByClasses types (sets_of sets) (class_parts classes) → FewFields classes → AreMade types sets gs cs
+  are_made gs cs raw classes eg er ec keep few = record {
     groups_are = eg ∙ ap (map (shared_where (length sets))) er ∙ ap (λ n. map (shared_where n) (grouped 0 types rows [])) (sym rows_many);
-    classes_are = ec ∙ es;
     keep = subst (KeepByClasses types (sets_of sets)) (sym ec) keep;
     few = subst FewParts (sym ec) (classes_few classes few);
   }
@@ -89,13 +86,6 @@ module _ (types : List ValType) (sets : List (Vec Bool Global)) where
       taken_alike set some h =
           let m = sets_many in
           subst AllShared (sym taken_sets) (chosen_alike types (sets_of sets) (sets_sized types sets sized) (part_views cs) made.keep set (omega (arith, m, some)) h)
-
-      pub taken_parts : part_views (taken b) ≡ call_parts types rows
-      unfolding call_parts
-      taken_parts =
-          let m = rows_many in
-          let e : most ≡ tests_most (length types) (length rows) = omega (arith, m) in
-          taken_are ∙ ap (λ n. better_parts n (groups types rows) (part_views cs)) e ∙ ap (better_parts (tests_most (length types) (length rows)) (groups types rows)) made.classes_are
 
       pub taken_few : FewParts (part_views (taken b))
       taken_few = by b

@@ -1,5 +1,5 @@
 -- Classes that keep the sets of calls, with one more call.
-use Rattle.std.proofs.Common.{inr, inl, ◌≡◌, ℕ, zero, suc, ◌+◌, ◌<◌, ◌≤◌, ◌⊎◌, List, [], ◌∷◌, ◌++◌, length, get_or, Bool, true, false, nat_eq, refl, sym, ap, ◌∙◌, subst, arith, ⊎_elim, eq-eqb, length-append}
+use Rattle.std.proofs.Common.{◌≡◌, ℕ, zero, suc, ◌+◌, ◌<◌, ◌≤◌, ◌⊎◌, List, [], ◌∷◌, ◌++◌, length, get_or, Bool, true, false, nat_eq, refl, sym, ap, ◌∙◌, subst, arith, ⊎_elim, eq-eqb, length-append}
 use Rattle.std.specs.Prelude.{◌||◌, if◌then◌else◌}
 use Rattle.std.proofs.lemmas.Bool.{ne_eqb}
 use Rattle.std.proofs.lemmas.List.{append-nil, append_assoc, get_or_append_left, get_or_at}
@@ -127,16 +127,6 @@ has_with (suc c) n zero (at_these ks fs ∷ ps) gs h = h
 has_with (suc c) n (suc m) (at_every fs ∷ ps) gs h = has_with c n m ps gs h
 has_with (suc c) n (suc m) (at_these ks fs ∷ ps) gs h = has_with c n m ps gs h
 
-pub has_back : (c n m : ℕ) (ps : List SavedPart) (gs : List FrameField) → HasFields m (with_call c n ps) gs → HasFields m ps gs
-has_back c n m [] gs h = h
-has_back zero n m (at_every fs ∷ ps) gs h = h
-has_back zero n zero (at_these ks fs ∷ ps) gs h = h
-has_back zero n (suc m) (at_these ks fs ∷ ps) gs h = h
-has_back (suc c) n zero (at_every fs ∷ ps) gs h = h
-has_back (suc c) n zero (at_these ks fs ∷ ps) gs h = h
-has_back (suc c) n (suc m) (at_every fs ∷ ps) gs h = has_back c n m ps gs h
-has_back (suc c) n (suc m) (at_these ks fs ∷ ps) gs h = has_back c n m ps gs h
-
 pub has_some : (c : ℕ) (ps : List SavedPart) (gs : List FrameField) → HasFields c ps gs → 1 ≤ kept_count gs
 has_some c [] gs h = absurd h
 has_some zero (at_every fs ∷ ps) gs h = absurd h
@@ -184,15 +174,6 @@ pub has_last : (ps : List SavedPart) (ks : List ℕ) (fs gs : List FrameField) �
 has_last [] ks fs gs e le = (e, le)
 has_last (at_every f ∷ ps) ks fs gs e le = has_last ps ks fs gs e le
 has_last (at_these j f ∷ ps) ks fs gs e le = has_last ps ks fs gs e le
-
--- one of the parts before, or the last one
-pub has_split : (m : ℕ) (ps : List SavedPart) (ks : List ℕ) (fs gs : List FrameField) → HasFields m (ps ++ at_these ks fs ∷ []) gs → HasFields m ps gs ⊎ ((m ≡ length ps) × (fs ≡ gs))
-has_split zero [] ks fs gs h = inr (refl, h.0)
-has_split (suc m) [] ks fs gs h = absurd h
-has_split zero (at_every f ∷ ps) ks fs gs h = absurd h
-has_split zero (at_these j f ∷ ps) ks fs gs h = inl h
-has_split (suc m) (at_every f ∷ ps) ks fs gs h = ⊎_elim (λ a. inl a) (λ b. inr (ap suc b.0, b.1)) (has_split m ps ks fs gs h)
-has_split (suc m) (at_these j f ∷ ps) ks fs gs h = ⊎_elim (λ a. inl a) (λ b. inr (ap suc b.0, b.1)) (has_split m ps ks fs gs h)
 
 -- ---- sets
 

@@ -16,7 +16,7 @@ use Rattle.call_classes.specs.Classes.{set_keepers}
 use Rattle.call_classes.specs.Views.{class_part, class_parts, fields_in, fields_of, part_view, part_views, sets_of}
 use Rattle.call_classes.proofs.FoundClasses.{all_kept}
 use Rattle.call_classes.proofs.GroupLemmas.{Rows, keeps_in}
-use Rattle.call_classes.proofs.PartLemmas.{Sized}
+use Rattle.call_classes.proofs.SizedSets.{Sized}
 
 -- ---- the calls that keep a local
 

@@ -6,6 +6,5 @@ pub mod FoundClasses
 pub mod FramedSets
 pub mod GroupLemmas
 pub mod GroupSteps
-pub mod IndexLemmas
-pub mod PartLemmas
+pub mod SizedSets
 pub mod RowLemmas

@@ -1,39 +1,11 @@
--- The parts of the frames of calls, from what each call keeps.
+-- Parts of the frames of calls, from what each call keeps: locals in groups, and when these are taken rather than classes of calls.
 use Rattle.std.specs.Prelude.{ℕ, suc, ◌+◌, ◌*◌, ◌++◌, ◌&&◌, ◌||◌, List, [], ◌∷◌, length, map, Bool, false, nat_eq, nat_le, if◌then◌else◌}
 use Rattle.std.specs.Cmp.Lexicographic.{pointwise}
 use Rattle.wa_types.specs.declared.values.ValType.{ValType}
-use Rattle.wa_types.specs.Encoding.{same_type}
 use Rattle.call_frames.specs.Layout.{FrameField, kept, gap}
 use Rattle.call_frames.specs.PlainFrames.{SavedPart, at_every, at_these}
 use Rattle.call_frames.specs.PlainLaws.{tests_cost, sizes_size, parts_size}
 use Rattle.call_classes.specs.Views.{fields_in}
-
--- ---- classes: calls that keep the same
-
-abbrev pub equal_field : FrameField → FrameField → Bool
-equal_field (kept x t) (kept y u) = nat_eq x y && same_type t u
-equal_field (gap t) (gap u) = same_type t u
-equal_field (kept x t) (gap u) = false
-equal_field (gap t) (kept y u) = false
-
-abbrev pub equal_fields : List FrameField → List FrameField → Bool
-equal_fields fs gs = pointwise equal_field fs gs
-
--- the call joins the part that has its fields, or has a part of its own behind the others
-abbrev pub with_part : (call : ℕ) → (fields : List FrameField) → List SavedPart → List SavedPart
-with_part call fs [] = at_these (call ∷ []) fs ∷ []
-with_part call fs (at_every gs ∷ ps) = at_every gs ∷ with_part call fs ps
-with_part call fs (at_these ks gs ∷ ps) = if equal_fields gs fs then at_these (ks ++ call ∷ []) gs ∷ ps else at_these ks gs ∷ with_part call fs ps
-
--- a call that keeps nothing is in none
-abbrev pub joined : (call : ℕ) → (fields : List FrameField) → List SavedPart → List SavedPart
-joined call [] ps = ps
-joined call (f ∷ fs) ps = with_part call (f ∷ fs) ps
-
--- Parts, and those of the calls from this number on: calls that keep the same are a part, in the order of their first calls.
-abbrev pub classed : (call : ℕ) → (kept_by : List (List FrameField)) → List SavedPart → List SavedPart
-classed call [] ps = ps
-classed call (fs ∷ rest) ps = classed (suc call) rest (joined call fs ps)
 
 -- ---- groups: locals that the same calls keep
 
@@ -96,10 +68,6 @@ better_parts most gs cs = if are_better most gs cs then gs else cs
 -- what tests may cost: 27 for each local and each call
 abbrev pub tests_most : (locals calls : ℕ) → ℕ
 tests_most locals calls = 27 * (locals + calls)
-
--- The parts of the frames of a function with locals of these types, whose calls keep these fields, call by call.
-unfoldable pub call_parts : List ValType → (kept_by : List (List FrameField)) → List SavedPart
-call_parts types rows = better_parts (tests_most (length types) (length rows)) (groups types rows) (classed 0 rows [])
 
 -- the fields of sets
 abbrev pub kept_by_sets : List ValType → List (List Bool) → List (List FrameField)

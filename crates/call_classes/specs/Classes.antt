@@ -8,7 +8,7 @@ use Rattle.wa_types.specs.declared.values.ValType.{ValType}
 use Rattle.call_frames.specs.Layout.{FrameField, kept_count}
 use Rattle.call_frames.specs.PlainFrames.{SavedPart, at_every, at_these, call_fields}
 use Rattle.call_frames.specs.PlainLaws.{NameCalls, named_calls, tests_cost}
-use Rattle.call_classes.specs.CallParts.{joined, parts_length, tests_most}
+use Rattle.call_classes.specs.CallParts.{parts_length, tests_most}
 use Rattle.call_classes.specs.declared.frames.CallClass.{CallClass}
 use Rattle.call_classes.specs.Views.{fields_in, kept_total}
 
@@ -90,28 +90,14 @@ found_at found q = get_by (λ (k : Bor (List Bool)). slice_cmp bool_cmp q.now k.
 abbrev pub Finds : List ValType → BTreeMap (Bor (List Bool)) ℕ → List SavedPart → Type 0
 Finds types found ps = (q : Bor (List Bool)) (n : ℕ) → found_at found q ≡ Some n → HasFields n ps (fields_in 0 q.now types)
 
--- .. and each part is found by its set
-abbrev pub FindsAll : List ValType → BTreeMap (Bor (List Bool)) ℕ → List SavedPart → Type 0
-FindsAll types found ps = (q : Bor (List Bool)) (n : ℕ) → length q.now ≡ length types → HasFields n ps (fields_in 0 q.now types) → found_at found q ≡ Some n
-
--- no two parts have the same fields
-abbrev pub AreApart : List SavedPart → Type 0
-AreApart ps = (n m : ℕ) (gs : List FrameField) → HasFields n ps gs → HasFields m ps gs → n ≡ m
-
-pub record IsIndex (types : List ValType) (found : BTreeMap (Bor (List Bool)) ℕ) (ps : List SavedPart) : Type 0 where
-  pub finds : Finds types found ps
-  pub all : FindsAll types found ps
-  pub apart : AreApart ps
-
 -- These parts keep one set more, that of the next call.
 abbrev pub KeepsMore : List ValType → (call : ℕ) → (set : List Bool) → (old new : List SavedPart) → Type 0
 KeepsMore types call set old new = (sets : List (List Bool)) → length sets ≡ call → KeepByClasses types sets old → KeepByClasses types (sets ++ set ∷ []) new
 
--- .. and are found; the call has joined them
-pub record FindsMore (types : List ValType) (call : ℕ) (set : List Bool) (found_before found_now : BTreeMap (Bor (List Bool)) ℕ) (old new : List SavedPart) : Type 0 where
-  pub index : IsIndex types found_now new
+-- .. and are found
+pub record FindsMore (types : List ValType) (call : ℕ) (set : List Bool) (found_now : BTreeMap (Bor (List Bool)) ℕ) (old new : List SavedPart) : Type 0 where
+  pub index : Finds types found_now new
   pub keeps : KeepsMore types call set old new
-  pub joins : new ≡ joined call (fields_in 0 set types) old
 
 -- ---- sizes
 

@@ -2,7 +2,6 @@
 
 ghost use Rattle.std.specs.Prelude.{◌≡◌, ◌≤◌, ◌<◌, ◌^◌, All, List, length, IfOk, Vec, Bool};
 ghost use Rattle.std.specs.declared.alloc.Global.{Global as AGlobal};
-ghost use Rattle.call_classes.specs.CallParts.{call_parts, kept_by_sets};
 ghost use Rattle.call_classes.specs.Classes.{AllAre, AllShared, FewParts, KeepCheaply};
 ghost use Rattle.call_classes.specs.Views.{parts_view, sets_of};
 
@@ -27,7 +26,6 @@ pub fn saved_parts(
     requires calls { length sets.now < 2 ^ 32 }
     ensures keep { IfOk result (λ p. KeepCheaply types.now (sets_of sets.now) (parts_view p)) }
     ensures alike { IfOk result (λ p. (set : List Bool) → 1 ≤ length sets.now → AllAre set (sets_of sets.now) → AllShared (parts_view p)) }
-    ensures parts { IfOk result (λ p. parts_view p ≡ call_parts types.now (kept_by_sets types.now (sets_of sets.now))) }
     ensures few { IfOk result (λ p. FewParts (parts_view p)) }
 {
     let groups = parts_of_groups(alloc, sets.len(), groups_of(alloc, sets, types)?)?;

@@ -3,8 +3,7 @@
 ghost use Rattle.std.specs.Prelude.{◌≡◌, ◌≤◌, ◌<◌, ◌^◌, ◌++◌, ◌∷◌, [], All, length, IfOk, OnOk, Vec, Bool};
 ghost use Rattle.std.specs.declared.alloc.Global.{Global as AGlobal};
 ghost use Rattle.call_frames.specs.PlainFrames.{at_these};
-ghost use Rattle.call_classes.specs.CallParts.{classed, kept_by_sets};
-ghost use Rattle.call_classes.specs.Classes.{FindsMore, IsIndex, KeepByClasses};
+ghost use Rattle.call_classes.specs.Classes.{Finds, FindsMore, KeepByClasses};
 ghost use Rattle.call_classes.specs.Classes.{FewFields};
 ghost use Rattle.call_classes.specs.Views.{class_part, class_parts, fields_of, sets_of};
 
@@ -51,9 +50,9 @@ fn put_call<'s>(
 ) -> Result<(), AllocError>
     requires size { length set.now ≡ length types.now }
     requires few { length types.now ≤ 50000 }
-    requires index { IsIndex types.now found.old (class_parts classes.old.items) }
+    requires index { Finds types.now found.old (class_parts classes.old.items) }
     requires small { FewFields classes.old.items }
-    ensures more { OnOk result (FindsMore types.now call set.now found.old found.new (class_parts classes.old.items) (class_parts classes.new.items)) }
+    ensures more { OnOk result (FindsMore types.now call set.now found.new (class_parts classes.old.items) (class_parts classes.new.items)) }
     ensures small { OnOk result (FewFields classes.new.items) }
 {
     match found.get(set) {
@@ -79,7 +78,6 @@ pub(crate) fn classes_of(
     requires few { length types.now ≤ 50000 }
     requires calls { length sets.now < 2 ^ 32 }
     ensures keep { IfOk result (λ v. KeepByClasses types.now (sets_of sets.now) (class_parts v.items)) }
-    ensures parts { IfOk result (λ v. class_parts v.items ≡ classed 0 (kept_by_sets types.now (sets_of sets.now)) []) }
     ensures few { IfOk result (λ v. FewFields v.items) }
 {
     let mut found = BTreeMap::new(alloc);

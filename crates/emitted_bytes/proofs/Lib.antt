@@ -3,6 +3,7 @@ pub use Rattle.rewrite_form.proofs.EmittedBy
 pub use Rattle.rewrite_form.proofs.EmittedRewritten
 pub use Rattle.rewrite_form.proofs.EmittedSizes
 pub use Rattle.rewrite_form.proofs.SizesBy
+pub use Rattle.rewrite_form.proofs.StateReads
 pub use Rattle.rewrite_form.proofs.Whole
 pub use Rattle.rewrite_form.proofs.WiderTypes
 pub use Rattle.rewrite_form.proofs.WrittenBy

@@ -1,3 +1,4 @@
+pub use Rattle.rewrite_form.specs.Bounds
 pub use Rattle.rewrite_form.specs.CodesHold
 pub use Rattle.rewrite_form.specs.Emitted
 pub use Rattle.rewrite_form.specs.EmittedBy

@@ -1,20 +1,13 @@
 -- A valid module that is rewritten with each import listed.
-use Rattle.std.proofs.Common.{arith, ℕ, suc, ◌^◌, ◌≤◌, List, [], ◌∷◌, All, Bool, true, false, inl, inr, drop, refl, sym, subst}
+use Rattle.std.proofs.Common.{arith, ℕ, suc, ◌^◌, ◌≤◌, List, [], ◌∷◌, All, Bool, true, false, inl, inr, drop}
 use Rattle.std.proofs.lemmas.List.Elements.{All-nil, All-cons, All-head, All-tail}
 use Rattle.wa_types.specs.Frames.{Count}
 use Rattle.wa_types.specs.Modules.{func_imports}
 use Rattle.wa_types.specs.Sizes.{ElemSizes, FuncSizes, SegmentSizes, SizeRule, StrictSizeRule, TypeSizes, code_lists, plain_lists}
 use Rattle.wa_types.specs.Syntax.{Code, Func, GlobalDef, Module, Plain, basic, br, br_if, br_table, branch, call, call_indirect, done}
 use Rattle.wa_types.specs.Syntax.{local_get, local_set, local_tee, nest, plain, return, unreachable}
-use Rattle.wa_types.specs.Validity.{Valid}
-use Rattle.wa_types.specs.View.{module_of}
-use Rattle.wa_model.specs.Rewrites.{Rewrites}
-use Rattle.module_rewrite.proofs.Asyncified.{asyncified_law}
 use Rattle.module_rewrite.specs.FlattenWhole.{FirstPasses}
-use Rattle.module_rewrite.specs.Whole.{FirstTooMany, IsAsyncified}
-use Rattle.module_rewrite.specs.declared.whole.Rewritten.{Rewritten}
-use Rattle.module_rewrite.proofs.FreeNames.{unreserved_is_free}
-use Rattle.module_rewrite.proofs.WholeLemmas.{few_written}
+use Rattle.module_rewrite.specs.Whole.{FirstTooMany}
 use Rattle.generated_runs.specs.Playing.{all_listed}
 
 -- lists of fewer items are of fewer than more
@@ -63,12 +56,6 @@ strict_is_wide m s = record {
   each_segment = all_wider (SegmentSizes (2 ^ 31)) (SegmentSizes (2 ^ 32))
       (λ e h. record { bytes = omega (arith, h.bytes); offset = lists_wider (2 ^ 31) (2 ^ 32) e.offset (omega arith) h.offset }) m.segments s.each_segment;
 }
-
--- what is emitted is the module, rewritten
-pub emitted_is_rewritten : (m : Module) (r : Rewritten) → Valid m → StrictSizeRule m → IsAsyncified m all_listed r → Rewrites m all_listed (module_of r.«module»)
-emitted_is_rewritten m r v strict e =
-    subst (Rewrites m all_listed) (sym e.emitted.is)
-    (asyncified_law m all_listed r.instrumented.items e.emitted.pieces v e.emitted.slim (unreserved_is_free m e.free) strict (few_written m r.instrumented.items e.few) refl e.tells)
 
 -- where no function has too many locals, none is the first that has
 none_first : (m : Module) (func count x : ℕ) (which : List Bool) (fs : List Func) → All (λ (f : Func). Count m f ≤ 50000) fs → FirstPasses m func count x which fs → ⊥

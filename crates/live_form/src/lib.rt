@@ -14,5 +14,5 @@ pub use laws::{
 };
 pub use policies::{
     emitted_differ_in_code, emitted_is_rewritten, emitted_is_valid, emitted_keeps_sizes,
-    emitted_rewrites, functions_are_emitted,
+    emitted_reads_few, emitted_rewrites, functions_are_emitted, written_reads_few,
 };

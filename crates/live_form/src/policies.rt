@@ -1,7 +1,7 @@
 //! Laws of what is emitted, for both policies. Each is the contract of a function that does nothing.
 
 ghost use Rattle.live_form.specs.EmittedAs.{FunctionsAreEmitted};
-ghost use Rattle.live_form.specs.PolicyLaws.{EmittedAsIsRewritten, EmittedAsIsValid, EmittedAsKeepsSizes, EmittedAsRewrites, EmittedDifferInCode};
+ghost use Rattle.live_form.specs.PolicyLaws.{EmittedAsIsRewritten, EmittedAsIsValid, EmittedAsKeepsSizes, EmittedAsRewrites, EmittedDifferInCode, EmittedAsReadsFew, WrittenAsReadsFew};
 
 /// Functions that are emitted one by one are those of an emitted module.
 pub fn functions_are_emitted()
@@ -31,4 +31,14 @@ pub fn emitted_keeps_sizes()
 /// Modules that are emitted of one differ in code alone, by either policy.
 pub fn emitted_differ_in_code()
     ensures { EmittedDifferInCode }
+{}
+
+/// A function that is written reads the global of the state few times, for its numbered calls and the constructs that hold one.
+pub fn written_reads_few()
+    ensures { WrittenAsReadsFew }
+{}
+
+/// So does each function of an emitted module that may pause; none else of the original's reads it.
+pub fn emitted_reads_few()
+    ensures { EmittedAsReadsFew }
 {}

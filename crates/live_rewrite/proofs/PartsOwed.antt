@@ -22,7 +22,6 @@ use Rattle.call_frames.specs.PlainFrames.{SavedParts, frames_of}
 use Rattle.live_form.specs.SlimModule.{Pieces, SlimPieces}
 use Rattle.save_laws.specs.LiveAt.{LiveAtCalls}
 use Rattle.call_classes.specs.declared.frames.FrameParts.{FrameParts}
-use Rattle.call_classes.specs.CallParts.{call_parts, kept_by_sets}
 use Rattle.call_classes.specs.Classes.{KeepCheaply, NumbersBelow}
 use Rattle.call_classes.specs.Views.{parts_view, told_frames}
 use Rattle.live_form.specs.EmittedAs.{IsLiveWritten, live_written}
@@ -30,12 +29,11 @@ use Rattle.live_form.specs.LiveParts.{LiveParts}
 use Rattle.func_rewrite.specs.Bodies.{IsSlimBody}
 use Rattle.func_rewrite.specs.Frames.{IsFlattened}
 use Rattle.func_rewrite.proofs.WrittenFuncs.{func_is, mk_func, runs_same}
-use Rattle.live_rewrite.proofs.SetFields.{fields_saved, rows_saved, total_saved}
+use Rattle.live_rewrite.proofs.SetFields.{fields_saved, total_saved}
 
 module _ (m : Module) (s : Settings) (which : List Bool) (f : Func) (v : Flattened) (valid : Valid m) (sizes : StrictSizeRule m) (h : IsFlattened m f v)
     (ns : List ℕ) (sets : List (List Bool)) (en : ns ≡ Numbered m s which f) (live : LiveAtCalls (flat_func_of v.func) ns sets)
-    (ids : RuntimeIds) (ei : ids ≡ ids_behind m) (parts : FrameParts) (cheap : KeepCheaply v.func.locals.items sets (parts_view parts))
-    (made : parts_view parts ≡ call_parts v.func.locals.items (kept_by_sets v.func.locals.items sets)) where
+    (ids : RuntimeIds) (ei : ids ≡ ids_behind m) (parts : FrameParts) (cheap : KeepCheaply v.func.locals.items sets (parts_view parts)) where
   abbrev x : ℕ
   x = v.func.func
 
@@ -48,16 +46,11 @@ module _ (m : Module) (s : Settings) (which : List Bool) (f : Func) (v : Flatten
   many : length sets ≡ length (Numbered m s which f)
   many = live.calls ∙ ap length en
 
-  types_are : v.func.locals.items ≡ (flattened m x f).locals
-  types_are = ap (λ (g : FlatFunc). g.locals) h.flat
-
   base_is : base ≡ length (flattened m x f).locals
   base_is = ap (λ (g : FlatFunc). length g.locals) h.flat
 
   pub owed : LiveParts m s which x f told
   owed = record {
-    made = made ∙ ap (λ ts. call_parts ts (kept_by_sets v.func.locals.items sets)) types_are
-        ∙ ap (call_parts (flattened m x f).locals) (rows_saved m s which f v valid h ns sets en live);
     count = ap length en;
     address = ap (λ (i : RuntimeIds). i.address) ei ∙ (let z : global_space m + 1 ≡ suc (global_space m) = omega arith in z);
     index = base_is;

@@ -18,9 +18,7 @@ use Rattle.live_form.specs.LiveFrames.{fields_at}
 use Rattle.save_laws.specs.LiveAt.{KeepsAt, LiveAtCalls}
 use Rattle.live_passes.specs.Sets.{has}
 use Rattle.save_laws.proofs.SavedLive.{live_is_saved}
-use Rattle.call_classes.specs.CallParts.{kept_by_sets}
 use Rattle.call_classes.specs.Views.{fields_in, kept_total, kept_where}
-use Rattle.live_form.specs.LiveParts.{kept_by_calls}
 use Rattle.live_form.specs.LiveParts.{saved_total}
 use Rattle.func_rewrite.specs.Frames.{IsFlattened}
 
@@ -123,18 +121,3 @@ module _ (m : Module) (s : Settings) (which : List Bool) (f : Func) (v : Flatten
   pub total_saved : kept_total v.func.locals.items sets ≡ saved_total m f (Numbered m s which f)
   total_saved =
       total_same m f v.func.locals.items ns sets live.calls (count_saved m s which f v valid h ns sets en live) ∙ ap (saved_total m f) en
-
-rows_same : (m : Module) (f : Func) (types : List ValType) (ns : List ℕ) (sets : List (List Bool)) → length sets ≡ length ns
-    → ((k place : ℕ) → slice_get ns k ≡ Some place → fields_in 0 (get_or sets k []) types ≡ fields_at m f place) → kept_by_sets types sets ≡ map (fields_at m f) ns
-rows_same m f types [] [] e h = refl
-rows_same m f types [] (set ∷ sets) e h = absurd (omega (arith, e))
-rows_same m f types (n ∷ ns) [] e h = absurd (omega (arith, e))
-rows_same m f types (n ∷ ns) (set ∷ sets) e h =
-    ap (λ row. row ∷ kept_by_sets types sets) (h 0 n refl) ∙ ap (λ rows. fields_at m f n ∷ rows) (rows_same m f types ns sets (omega (arith, e)) (λ k place at. h (suc k) place at))
-
-module _ (m : Module) (s : Settings) (which : List Bool) (f : Func) (v : Flattened) (valid : Valid m) (h : IsFlattened m f v)
-    (ns : List ℕ) (sets : List (List Bool)) (en : ns ≡ Numbered m s which f) (live : LiveAtCalls (flat_func_of v.func) ns sets) where
-  -- the fields of the sets are what the calls keep
-  pub rows_saved : kept_by_sets v.func.locals.items sets ≡ kept_by_calls m s which f
-  rows_saved =
-      rows_same m f v.func.locals.items ns sets live.calls (fields_saved m s which f v valid h ns sets en live) ∙ ap (map (fields_at m f)) en

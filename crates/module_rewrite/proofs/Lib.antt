@@ -1,4 +1,3 @@
-pub use Rattle.live_rewrite.proofs.Asyncified
 pub use Rattle.live_rewrite.proofs.FitsBy
 pub use Rattle.live_rewrite.proofs.ToldLemmas
 pub mod EmitLemmas

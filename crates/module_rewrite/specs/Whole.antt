@@ -4,23 +4,26 @@ use Rattle.wa_types.specs.Modules.{func_imports}
 use Rattle.wa_types.specs.Pausing.{Settings, TellsMayPause}
 use Rattle.wa_types.specs.Syntax.{Module}
 use Rattle.wa_types.specs.View.{module_of}
+use Rattle.wa_model.specs.Rewrites.{Rewrites}
 use Rattle.asyncify_runtime.specs.Reserved.{reserved_at}
 use Rattle.live_rewrite.specs.Whole.{NonePasses, FirstPasses}
-use Rattle.live_rewrite.specs.Rewritten.{RewritesButRuns}
 use Rattle.live_rewrite.specs.EmittedAs.{EmittedAs}
+use Rattle.live_rewrite.specs.PolicyLaws.{EachReadsFew}
 use Rattle.module_rewrite.specs.Emitting.{LaidOut}
 use Rattle.module_rewrite.specs.declared.fault.RewriteFault.{RewriteFault}
 use Rattle.module_rewrite.specs.declared.fault.RewriteFault.TheVariants.{Memory, Locals, Reserved}
 use Rattle.module_rewrite.specs.declared.whole.Rewritten.{Rewritten}
 
 -- The module is one that is emitted by the policy, where those functions are written that may pause, none of which has too many locals;
--- it is the original, rewritten in every part but its runs. The frames are those of the written functions.
+-- it is the original, rewritten: it behaves like it under every plan of pauses. Its functions read the global of the state few times.
+-- The frames are those of the written functions.
 pub record IsAsyncified (m : Module) (s : Settings) (r : Rewritten) : Type 0 where
   pub free : reserved_at m ≡ None
   pub tells : TellsMayPause m s r.instrumented.items
   pub few : NonePasses m (drop (func_imports m) r.instrumented.items) m.funcs
   pub emitted : EmittedAs m s r.instrumented.items (module_of r.«module»)
-  pub rewrites : RewritesButRuns m s (module_of r.«module»)
+  pub rewrites : Rewrites m s (module_of r.«module»)
+  pub reads : EachReadsFew m s r.instrumented.items (module_of r.«module»)
   pub layouts : LaidOut m s r.instrumented.items (func_imports m) (drop (func_imports m) r.instrumented.items) m.funcs r.layouts.items
 
 -- The first function that may pause and would have too many locals.

@@ -6,6 +6,7 @@ pub mod EmittedRewritten
 pub mod EmittedSizes
 pub mod Marks
 pub mod SizesBy
+pub mod StateReads
 pub mod UnitsFew
 pub mod WiderTypes
 pub mod WrittenBy

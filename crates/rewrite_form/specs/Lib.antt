@@ -1,4 +1,5 @@
 pub use Rattle.frame_laws.specs.Layout
+pub use Rattle.slim_modules.specs.Bounds
 pub use Rattle.slim_modules.specs.FlatModule
 pub use Rattle.slim_modules.specs.Flatten
 pub use Rattle.slim_modules.specs.Functions

@@ -1,7 +1,6 @@
 use Rattle.std.proofs.Common.{ap, ◌∙◌}
 use Rattle.call_classes.specs.Views.{class_parts}
 use Rattle.call_classes.proofs.FoundClasses.{sets_next}
-use Rattle.call_classes.proofs.PartLemmas.{classed_next}
 use Rattle.call_classes.proofs.finding.classes_of.Goals as goal
 
 pub loop-call-preserved : goal.loop-call-preserved
@@ -16,5 +15,4 @@ loop-call-preserved c =
       sets_next types sets i _ c.deref.result.now old new c.loop-call-test.true e c.loop-call.invariant.0 more.keeps,
       more.index,
       c.in_ok-put_call.ensures.small,
-      classed_next types sets i _ c.deref.result.now old new c.loop-call-test.true e c.loop-call.invariant.3 more.joins,
     )

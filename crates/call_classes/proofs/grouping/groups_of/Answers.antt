@@ -2,7 +2,7 @@ use Rattle.std.proofs.Common.{arith, refl, sym, ◌∙◌}
 use Rattle.call_classes.specs.CallParts.{kept_by_sets}
 use Rattle.call_classes.specs.Views.{class_parts, sets_of}
 use Rattle.call_classes.proofs.GroupSteps.{all_within, grouped_end, grouped_step, same_keepers}
-use Rattle.call_classes.proofs.PartLemmas.{sets_sized}
+use Rattle.call_classes.proofs.SizedSets.{sets_sized}
 use Rattle.call_classes.proofs.grouping.groups_of.Goals as goal
 
 pub keepers_of-requires-clause-sizes : goal.keepers_of-requires-clause-sizes

@@ -6,7 +6,7 @@ use Rattle.wasm_validate.specs.Validated.{Validates}
 use Rattle.asyncify_runtime.specs.Reserved.{reserved_at}
 use Rattle.module_rewrite.specs.Whole.{Asyncifies, FirstTooMany, IsAsyncified}
 use Rattle.generated_runs.specs.Playing.{all_listed}
-use Rattle.generated_runs.proofs.Rewritten.{emitted_is_rewritten, none_too_many, strict_is_wide}
+use Rattle.generated_runs.proofs.Rewritten.{none_too_many, strict_is_wide}
 use Rattle.generated_runs.proofs.program.rewritten.Goals as goal
 
 pub validate-requires : goal.validate-requires
@@ -19,8 +19,7 @@ unreachable-requires c =
 
 pub returns-in-Ok-asyncify_module : goal.returns-in-Ok-asyncify_module
 returns-in-Ok-asyncify_module c =
-    emitted_is_rewritten (module_of c.args.module) c.in-Ok-asyncify_module.rewritten c.requires.valid c.requires.sizes
-    (subst (λ (z : ModuleValue). IsAsyncified (module_of z) all_listed c.in-Ok-asyncify_module.rewritten) c.in-Ok.ensures.0 c.in-Ok-asyncify_module.ensures)
+    (subst (λ (z : ModuleValue). IsAsyncified (module_of z) all_listed c.in-Ok-asyncify_module.rewritten) c.in-Ok.ensures.0 c.in-Ok-asyncify_module.ensures).rewrites
 
 pub unreachable-requires-in-Err-Reserved : goal.unreachable-requires-in-Err-Reserved
 unreachable-requires-in-Err-Reserved c =

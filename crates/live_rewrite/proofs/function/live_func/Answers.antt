@@ -1,4 +1,4 @@
-use Rattle.std.proofs.Common.{◌≡◌, arith, ap, length, drop, map, subst, sym, ◌∙◌, ◌++◌, ◌∷◌, []}
+use Rattle.std.proofs.Common.{arith, ap, length, drop, map, subst, sym, ◌∙◌, ◌++◌, ◌∷◌, []}
 use Rattle.wa_types.specs.declared.values.ValType.TheVariants.{I32, I64}
 use Rattle.wa_types.specs.Syntax.{done}
 use Rattle.wa_types.specs.View.{code, func_of, module_of}
@@ -9,7 +9,6 @@ use Rattle.call_frames.specs.PlainFrames.{frames_of}
 use Rattle.save_laws.specs.Emitting.{Rises}
 use Rattle.func_rewrite.specs.Bodies.{IsSlimBody}
 use Rattle.func_rewrite.proofs.WrittenFuncs.{few_calls, fits, slots_told}
-use Rattle.call_classes.specs.CallParts.{call_parts, kept_by_sets}
 use Rattle.call_classes.specs.Classes.{KeepCheaply}
 use Rattle.call_classes.specs.Views.{parts_view, sets_of, told_frames}
 use Rattle.save_laws.specs.LiveAt.{lists_of}
@@ -66,13 +65,11 @@ returns c =
     let told = told_frames (length calls.numbers.items) (length v.func.locals.items) ids.address parts in
     let cheap = subst (λ ts. KeepCheaply ts (sets_of calls.sets.items) (parts_view parts)) c.deref-2.ensures.value
     (subst (λ ss. KeepCheaply c.deref-2.result.now (sets_of ss) (parts_view parts)) c.deref.ensures.value c.in_ok-parts.ensures.keep) in
-    let made = subst (λ ts. parts_view parts ≡ call_parts ts (kept_by_sets ts (sets_of calls.sets.items))) c.deref-2.ensures.value
-    (subst (λ ss. parts_view parts ≡ call_parts c.deref-2.result.now (kept_by_sets c.deref-2.result.now (sets_of ss))) c.deref.ensures.value c.in_ok-parts.ensures.parts) in
     let body = subst (λ ns. IsSlimBody (module_of c.args._module.now) ns ids.state v.func.func (func_of c.args.source.now) (restoring_by_call (frames_of told) done)
     (saving_by_call (frames_of told) done) (code c.in_ok-body.body.items)) c.deref-3.ensures.value
     (c.in_ok-body.ensures (module_of c.args._module.now) (func_of c.args.source.now) (length calls.numbers.items) c.requires.flat) in
     let locals = c.in_ok-locals.ensures ∙ ap (λ rs. rs ++ map one_run (drop v.first_slot c.deref-5.result.now ++ I32 ∷ I32 ∷ I64 ∷ [])) c.deref-4.ensures.value
     ∙ ap (λ ls. c.args.source.now.locals.items ++ map one_run (drop v.first_slot ls ++ I32 ∷ I32 ∷ I64 ∷ [])) c.deref-5.ensures.value in
     live_is (module_of c.args._module.now) (settings_of c.args._settings.now) c.args._which.now (func_of c.args.source.now) v
-    c.requires.valid c.requires.sizes c.requires.flat calls.numbers.items (lists_of calls.sets.items) c.requires.calls.numbers c.requires.calls.sets ids c.requires.ids parts cheap made
+    c.requires.valid c.requires.sizes c.requires.flat calls.numbers.items (lists_of calls.sets.items) c.requires.calls.numbers c.requires.calls.sets ids c.requires.ids parts cheap
     c.in_ok-locals.locals.items (code c.in_ok-body.body.items) locals body

@@ -5,12 +5,13 @@ use Rattle.wa_types.specs.Runtime.{func_space, global_space, with_runtime}
 use Rattle.wa_types.specs.Sizes.{SizeRule}
 use Rattle.wa_types.specs.Validity.{Valid}
 use Rattle.wa_types.specs.View.{func_of, module_of}
+use Rattle.wa_model.specs.Rewrites.{Rewrites}
 use Rattle.asyncify_runtime.specs.Reserved.{reserved_at}
 use Rattle.call_graph.specs.Settings.{settings_of}
-use Rattle.live_rewrite.specs.Rewritten.{RewritesButRuns}
 use Rattle.live_rewrite.specs.EmittedAs.{EmittedAs}
-use Rattle.live_rewrite.specs.PolicyLaws.{CanBeEmitted}
-use Rattle.live_rewrite.proofs.PolicyCases.{functions_law, rewritten_as, sizes_as, valid_as}
+use Rattle.live_rewrite.specs.PolicyLaws.{CanBeEmitted, EachReadsFew}
+use Rattle.live_rewrite.proofs.PolicyCases.{functions_law, rewrites_as, sizes_as, valid_as}
+use Rattle.live_rewrite.proofs.PolicyReads.{emitted_reads}
 use Rattle.module_rewrite.specs.Emitting.{Emits, AllEmitted}
 use Rattle.module_rewrite.specs.Whole.{Asyncifies}
 use Rattle.module_rewrite.proofs.FreeNames.{unreserved_is_free}
@@ -143,6 +144,7 @@ returns c =
       tells = c.in_ok-which.ensures;
       few = emitted.few;
       emitted = subst (EmittedAs m s which) (sym is) as_;
-      rewrites = subst (RewritesButRuns m s) (sym is) (rewritten_as m s which (with_runtime (record m { funcs = gs })) can (unreserved_is_free m free) as_);
+      rewrites = subst (Rewrites m s) (sym is) (rewrites_as m s which (with_runtime (record m { funcs = gs })) can (unreserved_is_free m free) as_);
+      reads = subst (EachReadsFew m s which) (sym is) (emitted_reads m s which (with_runtime (record m { funcs = gs })) can as_);
       layouts = emitted.layouts;
     }

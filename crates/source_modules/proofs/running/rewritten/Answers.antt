@@ -6,8 +6,7 @@ use Rattle.wa_types.specs.Syntax.{Module}
 use Rattle.wa_types.specs.View.{module_of}
 use Rattle.call_graph.specs.Settings.{settings_of}
 use Rattle.source_modules.specs.Sources.{rewritten_counts}
-use Rattle.source_modules.proofs.Accepted.{strict, few_written, none_passes, none_reserved, rewrite_refused, well}
-use Rattle.source_modules.proofs.FreeNames.{runs_rewritten}
+use Rattle.source_modules.proofs.Accepted.{strict, none_passes, none_reserved, rewrite_refused, well}
 use Rattle.source_modules.proofs.running.rewritten.Goals as goal
 
 pub asyncify_module-requires : goal.asyncify_module-requires
@@ -26,7 +25,6 @@ returns-in-Ok-clause-done c =
     let m : Module = module_of c.in_ok-valid.valid in
     let e = c.in-Ok.ensures in
     let which = c.in-Ok.rewritten.instrumented.items in
-    let s = settings_of c.args.settings.now in
     let few : first_above 50000 (rewritten_counts m which) ≡ None = none_passes m (drop (func_imports m) which) m.funcs e.few in
     record {
       source = m;
@@ -35,6 +33,5 @@ returns-in-Ok-clause-done c =
       well_formed = well c.args.bytes.now m c.in_ok-valid.ensures.source (λ i. omega (arith, c.type_inv.bytes i));
       listed_is = c.in_ok-listed.ensures;
       written = e.emitted;
-      rewrites = runs_rewritten m s which (module_of c.in-Ok.rewritten.«module») e.emitted c.in_ok-valid.ensures.source.valid e.free (strict c.args.bytes.now m c.in_ok-valid.ensures.source)
-          (few_written m which few) e.tells;
+      rewrites = e.rewrites;
     }
