@@ -53,12 +53,14 @@ each_slim Q t n ts out f sh first first' _ _ k (before_if {fa = fa} {fa' = fa'} 
       subst (λ i. EachUnit Q (k + i) b') (sym e) (each_slim Q t _ (h2 ∷ ts) h2 l [] fb fb' b b' (k + numbers_in a) ib h.1),
       subst (λ i. EachUnit Q (k + numbers_in a' + i) rest') (sym e2) (subst (λ i. EachUnit Q (k + i + numbers_in b) rest') (sym e) (each_slim Q t n ts out h2 [] behind behind' rest rest' (k + numbers_in a + numbers_in b) on h.2)),
     )
-each_slim Q t n ts out f sh first first' _ _ k (before_kept_if {fa = fa} {fa' = fa'} {fb = fb} {fb' = fb'} {behind = behind} {behind' = behind'} {a = a} {a' = a'} {b = b} {b' = b'} {rest = rest} {rest' = rest'} o g h2 go sl ia ib on) h =
+each_slim Q t n ts out f sh first first' _ _ k (before_kept_if {fa = fa} {fa' = fa'} {fb = fb} {fb' = fb'} {behind = behind} {behind' = behind'} {a = a} {a' = a'} {b = b} {b' = b'}
+    {rest = rest} {rest' = rest'} o g h2 go sl ia ib on) h =
     let e = (units_alike t _ (h2 ∷ ts) h2 g [] fa fa' a a' ia).numbers in
     let e2 = (units_alike t _ (h2 ∷ ts) h2 g [] fb fb' b b' ib).numbers in (
       each_slim Q t _ (h2 ∷ ts) h2 g [] fa fa' a a' k ia h.0,
       subst (λ i. EachUnit Q (k + i) b') (sym e) (each_slim Q t _ (h2 ∷ ts) h2 g [] fb fb' b b' (k + numbers_in a) ib h.1),
-      subst (λ i. EachUnit Q (k + numbers_in a' + i) rest') (sym e2) (subst (λ i. EachUnit Q (k + i + numbers_in b) rest') (sym e) (each_slim Q t n ts out h2 [] behind behind' rest rest' (k + numbers_in a + numbers_in b) on h.2)),
+      subst (λ i. EachUnit Q (k + numbers_in a' + i) rest') (sym e2)
+          (subst (λ i. EachUnit Q (k + i + numbers_in b) rest') (sym e) (each_slim Q t n ts out h2 [] behind behind' rest rest' (k + numbers_in a + numbers_in b) on h.2)),
     )
 
 -- ---- the same of each call of statements, by its place

@@ -214,8 +214,8 @@ module _ (w : Sides) where
           → BodyPlace w.state f k (if_unit c fa a fb b behind rest) xs → (piece : Code) → Calls w.free (pruned piece)
           → Near w 1 (cq x ops (followed_by piece (branch None (followed_by fa (flat_units a)) (followed_by fb (flat_units b)) (followed_by behind (flat_units rest)))) (flat_labels f xs))
           (cp x ops (raised 0 1 piece) (block_label (length ops) 1 (branch None (arm a fa (front i (exit_inside (exit_at f xs) a_block (any_unit rest)) (suc (length xs)) k fa a))
-          (arm b fb (front i (exit_inside (exit_at f xs) a_block (any_unit rest)) (suc (length xs)) (k + numbers_in a) fb b)) (front i (exit_at f xs) (length xs) (k + numbers_in a + numbers_in b) behind rest))
-          done ∷ written_labels w.state f xs))
+          (arm b fb (front i (exit_inside (exit_at f xs) a_block (any_unit rest)) (suc (length xs)) (k + numbers_in a) fb b))
+          (front i (exit_at f xs) (length xs) (k + numbers_in a + numbers_in b) behind rest)) done ∷ written_labels w.state f xs))
       unfolding followed_by
       at_condition ops k c fa a fb b behind rest xs pl done ca = later 1 0 1 _ _ _ (walks w.written 1 _ _ refl) (no_lag x ops _ _ _ _ (at_choice pl)) (omega arith)
       at_condition ops k c fa a fb b behind rest xs pl (plain p n) ca = wider 0 1 _ _ (no_lag x ops _ _ _ _ (in_piece (before_if (length ops) pl) outside (plain p n) ca tt)) (omega arith)

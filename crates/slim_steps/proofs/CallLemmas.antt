@@ -167,7 +167,8 @@ numbered_put ps a m m1 d p q k kept v slots target stack args to goes is good sa
           (subst (λ i. Held (free_by t.slot m1.stack.items) (t.fixed i))
           (sym (ap (λ cs. length cs + n) (calls_set to (followed_by (first_piece ps k s) (flat_units (units ps k s)))) ∙ joined_calls ps k n s))
           (fixed_held t (is_place ps p.place) stack _ (free_by t.slot m1.stack.items) is fixed.0 (no_slot_held t m1.stack.items) held)))
-          (subst (λ z. ResultSlim t z to None (free_at t d) (shape_at d)) (sym base) (result t m m1 d v kept opened.good full cut_is le fit to (among_next t m m1 opened.alike mid) kept_is)) (clear refl)
+          (subst (λ z. ResultSlim t z to None (free_at t d) (shape_at d)) (sym base) (result t m m1 d v kept opened.good full cut_is le fit to (among_next t m m1 opened.alike mid) kept_is))
+          (clear refl)
           (from_slim t n ts out d (first_piece ps k s) (units ps k s) c' us' f)) first us h);
     }
   where

@@ -106,7 +106,8 @@ module _ (t : Terms) where
         numbered = λ test h. (i.numbered test h.0, j.numbered test h.1, e.numbered test h.2);
         arms = λ h. (⊎_elim (λ s. then_has a' b' (some_stays _ (h2 ∷ ts) h2 k [] fa fa' a a' ia s)) (λ s. else_has a' b' (some_stays _ (h2 ∷ ts) h2 k [] fb fb' b b' ib s)) (one_of a b h.0), i.arms h.1, j.arms h.2, e.arms h.3);
       }
-  units_alike n ts out f sh first first' _ _ (before_kept_if {fa = fa} {fa' = fa'} {fb = fb} {fb' = fb'} {behind = behind} {behind' = behind'} {a = a} {a' = a'} {b = b} {b' = b'} {rest = rest} {rest' = rest'} o g h2 go sl ia ib on) =
+  units_alike n ts out f sh first first' _ _ (before_kept_if {fa = fa} {fa' = fa'} {fb = fb} {fb' = fb'} {behind = behind} {behind' = behind'} {a = a} {a' = a'} {b = b} {b' = b'}
+      {rest = rest} {rest' = rest'} o g h2 go sl ia ib on) =
       let e = units_alike n ts out h2 [] behind behind' rest rest' on in
       let i = units_alike _ (h2 ∷ ts) h2 g [] fa fa' a a' ia in
       let j = units_alike _ (h2 ∷ ts) h2 g [] fb fb' b b' ib in
@@ -115,7 +116,12 @@ module _ (t : Terms) where
         numbers = omega arith;
         count = omega arith;
         numbered = λ test h. (i.numbered test h.0, j.numbered test h.1, e.numbered test h.2);
-        arms = λ h. (⊎_elim (λ s. then_has a' b' (some_stays _ (h2 ∷ ts) h2 g [] fa fa' a a' ia s)) (λ s. else_has a' b' (some_stays _ (h2 ∷ ts) h2 g [] fb fb' b b' ib s)) (one_of a b h.0), i.arms h.1, j.arms h.2, e.arms h.3);
+        arms = λ h. (
+          ⊎_elim (λ s. then_has a' b' (some_stays _ (h2 ∷ ts) h2 g [] fa fa' a a' ia s)) (λ s. else_has a' b' (some_stays _ (h2 ∷ ts) h2 g [] fb fb' b b' ib s)) (one_of a b h.0),
+          i.arms h.1,
+          j.arms h.2,
+          e.arms h.3,
+        );
       }
 
   module _ (P : Callee → Type 0) where
@@ -123,7 +129,8 @@ module _ (t : Terms) where
         → Calls P first' × PiecesCall P us'
     pieces_call n ts out _ _ first _ us _ untouched h k = (h, k)
     pieces_call n ts out f sh first first' _ _ (alone sl) h k = (code_calls t P n ts out f sh first first' sl h, tt)
-    pieces_call n ts out f sh first first' _ _ (before_call {sh2 = sh2} {behind = behind} {behind' = behind'} {rest = rest} {rest' = rest'} {to = to} {to' = to'} slots x g h2 go sl hs hf re sg on) h k =
+    pieces_call n ts out f sh first first' _ _ (before_call {sh2 = sh2} {behind = behind} {behind' = behind'} {rest = rest} {rest' = rest'} {to = to} {to' = to'} slots x g h2 go sl hs hf re
+        sg on) h k =
         let e = pieces_call n ts out h2 sh2 behind behind' rest rest' on k.0 k.1 in
         (code_calls t P _ ts g f sh first first' sl h, (e.0, e.1))
     pieces_call n ts out f sh first first' _ _ (before_block {inner = inner} {inner' = inner'} {behind = behind} {behind' = behind'} {body = body} {body' = body'} {rest = rest} {rest' = rest'} g h2 go sl ib on) h k =
@@ -139,7 +146,8 @@ module _ (t : Terms) where
         let j = pieces_call _ (h2 ∷ ts) h2 l [] fb fb' b b' ib k.2 k.3 in
         let e = pieces_call n ts out h2 [] behind behind' rest rest' on k.4 k.5 in
         (code_calls t P _ ts g f sh first first' sl h, (i.0, i.1, j.0, j.1, e.0, e.1))
-    pieces_call n ts out f sh first first' _ _ (before_kept_if {fa = fa} {fa' = fa'} {fb = fb} {fb' = fb'} {behind = behind} {behind' = behind'} {a = a} {a' = a'} {b = b} {b' = b'} {rest = rest} {rest' = rest'} o g h2 go sl ia ib on) h k =
+    pieces_call n ts out f sh first first' _ _ (before_kept_if {fa = fa} {fa' = fa'} {fb = fb} {fb' = fb'} {behind = behind} {behind' = behind'} {a = a} {a' = a'} {b = b} {b' = b'}
+        {rest = rest} {rest' = rest'} o g h2 go sl ia ib on) h k =
         let i = pieces_call _ (h2 ∷ ts) h2 g [] fa fa' a a' ia k.0 k.1 in
         let j = pieces_call _ (h2 ∷ ts) h2 g [] fb fb' b b' ib k.2 k.3 in
         let e = pieces_call n ts out h2 [] behind behind' rest rest' on k.4 k.5 in

@@ -75,7 +75,8 @@ module _ (t : Terms) where
       let j = passing_less fb fb' _ (h ∷ ts) h k [] fb fb' y y' ib (first_less _ (h ∷ ts) h k fb fb' y y' ib) in
       let e = passing_less behind behind' n ts out h [] behind behind' rest rest' on (first_less n ts out h behind behind' rest rest' on) in
       omega arith
-  passing_less a a' n ts out f sh first first' _ _ (before_kept_if {fa = fa} {fa' = fa'} {fb = fb} {fb' = fb'} {behind = behind} {behind' = behind'} {a = x} {a' = x'} {b = y} {b' = y'} {rest = rest} {rest' = rest'} c g h go sl ia ib on) le =
+  passing_less a a' n ts out f sh first first' _ _ (before_kept_if {fa = fa} {fa' = fa'} {fb = fb} {fb' = fb'} {behind = behind} {behind' = behind'} {a = x} {a' = x'} {b = y} {b' = y'}
+      {rest = rest} {rest' = rest'} c g h go sl ia ib on) le =
       let i = passing_less fa fa' _ (h ∷ ts) h g [] fa fa' x x' ia (first_less _ (h ∷ ts) h g fa fa' x x' ia) in
       let j = passing_less fb fb' _ (h ∷ ts) h g [] fb fb' y y' ib (first_less _ (h ∷ ts) h g fb fb' y y' ib) in
       let e = passing_less behind behind' n ts out h [] behind behind' rest rest' on (first_less n ts out h behind behind' rest rest' on) in

@@ -77,7 +77,8 @@ module _ (t : Terms) where
       → Slims t n ts out f sh (followed_by first (got c (branch None a b r))) (followed_by first' (branch None a' b' r'))
   kept_if_slim n ts out g f h sh c first first' a a' b b' r r' go sl sa sb sr =
       let k : Code = branch None a b r in
-      let joined : followed_by (followed_by first (got c done)) k ≡ followed_by first (got c k) = then_then first (got c done) k ∙ ap (followed_by first) (then_got c done k ∙ ap (got c) (none_then k)) in
+      let joined : followed_by (followed_by first (got c done)) k ≡ followed_by first (got c k) =
+      then_then first (got c done) k ∙ ap (followed_by first) (then_got c done k ∙ ap (got c) (none_then k)) in
       subst (λ z. Slims t n ts out f sh z (followed_by first' (branch None a' b' r'))) joined
       (in_front n ts out g f sh (followed_by first (got c done)) first' k (branch None a' b' r') (goes_condition first c ∙ go)
       (subst (λ cs. Slims t (length cs + n) ts g f sh (followed_by first (got c done)) first') (calls_condition c a b r) sl) (S.decides None h plainly sa sb sr))
@@ -104,7 +105,8 @@ module _ (t : Terms) where
       (followed_by behind (flat_units rest)) (followed_by behind' (flat_units rest')) hc co
       (units_slim (length (calls_of (followed_by fb (flat_units b))) + (length (calls_of (followed_by behind (flat_units rest))) + n)) (h ∷ ts) h k [] fa fa' a a' ia)
       (units_slim (length (calls_of (followed_by behind (flat_units rest))) + n) (h ∷ ts) h k [] fb fb' b b' ib) (units_slim n ts out h [] behind behind' rest rest' on))
-  units_slim n ts out f sh first first' _ _ (before_kept_if {fa = fa} {fa' = fa'} {fb = fb} {fb' = fb'} {behind = behind} {behind' = behind'} {a = a} {a' = a'} {b = b} {b' = b'} {rest = rest} {rest' = rest'} c g h go sl ia ib on) =
+  units_slim n ts out f sh first first' _ _ (before_kept_if {fa = fa} {fa' = fa'} {fb = fb} {fb' = fb'} {behind = behind} {behind' = behind'} {a = a} {a' = a'} {b = b} {b' = b'}
+      {rest = rest} {rest' = rest'} c g h go sl ia ib on) =
       kept_if_slim n ts out g f h sh c first first' (followed_by fa (flat_units a)) (followed_by fa' (flat_units a')) (followed_by fb (flat_units b)) (followed_by fb' (flat_units b'))
       (followed_by behind (flat_units rest)) (followed_by behind' (flat_units rest')) go sl
       (units_slim (length (calls_of (followed_by fb (flat_units b))) + (length (calls_of (followed_by behind (flat_units rest))) + n)) (h ∷ ts) h g [] fa fa' a a' ia)
