@@ -18,7 +18,7 @@ use Rattle.rewrite_form.specs.Flatten.{Names, top, carry_to, carry, carry_all, a
 use Rattle.rewrite_form.specs.Layout.{FrameField, kept, gap, fields_size, placed, Layout, save_code, restore_code}
 use Rattle.local_spill.specs.Spilling.{stored_value, loaded_value, locals_stored, locals_loaded}
 use Rattle.local_spill.specs.Spilling as Spilling
-use Rattle.rewrite_form.specs.Pieces.{Units, no_unit, call_unit, nest_unit, if_unit, any_unit, numbers_in, call_to, numbered, holds_call, call_total, piece_call, first_piece, unit_call, units}
+use Rattle.rewrite_form.specs.Pieces.{Units, no_unit, call_unit, nest_unit, if_unit, any_unit, numbers_in, call_to, got_any, numbered, holds_call, call_total, piece_call, first_piece, unit_call, units}
 use Rattle.rewrite_form.specs.Guarded.{GuardIndices, raised_plain, raised, guarded, sought, one_more, index_noted, noted, call_guarded, choice, arm, Exit, each_end, its_end, by_label, nowhere, exit_inside, last_piece, call_front, front}
 
 -- what a basic instruction holds is in range
@@ -52,7 +52,7 @@ fits_basic (plain p rest) h = (one p h.0, fits_basic rest h.1)
 fits_basic (nest s r body rest) h = (fits_basic body h.0, fits_basic rest h.1)
 fits_basic (branch r a b rest) h = (fits_basic a h.0, fits_basic b h.1, fits_basic rest h.2)
 
-followed_fits : (a b : Code) → BasicsFit a → BasicsFit b → BasicsFit (followed_by a b)
+pub followed_fits : (a b : Code) → BasicsFit a → BasicsFit b → BasicsFit (followed_by a b)
 unfolding followed_by
 followed_fits done b h k = k
 followed_fits (plain p rest) b h k = (h.0, followed_fits rest b h.1 k)
@@ -133,7 +133,7 @@ module _ (n : Names) where
 
 -- ---- code of statements
 
-got_fits : (o : Operand) (rest : Code) → OperandFits o → BasicsFit rest → BasicsFit (got o rest)
+pub got_fits : (o : Operand) (rest : Code) → OperandFits o → BasicsFit rest → BasicsFit (got o rest)
 got_fits (Local x) rest h k = (tt, k)
 got_fits (Const v) rest h k = (h, k)
 
@@ -168,12 +168,21 @@ code_fits (halts rest) h = (tt, code_fits rest h)
 
 -- ---- pieces
 
+-- where one is got, it does
+abbrev pub AnyFits : Option Operand → Type 0
+AnyFits None = Unit {0}
+AnyFits (Some o) = OperandFits o
+
+any_fits : (o : Option Operand) (rest : Code) → AnyFits o → BasicsFit rest → BasicsFit (got_any o rest)
+any_fits None rest h k = k
+any_fits (Some o) rest h k = got_fits o rest h k
+
 -- the same of units
 abbrev pub UnitsBasic : Units → Type 0
 UnitsBasic no_unit = Unit {0}
 UnitsBasic (call_unit xs x to behind rest) = BasicsFit behind × UnitsBasic rest
 UnitsBasic (nest_unit s first body behind rest) = BasicsFit first × UnitsBasic body × BasicsFit behind × UnitsBasic rest
-UnitsBasic (if_unit c fa a fb b behind rest) = OperandFits c × BasicsFit fa × UnitsBasic a × BasicsFit fb × UnitsBasic b × BasicsFit behind × UnitsBasic rest
+UnitsBasic (if_unit c fa a fb b behind rest) = AnyFits c × BasicsFit fa × UnitsBasic a × BasicsFit fb × UnitsBasic b × BasicsFit behind × UnitsBasic rest
 
 module _ (ps : List ℕ) where
   piece_call_fits : (o : Option Callee) (code : Code) → BasicsFit code → BasicsFit (piece_call o code)
@@ -225,7 +234,7 @@ module _ (ps : List ℕ) where
   units_fit n (decides c a b rest) h =
       let behind : ℕ = n + call_total a + call_total b in
       either_units (holds_call ps n a || holds_call ps (n + call_total a) b)
-      (if_unit c (first_piece ps n a) (units ps n a) (first_piece ps (n + call_total a) b) (units ps (n + call_total a) b) (first_piece ps behind rest) (units ps behind rest))
+      (if_unit (Some c) (first_piece ps n a) (units ps n a) (first_piece ps (n + call_total a) b) (units ps (n + call_total a) b) (first_piece ps behind rest) (units ps behind rest))
       (units ps behind rest)
       (h.0, first_fits n a h.1, units_fit n a h.1, first_fits (n + call_total a) b h.2, units_fit (n + call_total a) b h.2, first_fits behind rest h.3, units_fit behind rest h.3)
       (units_fit behind rest h.3)
@@ -323,7 +332,7 @@ module _ (i : GuardIndices) (small : i.state < 2 ^ 32) where
     small,
     (
       choice_fits k a b (omega (arith, l)),
-      raised_fits 0 1 (followed_by first (got c done)) (followed_fits first (got c done) h (got_fits c done u.0 tt)),
+      raised_fits 0 1 (followed_by first (got_any c done)) (followed_fits first (got_any c done) h (any_fits c done u.0 tt)),
       (
         arm_fits a fa _ u.1 (front_fits (exit_inside e a_block (any_unit rest)) (suc d) k fa a (omega (arith, l)) u.1 u.2),
         arm_fits b fb _ u.3 (front_fits (exit_inside e a_block (any_unit rest)) (suc d) (k + numbers_in a) fb b (omega (arith, l)) u.3 u.4),

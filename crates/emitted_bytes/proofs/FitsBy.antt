@@ -73,7 +73,7 @@ numbers_few ps n (decides c x y rest) =
     let d = numbers_few ps (n + call_total x + call_total y) rest in
     let behind : ℕ = n + call_total x + call_total y in
     either_few (holds_call ps n x || holds_call ps (n + call_total x) y)
-    (if_unit c (first_piece ps n x) (units ps n x) (first_piece ps (n + call_total x) y) (units ps (n + call_total x) y) (first_piece ps behind rest) (units ps behind rest))
+    (if_unit (Some c) (first_piece ps n x) (units ps n x) (first_piece ps (n + call_total x) y) (units ps (n + call_total x) y) (first_piece ps behind rest) (units ps behind rest))
     (units ps behind rest) (call_total x + call_total y + call_total rest) (omega (arith, a, b, d)) (omega (arith, d))
 numbers_few ps n (halts rest) = numbers_few ps n rest
 

@@ -1,12 +1,13 @@
 -- What slim code and slim units have of the numbers of flat ones.
 use Rattle.std.proofs.Common.{List, [], ◌∷◌, Some, None, ℕ}
-use Rattle.wa_types.specs.Syntax.{Code}
+use Rattle.wa_types.specs.Syntax.{Code, done}
+use Rattle.wa_model.specs.Flat.{followed_by, got}
 use Rattle.wa_model.specs.Store.{gives}
 use Rattle.rewrite_form.specs.Pieces.{Units}
 use Rattle.rewrite_form.specs.Slim as S
 use Rattle.rewrite_form.specs.Slim.{Free, Shape, Slims, Terms, more, ends, does, keeps, uses, saves, narrows, forgets}
-use Rattle.rewrite_form.specs.SlimUnits.{SlimUnits, untouched, alone, before_call, before_block, before_loop, before_if}
-use Rattle.emitted_bytes.proofs.BasicCode.{BasicsFit, UnitsBasic}
+use Rattle.rewrite_form.specs.SlimUnits.{SlimUnits, untouched, alone, before_call, before_block, before_loop, before_if, before_kept_if}
+use Rattle.emitted_bytes.proofs.BasicCode.{followed_fits, got_fits, BasicsFit, UnitsBasic}
 
 module _ (t : Terms) where
   pub code_slim : (n : ℕ) (ts : List Free) (out f : Free) (sh : Shape) (code code' : Code) → Slims t n ts out f sh code code' → BasicsFit code → BasicsFit code'
@@ -39,7 +40,7 @@ module _ (t : Terms) where
       → BasicsFit first' × UnitsBasic us'
   units_basic n ts out _ _ first _ us _ untouched h k = (h, k)
   units_basic n ts out f sh first first' _ _ (alone sl) h k = (code_slim n ts out f sh first first' sl h, tt)
-  units_basic n ts out f sh first first' _ _ (before_call {sh2 = sh2} {behind = behind} {behind' = behind'} {rest = rest} {rest' = rest'} {to = to} {to' = to'} slots x g h2 go sl hs hf re on) h k =
+  units_basic n ts out f sh first first' _ _ (before_call {sh2 = sh2} {behind = behind} {behind' = behind'} {rest = rest} {rest' = rest'} {to = to} {to' = to'} slots x g h2 go sl hs hf re sg on) h k =
       let e = units_basic n ts out h2 sh2 behind behind' rest rest' on k.0 k.1 in
       (code_slim _ ts g f sh first first' sl h, (e.0, e.1))
   units_basic n ts out f sh first first' _ _ (before_block {inner = inner} {inner' = inner'} {behind = behind} {behind' = behind'} {body = body} {body' = body'}
@@ -58,3 +59,9 @@ module _ (t : Terms) where
       let j = units_basic _ (h2 ∷ ts) h2 l [] fb fb' b b' ib k.3 k.4 in
       let e = units_basic n ts out h2 [] behind behind' rest rest' on k.5 k.6 in
       (code_slim _ ts g f sh first first' sl h, (k.0, i.0, i.1, j.0, j.1, e.0, e.1))
+  units_basic n ts out f sh first first' _ _ (before_kept_if {fa = fa} {fa' = fa'} {fb = fb} {fb' = fb'} {behind = behind} {behind' = behind'} {a = a} {a' = a'} {b = b} {b' = b'}
+      {rest = rest} {rest' = rest'} o g h2 go sl ia ib on) h k =
+      let i = units_basic _ (h2 ∷ ts) h2 g [] fa fa' a a' ia k.1 k.2 in
+      let j = units_basic _ (h2 ∷ ts) h2 g [] fb fb' b b' ib k.3 k.4 in
+      let e = units_basic n ts out h2 [] behind behind' rest rest' on k.5 k.6 in
+      (code_slim _ ts g f sh (followed_by first (got o done)) first' sl (followed_fits first (got o done) h (got_fits o done k.0 tt)), (tt, i.0, i.1, j.0, j.1, e.0, e.1))

@@ -10,7 +10,7 @@ use Rattle.guard_form.specs.Functions.{GuardedFunc}
 use Rattle.guard_form.specs.Grouping.{is_place}
 use Rattle.guard_form.specs.Pieces.{Units, no_unit, call_unit, nest_unit, if_unit, numbers_in, call_to, call_total, sole_callee, numbered, holds_call, first_piece, unit_call, units}
 use Rattle.slim_modules.specs.Slim.{Free, Shape, Terms}
-use Rattle.slim_modules.specs.SlimUnits.{SlimUnits, untouched, alone, before_call, before_block, before_loop, before_if}
+use Rattle.slim_modules.specs.SlimUnits.{SlimUnits, untouched, alone, before_call, before_block, before_loop, before_if, before_kept_if}
 use Rattle.slim_modules.proofs.UnitsAlike.{units_alike}
 use Rattle.guard_form.specs.Places.{Enclosing, BodyPlace, at_start, past_call, past_block, past_loop, past_if, in_block, in_loop, in_then, in_else}
 
@@ -38,7 +38,7 @@ at_place Q st f _ _ _ h (in_else {k = k} {c = c} {fa = fa} {a = a} {fb = fb} {b 
 pub each_slim : (Q : ℕ → List ℕ → Type 0) (t : Terms) (n : ℕ) (ts : List Free) (out f : Free) (sh : Shape) (first first' : Code) (us us' : Units) (k : ℕ) → SlimUnits t n ts out f sh first us first' us' → EachUnit Q k us → EachUnit Q k us'
 each_slim Q t n ts out _ _ first _ us _ k untouched h = h
 each_slim Q t n ts out f sh first first' _ _ k (alone sl) h = h
-each_slim Q t n ts out f sh first first' _ _ k (before_call {sh2 = sh2} {behind = behind} {behind' = behind'} {rest = rest} {rest' = rest'} slots x g h2 go sl hs hf re on) h =
+each_slim Q t n ts out f sh first first' _ _ k (before_call {sh2 = sh2} {behind = behind} {behind' = behind'} {rest = rest} {rest' = rest'} slots x g h2 go sl hs hf re sg on) h =
     (h.0, each_slim Q t n ts out h2 sh2 behind behind' rest rest' (suc k) on h.1)
 each_slim Q t n ts out f sh first first' _ _ k (before_block {inner = inner} {inner' = inner'} {behind = behind} {behind' = behind'} {body = body} {body' = body'} {rest = rest} {rest' = rest'} g h2 go sl ib on) h =
     let e = (units_alike t _ (h2 ∷ ts) h2 g [] inner inner' body body' ib).numbers in
@@ -52,6 +52,15 @@ each_slim Q t n ts out f sh first first' _ _ k (before_if {fa = fa} {fa' = fa'} 
       each_slim Q t _ (h2 ∷ ts) h2 l [] fa fa' a a' k ia h.0,
       subst (λ i. EachUnit Q (k + i) b') (sym e) (each_slim Q t _ (h2 ∷ ts) h2 l [] fb fb' b b' (k + numbers_in a) ib h.1),
       subst (λ i. EachUnit Q (k + numbers_in a' + i) rest') (sym e2) (subst (λ i. EachUnit Q (k + i + numbers_in b) rest') (sym e) (each_slim Q t n ts out h2 [] behind behind' rest rest' (k + numbers_in a + numbers_in b) on h.2)),
+    )
+each_slim Q t n ts out f sh first first' _ _ k (before_kept_if {fa = fa} {fa' = fa'} {fb = fb} {fb' = fb'} {behind = behind} {behind' = behind'} {a = a} {a' = a'} {b = b} {b' = b'}
+    {rest = rest} {rest' = rest'} o g h2 go sl ia ib on) h =
+    let e = (units_alike t _ (h2 ∷ ts) h2 g [] fa fa' a a' ia).numbers in
+    let e2 = (units_alike t _ (h2 ∷ ts) h2 g [] fb fb' b b' ib).numbers in (
+      each_slim Q t _ (h2 ∷ ts) h2 g [] fa fa' a a' k ia h.0,
+      subst (λ i. EachUnit Q (k + i) b') (sym e) (each_slim Q t _ (h2 ∷ ts) h2 g [] fb fb' b b' (k + numbers_in a) ib h.1),
+      subst (λ i. EachUnit Q (k + numbers_in a' + i) rest') (sym e2)
+          (subst (λ i. EachUnit Q (k + i + numbers_in b) rest') (sym e) (each_slim Q t n ts out h2 [] behind behind' rest rest' (k + numbers_in a + numbers_in b) on h.2)),
     )
 
 -- ---- the same of each call of statements, by its place
@@ -91,7 +100,7 @@ no_numbers ps n (nests s body rest) h = by (holds_call ps n body) h (λ g. no_nu
 no_numbers ps n (decides c a b rest) h = by (holds_call ps n a || holds_call ps (n + call_total a) b) h (λ g. no_numbers ps (n + call_total a + call_total b) rest g)
   where
     by : (z : Bool) → (z || holds_call ps (n + call_total a + call_total b) rest) ≡ false → (holds_call ps (n + call_total a + call_total b) rest ≡ false → numbers_in (units ps (n + call_total a + call_total b) rest) ≡ 0)
-        → numbers_in (if z then if_unit c (first_piece ps n a) (units ps n a) (first_piece ps (n + call_total a) b) (units ps (n + call_total a) b) (first_piece ps (n + call_total a + call_total b) rest) (units ps (n + call_total a + call_total b) rest) else units ps (n + call_total a + call_total b) rest) ≡ 0
+        → numbers_in (if z then if_unit (Some c) (first_piece ps n a) (units ps n a) (first_piece ps (n + call_total a) b) (units ps (n + call_total a) b) (first_piece ps (n + call_total a + call_total b) rest) (units ps (n + call_total a + call_total b) rest) else units ps (n + call_total a + call_total b) rest) ≡ 0
     by true h on = cc
     by false h on = on h
 no_numbers ps n (halts rest) h = no_numbers ps n rest h
@@ -182,7 +191,7 @@ module _ (ps : List ℕ) (rank : ℕ → ℕ) (next : (n : ℕ) → rank (suc n)
 
       by : (x : Bool) → holds_call ps n a ≡ x → (y : Bool) → holds_call ps (n + call_total a) b ≡ y → rank n + numbers_in (units ps n a) ≡ rank (n + call_total a) → rank (n + call_total a) + numbers_in (units ps (n + call_total a) b) ≡ rank (n + call_total a + call_total b)
           → rank (n + call_total a + call_total b) + numbers_in (units ps (n + call_total a + call_total b) rest) ≡ rank (n + call_total a + call_total b + call_total rest)
-          → rank n + numbers_in (if x || y then if_unit c (first_piece ps n a) (units ps n a) (first_piece ps (n + call_total a) b) (units ps (n + call_total a) b) (first_piece ps (n + call_total a + call_total b) rest) (units ps (n + call_total a + call_total b) rest) else units ps (n + call_total a + call_total b) rest)
+          → rank n + numbers_in (if x || y then if_unit (Some c) (first_piece ps n a) (units ps n a) (first_piece ps (n + call_total a) b) (units ps (n + call_total a) b) (first_piece ps (n + call_total a + call_total b) rest) (units ps (n + call_total a + call_total b) rest) else units ps (n + call_total a + call_total b) rest)
           ≡ rank (n + (call_total a + call_total b + call_total rest))
       by true e y f ia ib ih = let z = ap rank (four n (call_total a) (call_total b) (call_total rest)) in omega arith
       by false e true f ia ib ih = let z = ap rank (four n (call_total a) (call_total b) (call_total rest)) in omega arith
@@ -225,7 +234,7 @@ module _ (ps : List ℕ) (rank : ℕ → ℕ) (next : (n : ℕ) → rank (suc n)
       where
         by : (x : Bool) → holds_call ps n a ≡ x → (y : Bool) → holds_call ps (n + call_total a) b ≡ y → EachUnit Q (rank n) (units ps n a) → EachUnit Q (rank (n + call_total a)) (units ps (n + call_total a) b)
             → EachUnit Q (rank (n + call_total a + call_total b)) (units ps (n + call_total a + call_total b) rest)
-            → EachUnit Q (rank n) (if x || y then if_unit c (first_piece ps n a) (units ps n a) (first_piece ps (n + call_total a) b) (units ps (n + call_total a) b) (first_piece ps (n + call_total a + call_total b) rest) (units ps (n + call_total a + call_total b) rest) else units ps (n + call_total a + call_total b) rest)
+            → EachUnit Q (rank n) (if x || y then if_unit (Some c) (first_piece ps n a) (units ps n a) (first_piece ps (n + call_total a) b) (units ps (n + call_total a) b) (first_piece ps (n + call_total a + call_total b) rest) (units ps (n + call_total a + call_total b) rest) else units ps (n + call_total a + call_total b) rest)
         by true e y f ia ib ih =
             let ra = ranks n a k.0 in let rb = ranks (n + call_total a) b k.1 in
             (ia, moved (units ps (n + call_total a) b) ra ib, moved (units ps (n + call_total a + call_total b) rest) (let w : rank n + numbers_in (units ps n a) + numbers_in (units ps (n + call_total a) b) ≡ rank (n + call_total a + call_total b) = omega arith in w) ih)

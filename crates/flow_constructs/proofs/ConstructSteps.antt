@@ -200,7 +200,7 @@ numbers_few ps n (decides c a b rest) = by (holds_call ps n a || holds_call ps (
   where
     by : (z : Bool) → numbers_in (units ps n a) ≤ call_total a → numbers_in (units ps (n + call_total a) b) ≤ call_total b
         → numbers_in (units ps (n + call_total a + call_total b) rest) ≤ call_total rest
-        → numbers_in (if z then if_unit c (first_piece ps n a) (units ps n a) (first_piece ps (n + call_total a) b) (units ps (n + call_total a) b)
+        → numbers_in (if z then if_unit (Some c) (first_piece ps n a) (units ps n a) (first_piece ps (n + call_total a) b) (units ps (n + call_total a) b)
         (first_piece ps (n + call_total a + call_total b) rest) (units ps (n + call_total a + call_total b) rest) else units ps (n + call_total a + call_total b) rest) ≤ call_total
         a + call_total b + call_total rest
     by true ia ib ih = omega arith

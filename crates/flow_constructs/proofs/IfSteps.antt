@@ -69,7 +69,7 @@ module _ (g : Guards) (d : ℕ) (a0 a b : Sequence) (o : Operand) (sa sb : Stmts
   nothing : (s : Stmts) → first_piece ps n (decides o sa sb s) ≡ done
   nothing s = if_true (holds_call ps n sa || holds_call ps n2 sb) done _ there
 
-  unit : (s : Stmts) → units ps n (decides o sa sb s) ≡ if_unit o (first_piece ps n sa) ua (first_piece ps n2 sb) ub (first_piece ps m s) (units ps m s)
+  unit : (s : Stmts) → units ps n (decides o sa sb s) ≡ if_unit (Some o) (first_piece ps n sa) ua (first_piece ps n2 sb) ub (first_piece ps m s) (units ps m s)
   unit s = if_true (holds_call ps n sa || holds_call ps n2 sb) _ _ there
 
   chosen_too : code chosen ≡ choice i k ua ub
@@ -85,7 +85,7 @@ module _ (g : Guards) (d : ℕ) (a0 a b : Sequence) (o : Operand) (sa sb : Stmts
       let closed : b.behind ≡ false = behind ∙ st.closed in
       let pl : b.place ≡ m = place ∙ part2.place in
       let nu : b.number ≡ k + numbers_in ua + numbers_in ub = number ∙ part2.number in
-      let us : units ps a.place u ≡ if_unit o (first_piece ps n sa) ua (first_piece ps n2 sb) ub (first_piece ps m s) (units ps m s) = ap (λ z. units ps z u) st.place ∙ unit s in
+      let us : units ps a.place u ≡ if_unit (Some o) (first_piece ps n sa) ua (first_piece ps n2 sb) ub (first_piece ps m s) (units ps m s) = ap (λ z. units ps z u) st.place ∙ unit s in
       let fa : first_of ps a u ≡ code a.piece.items = ap (onto a.piece.items) (ap (λ z. first_piece ps z u) st.place ∙ nothing s) ∙ onto_done a.piece.items in
       let fb : first_of ps b s ≡ first_piece ps m s = (λ j. onto (none j) (first_piece ps (pl j) s)) ∙ onto_none (first_piece ps m s) in
       let behind_code = front i each_end d (k + numbers_in ua + numbers_in ub) (first_piece ps m s) (units ps m s) in

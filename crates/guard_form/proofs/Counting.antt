@@ -6,11 +6,11 @@ use Rattle.wa_types.specs.Syntax.{Shape, a_block, a_loop, Code, done, plain, nes
 use Rattle.wa_types.specs.Pausing.{Callee, direct, indirect, callee, callee_onto, calls_of, places_from}
 use Rattle.wa_model.specs.declared.flat.Operand.{Operand}
 use Rattle.wa_model.specs.declared.flat.Operand.TheVariants.{Local, Const}
-use Rattle.wa_model.specs.Flat.{Stmts, no_more, computes, copies, calls, leaps, leaps_if, leaps_by, nests, decides, halts, followed_by, got, set_to, slots_got, last_of, result_got}
+use Rattle.wa_model.specs.Flat.{Stmts, no_more, computes, copies, calls, leaps, leaps_if, leaps_by, nests, decides, halts, followed_by, set_to, slots_got, last_of, result_got}
 use Rattle.guard_form.specs.Functions.{GuardedFunc, MayCall, Calls, PiecesCall}
 use Rattle.guard_form.specs.Grouping.{is_place, StmtsNumbered}
 use Rattle.guard_form.specs.Numbers.{UnitsNumbered, UnitsAreNumbered, calls_behind, NumberedAt, NumbersArePlaces}
-use Rattle.guard_form.specs.Pieces.{Units, no_unit, call_unit, nest_unit, if_unit, numbers_in, call_to, call_total, flat_units, sole_callee, numbered, holds_call, first_piece, unit_call, units}
+use Rattle.guard_form.specs.Pieces.{Units, no_unit, call_unit, nest_unit, if_unit, numbers_in, call_to, call_total, got_any, flat_units, sole_callee, numbered, holds_call, first_piece, unit_call, units}
 use Rattle.guard_form.specs.Places.{Enclosing, in_a_block, in_a_loop, flat_labels, BodyPlace, at_start, past_call, past_block, past_loop, past_if, in_block, in_loop, in_then, in_else}
 
 -- ---- calls of codes in a row
@@ -41,10 +41,11 @@ unfolding calls_of
 calls_call (direct y) c = refl
 calls_call (indirect t) c = refl
 
-pub calls_if : (o : Operand) (a b c : Code) → calls_of (got o (branch None a b c)) ≡ calls_of a ++ calls_of b ++ calls_of c
+pub calls_if : (o : Option Operand) (a b c : Code) → calls_of (got_any o (branch None a b c)) ≡ calls_of a ++ calls_of b ++ calls_of c
 unfolding calls_of
-calls_if (Local x) a b c = refl
-calls_if (Const v) a b c = refl
+calls_if None a b c = refl
+calls_if (Some (Local x)) a b c = refl
+calls_if (Some (Const v)) a b c = refl
 
 pub calls_nest : (s : Shape) (a c : Code) → calls_of (nest s None a c) ≡ calls_of a ++ calls_of c
 unfolding calls_of
@@ -346,7 +347,7 @@ module _ (test : Callee → Bool) (ps : List ℕ) where
     where
       by : (h : Bool) → UnitsNumbered test (units ps n a) → UnitsNumbered test (units ps (n + call_total a) b)
           → UnitsNumbered test (units ps (n + call_total a + call_total b) rest)
-          → UnitsNumbered test (if h then if_unit c (first_piece ps n a) (units ps n a) (first_piece ps (n + call_total a) b) (units ps (n + call_total a) b)
+          → UnitsNumbered test (if h then if_unit (Some c) (first_piece ps n a) (units ps n a) (first_piece ps (n + call_total a) b) (units ps (n + call_total a) b)
           (first_piece ps (n + call_total a + call_total b) rest) (units ps (n + call_total a + call_total b) rest) else units ps (n + call_total a + call_total b) rest)
       by true ia ib ih = (ia, ib, ih)
       by false ia ib ih = ih

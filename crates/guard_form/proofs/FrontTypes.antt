@@ -7,12 +7,13 @@ use Rattle.wa_types.specs.declared.operators.NumOp.TheVariants.{I32Ne}
 use Rattle.wa_types.specs.Syntax.{Plain, Shape, num, global_get, basic, local_get, local_set, local_tee, br, br_if, br_table, return, unreachable, call, call_indirect, a_block, a_loop, Code, done, plain, nest, branch}
 use Rattle.wa_types.specs.Pausing.{Callee, direct, indirect}
 use Rattle.wa_types.specs.Typing.{Around, gets, sets, gets_global, jump, may_jump, jumps, all_there, all_alike, agrees_with, sig, Takes, label, listed, Types}
+use Rattle.wa_model.specs.declared.flat.Operand.{Operand}
 use Rattle.wa_model.specs.Flat.{followed_by, got, set_to, slots_got, result_got}
 use Rattle.guard_form.specs.Guarded.{raise, raised_plain, raised, GuardIndices, by_state, index_with, guarded, sought, index_noted, noted, call_guarded, choice, arm, Exit, each_end, its_end, by_label, nowhere, exit_behind, exit_inside, last_piece, call_front, body_exit, front}
-use Rattle.guard_form.specs.Pieces.{Units, no_unit, call_unit, nest_unit, if_unit, any_unit, numbers_in, call_to}
-use Rattle.guard_form.specs.Typed.{UnitsTyped, UnitsTypedFrom, ExitTyped, an_i32, FrontTyped, FrontTypedFrom, BodyTyped, BodyTypedFrom}
+use Rattle.guard_form.specs.Pieces.{Units, no_unit, call_unit, nest_unit, if_unit, any_unit, numbers_in, call_to, got_any, StartsGot}
+use Rattle.guard_form.specs.Typed.{UnitsTyped, ConditionTyped, UnitsTypedFrom, ExitTyped, an_i32, FrontTyped, FrontTypedFrom, BodyTyped, BodyTypedFrom}
 use Rattle.guard_form.proofs.PieceTypes.{types_then}
-use Rattle.guard_form.proofs.CodeLemmas.{raise_out, raise_in, raise_on}
+use Rattle.guard_form.proofs.CodeLemmas.{raise_out, raise_in, raise_on, then_done}
 
 abbrev Labels : Type 0
 Labels = List (Option ValType)
@@ -228,21 +229,28 @@ module _ (c : Around) where
     call_typed ls nowhere true k first by_own next et hf hc hn = in_block ls k first (by_own true) next hf (hc true) hn
     call_typed ls nowhere false k first by_own next et hf hc hn = guards ls first (by_own false) hf (hc false)
 
-    first_typed : (ls : Labels) (ins : List ValType) (first : Code) (us : Units) → UnitsTypedFrom c ls ins first us → Types c ls first [] ins
-    first_typed ls ins first no_unit h = h
-    first_typed ls ins first (call_unit slots x to behind rest) h = h.1
-    first_typed ls ins first (nest_unit s inner body behind rest) h = h.0
-    first_typed ls ins first (if_unit o fa a fb b behind rest) h = h.0
+    first_typed : (ls : Labels) (ins : List ValType) (first : Code) (us : Units) → StartsGot us → UnitsTypedFrom c ls ins first us → Types c ls first [] ins
+    first_typed ls ins first no_unit g h = h
+    first_typed ls ins first (call_unit slots x to behind rest) g h = h.1
+    first_typed ls ins first (nest_unit s inner body behind rest) g h = h.0
+    first_typed ls ins first (if_unit None fa a fb b behind rest) g h = absurd g
+    first_typed ls ins first (if_unit (Some o) fa a fb b behind rest) g h = (h.0).0
 
     -- with the piece in front passed
-    done_typed : (ls : Labels) (ins : List ValType) (first : Code) (us : Units) → UnitsTypedFrom c ls ins first us → UnitsTypedFrom c ls [] done us
+    done_typed : (ls : Labels) (ins : List ValType) (first : Code) (us : Units) → StartsGot us → UnitsTypedFrom c ls ins first us → UnitsTypedFrom c ls [] done us
     unfolding Types
-    done_typed ls ins first no_unit h = refl
-    done_typed ls ins first (call_unit slots x to behind rest) h = (h.0, refl, h.2, h.3)
-    done_typed ls ins first (nest_unit s inner body behind rest) h = (refl, h.1, h.2)
-    done_typed ls ins first (if_unit o fa a fb b behind rest) h = (refl, h.1, h.2, h.3, h.4)
+    done_typed ls ins first no_unit g h = refl
+    done_typed ls ins first (call_unit slots x to behind rest) g h = (h.0, refl, h.2, h.3, h.4)
+    done_typed ls ins first (nest_unit s inner body behind rest) g h = (refl, h.1, h.2)
+    done_typed ls ins first (if_unit None fa a fb b behind rest) g h = absurd g
+    done_typed ls ins first (if_unit (Some o) fa a fb b behind rest) g h = ((refl, (h.0).1), h.1, h.2, h.3)
 
-    arm_typed : (ls : Labels) (us : Units) (first code : Code) → Types c ls first [] [] → Types c ls code [] [] → Types c ls (arm us first code) [] []
+    -- a piece with the condition behind it
+    condition_typed : (ls : Labels) (first : Code) (o : Option Operand) → ConditionTyped c ls [] first o → Types c ls (followed_by first (got_any o done)) (I32 ∷ []) []
+    condition_typed ls first None h = subst (λ z. Types c ls z (I32 ∷ []) []) (sym (then_done first)) h
+    condition_typed ls first (Some o) h = types_then c ls first (got o done) (I32 ∷ []) [] [] h.0 h.1
+
+    arm_typed : (ls : Labels) (us : Units) (first code : Code) → UnitsTypedFrom c ls [] first us → Types c ls code [] [] → Types c ls (arm us first code) [] []
     arm_typed ls no_unit first code h g = h
     arm_typed ls (call_unit _ _ _ _ _) first code h g = g
     arm_typed ls (nest_unit _ _ _ _ _) first code h g = g
@@ -253,9 +261,9 @@ module _ (c : Around) where
     unfolding Types
     front_typed ls v d k no_unit first e et h = last_typed ls v first h
     front_typed ls v d k (call_unit slots x to behind rest) first e et h =
-        let hb = first_typed ls h.0 behind rest h.3 in
+        let hb = first_typed ls h.0 behind rest h.4 h.3 in
         call_typed ls v (any_unit rest) k first (λ own. call_guarded i own d k slots x to behind) (front i v d (suc k) done rest) et h.1
-        (λ own. called_typed ls own d k slots x to behind h.0 e hb h.2) (front_typed ls v d (suc k) rest done e et (done_typed ls h.0 behind rest h.3))
+        (λ own. called_typed ls own d k slots x to behind h.0 e hb h.2) (front_typed ls v d (suc k) rest done e et (done_typed ls h.0 behind rest h.4 h.3))
     front_typed ls v d k (nest_unit a_block inner body behind rest) first e et h =
         let w = exit_inside v a_block (any_unit rest) in
         guards ls first (nest a_block None (front i w (suc d) k inner body) (front i v d (k + numbers_in body) behind rest)) h.0
@@ -267,23 +275,34 @@ module _ (c : Around) where
     front_typed ls v d k (if_unit o fa a fb b behind rest) first e et h =
         let w = exit_inside v a_block (any_unit rest) in
         let wt = exit_typed ls a_block v (any_unit rest) et in
-        let ta = arm_typed (None ∷ ls) a fa (front i w (suc d) k fa a) (first_typed (None ∷ ls) [] fa a h.2) (front_typed (None ∷ ls) w (suc d) k a fa e wt h.2) in
-        let tb = arm_typed (None ∷ ls) b fb (front i w (suc d) (k + numbers_in a) fb b) (first_typed (None ∷ ls) [] fb b h.3)
-        (front_typed (None ∷ ls) w (suc d) (k + numbers_in a) b fb e wt h.3) in
-        let condition = types_then c ls first (got o done) (I32 ∷ []) [] [] h.0 h.1 in
-        let raised_too = types_raised [] (Some I32 ∷ []) ls (followed_by first (got o done)) (I32 ∷ []) [] condition in
-        (I32 ∷ [], gets_state ls [], ([], refl, chooses (Some I32 ∷ ls) k a b, raised_too, ([], refl, ta, tb, front_typed ls v d (k + numbers_in a + numbers_in b) rest behind e et h.4)))
+        let ta = arm_typed (None ∷ ls) a fa (front i w (suc d) k fa a) h.1 (front_typed (None ∷ ls) w (suc d) k a fa e wt h.1) in
+        let tb = arm_typed (None ∷ ls) b fb (front i w (suc d) (k + numbers_in a) fb b) h.2 (front_typed (None ∷ ls) w (suc d) (k + numbers_in a) b fb e wt h.2) in
+        let raised_too = types_raised [] (Some I32 ∷ []) ls (followed_by first (got_any o done)) (I32 ∷ []) [] (condition_typed ls first o h.0) in
+        (I32 ∷ [], gets_state ls [], ([], refl, chooses (Some I32 ∷ ls) k a b, raised_too, ([], refl, ta, tb, front_typed ls v d (k + numbers_in a + numbers_in b) rest behind e et h.3)))
 
     body_typed : (ls : Labels) (exits : Bool) → ExitTyped ls (body_exit exits)
     body_typed ls true = tt
     body_typed ls false = tt
 
+  -- a condition is got where nothing leaves it
+  none_left : (ls : Labels) → Types c ls done (I32 ∷ []) [] → ⊥
+  unfolding Types
+  none_left ls h = cc
+
+  starts_got : (ls : Labels) (first : Code) (us : Units) → UnitsTyped c ls first us → StartsGot us
+  starts_got ls first no_unit h = tt
+  starts_got ls first (call_unit slots x to behind rest) h = tt
+  starts_got ls first (nest_unit s inner body behind rest) h = tt
+  starts_got ls first (if_unit None fa a fb b behind rest) h = none_left ls h.1
+  starts_got ls first (if_unit (Some o) fa a fb b behind rest) h = tt
+
   -- where no call leaves an operand
   pub from_none : (ls : Labels) (first : Code) (us : Units) → UnitsTyped c ls first us → UnitsTypedFrom c ls [] first us
   from_none ls first no_unit h = h
-  from_none ls first (call_unit slots x to behind rest) h = ([], h.0, h.1, from_none ls behind rest h.2)
+  from_none ls first (call_unit slots x to behind rest) h = ([], h.0, h.1, from_none ls behind rest h.2, starts_got ls behind rest h.2)
   from_none ls first (nest_unit s inner body behind rest) h = (h.0, from_none (None ∷ ls) inner body h.1, from_none ls behind rest h.2)
-  from_none ls first (if_unit o fa a fb b behind rest) h = (h.0, h.1, from_none (None ∷ ls) fa a h.2, from_none (None ∷ ls) fb b h.3, from_none ls behind rest h.4)
+  from_none ls first (if_unit None fa a fb b behind rest) h = absurd (none_left ls h.1)
+  from_none ls first (if_unit (Some o) fa a fb b behind rest) h = ((h.0, h.1), from_none (None ∷ ls) fa a h.2, from_none (None ∷ ls) fb b h.3, from_none ls behind rest h.4)
 
 pub front_from_law : FrontTypedFrom
 front_from_law c i v d k ls first us state index e et h = front_typed c i state index ls v d k us first e et h

@@ -9,7 +9,7 @@ use Rattle.wa_model.specs.declared.flat.Operand.TheVariants.{Local, Const}
 use Rattle.wa_model.specs.Flat.{Stmts, no_more, computes, copies, calls, leaps, leaps_if, leaps_by, nests, decides, halts, followed_by, got, all_got, set_to, slots_got, last_of, code_of}
 use Rattle.guard_form.specs.Functions.{MayCall, Calls, PiecesCall, HasUnit, ArmsHold}
 use Rattle.guard_form.specs.Grouping.{is_place, StmtsNumbered, PiecesJoin, UnitsHold, PiecesAreFree}
-use Rattle.guard_form.specs.Pieces.{Units, no_unit, call_unit, nest_unit, if_unit, call_to, flat_units, call_total, sole_callee, numbered, holds_call, piece_call, first_piece, unit_call, units}
+use Rattle.guard_form.specs.Pieces.{Units, no_unit, call_unit, nest_unit, if_unit, call_to, got_any, flat_units, call_total, sole_callee, numbered, holds_call, piece_call, first_piece, unit_call, units}
 use Rattle.guard_form.proofs.UnitLemmas.{any_is, Some_unit}
 
 -- ---- one behind the other
@@ -25,6 +25,10 @@ pub then_got : (a : Operand) (c r : Code) → followed_by (got a c) r ≡ got a 
 unfolding followed_by
 then_got (Local x) c r = refl
 then_got (Const v) c r = refl
+
+pub then_any : (o : Option Operand) (c r : Code) → followed_by (got_any o c) r ≡ got_any o (followed_by c r)
+then_any None c r = refl
+then_any (Some o) c r = then_got o c r
 
 pub then_all_got : (args : List Operand) (c r : Code) → followed_by (all_got args c) r ≡ all_got args (followed_by c r)
 then_all_got [] c r = refl
@@ -121,7 +125,7 @@ joins ps n (decides c a b rest) = by_held (holds_call ps n a || holds_call ps (n
 
     by_held : (h : Bool) → joined ps n a ≡ code_of a → joined ps (n + call_total a) b ≡ code_of b → joined ps (n + call_total a + call_total b) rest ≡ code_of rest
         → followed_by (if h then done else got c (branch None (code_of a) (code_of b) (first_piece ps m rest)))
-        (flat_units (if h then if_unit c (first_piece ps n a) (units ps n a) (first_piece ps k b) (units ps k b) (first_piece ps m rest) (units ps m rest) else units ps m rest))
+        (flat_units (if h then if_unit (Some c) (first_piece ps n a) (units ps n a) (first_piece ps k b) (units ps k b) (first_piece ps m rest) (units ps m rest) else units ps m rest))
         ≡ got c (branch None (code_of a) (code_of b) (code_of rest))
     by_held true ia ib ih = ap (λ z. got c (branch None z (joined ps k b) (joined ps m rest))) ia ∙ ap (λ z. got c (branch None (code_of a) z (joined ps m rest))) ib
         ∙ ap (λ z. got c (branch None (code_of a) (code_of b) z)) ih
@@ -161,7 +165,7 @@ has_unit ps n (decides c a b rest) e = by (holds_call ps n a || holds_call ps (n
   where
     by : (h : Bool) → (h || holds_call ps (n + call_total a + call_total b) rest) ≡ true
         → (holds_call ps (n + call_total a + call_total b) rest ≡ true → Some_unit (units ps (n + call_total a + call_total b) rest))
-        → Some_unit (if h then if_unit c (first_piece ps n a) (units ps n a) (first_piece ps (n + call_total a) b) (units ps (n + call_total a) b)
+        → Some_unit (if h then if_unit (Some c) (first_piece ps n a) (units ps n a) (first_piece ps (n + call_total a) b) (units ps (n + call_total a) b)
         (first_piece ps (n + call_total a + call_total b) rest) (units ps (n + call_total a + call_total b) rest) else units ps (n + call_total a + call_total b) rest)
     by true e ih = tt
     by false e ih = ih e
@@ -206,7 +210,7 @@ arms_hold ps n (decides c a b rest) = by (holds_call ps n a) refl (holds_call ps
   where
     by : (x : Bool) → holds_call ps n a ≡ x → (y : Bool) → holds_call ps (n + call_total a) b ≡ y → ArmsHold (units ps n a) → ArmsHold (units ps (n + call_total a) b)
         → ArmsHold (units ps (n + call_total a + call_total b) rest)
-        → ArmsHold (if x || y then if_unit c (first_piece ps n a) (units ps n a) (first_piece ps (n + call_total a) b) (units ps (n + call_total a) b)
+        → ArmsHold (if x || y then if_unit (Some c) (first_piece ps n a) (units ps n a) (first_piece ps (n + call_total a) b) (units ps (n + call_total a) b)
         (first_piece ps (n + call_total a + call_total b) rest) (units ps (n + call_total a + call_total b) rest) else units ps (n + call_total a + call_total b) rest)
     by true e y f ia ib ih = (one_has (units ps n a) (units ps (n + call_total a) b) (has_unit ps n a e), ia, ib, ih)
     by false e true f ia ib ih = (other_has (units ps n a) (units ps (n + call_total a) b) (has_unit ps (n + call_total a) b f), ia, ib, ih)
@@ -229,6 +233,10 @@ module _ (P : Callee → Type 0) where
   pub calls_got : (a : Operand) (c : Code) → Calls P c → Calls P (got a c)
   calls_got (Local x) c h = (tt, h)
   calls_got (Const v) c h = (tt, h)
+
+  pub calls_any : (o : Option Operand) (c : Code) → Calls P c → Calls P (got_any o c)
+  calls_any None c h = h
+  calls_any (Some o) c h = calls_got o c h
 
   calls_all_got : (args : List Operand) (c : Code) → Calls P c → Calls P (all_got args c)
   calls_all_got [] c h = h
@@ -331,7 +339,7 @@ module _ (test : Callee → Bool) (ps : List ℕ) where
     where
       by : (h : Bool) → (holds_call ps n a || holds_call ps (n + call_total a) b) ≡ h → Free n a → Free (n + call_total a) b → Free (n + call_total a + call_total b) rest
           → Calls F (if h then done else got c (branch None (code_of a) (code_of b) (first_piece ps (n + call_total a + call_total b) rest)))
-          × PiecesCall F (if h then if_unit c (first_piece ps n a) (units ps n a) (first_piece ps (n + call_total a) b) (units ps (n + call_total a) b)
+          × PiecesCall F (if h then if_unit (Some c) (first_piece ps n a) (units ps n a) (first_piece ps (n + call_total a) b) (units ps (n + call_total a) b)
           (first_piece ps (n + call_total a + call_total b) rest) (units ps (n + call_total a + call_total b) rest) else units ps (n + call_total a + call_total b) rest)
       by true e ia ib r = (tt, (ia.0, ia.1, ib.0, ib.1, r.0, r.1))
       by false e ia ib r = let o = or_false (holds_call ps n a) (holds_call ps (n + call_total a) b) e in (calls_got F c _ (free_code n a t.0 o.0, free_code (n + call_total a) b t.1 o.1, r.0), r.1)

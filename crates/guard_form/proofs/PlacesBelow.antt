@@ -1,5 +1,5 @@
 -- How many numbered calls stand from a place on.
-use Rattle.std.proofs.Common.{◌≡◌, ℕ, suc, ◌+◌, ◌≤◌, List, [], ◌∷◌, Option, Bool, true, false, arith, refl, sym, ap, subst, eqb-true}
+use Rattle.std.proofs.Common.{◌≡◌, ℕ, ◌+◌, ◌≤◌, List, Option, Bool, true, false, arith, eqb-true}
 use Rattle.wa_types.specs.Pausing.{Callee}
 use Rattle.wa_types.specs.Syntax.{a_block, a_loop, Code}
 use Rattle.guard_form.specs.Functions.{GuardedFunc}

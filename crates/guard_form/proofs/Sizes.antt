@@ -12,7 +12,7 @@ use Rattle.wa_model.specs.Rewrites.{instructions_and_labels}
 use Rattle.wa_model.specs.Flat.{followed_by, got, set_to, slots_got}
 use Rattle.guard_form.specs.Bounds.{over, unit_count, SizeBound, DepthBound, PassingBound, plain_reads, reads, ReadsBound}
 use Rattle.guard_form.specs.Guarded.{raise, raised_plain, raised, GuardIndices, guarded, sought, one_more, index_noted, noted, call_guarded, choice, arm, Exit, each_end, its_end, by_label, nowhere, exit_inside, last_piece, call_front, front}
-use Rattle.guard_form.specs.Pieces.{Units, no_unit, call_unit, nest_unit, if_unit, any_unit, numbers_in, call_to, flat_units}
+use Rattle.guard_form.specs.Pieces.{Units, no_unit, call_unit, nest_unit, if_unit, any_unit, numbers_in, call_to, got_any, flat_units}
 
 abbrev size : Code → ℕ
 size c = instructions_and_labels c
@@ -69,6 +69,14 @@ pub size_got : (a : Operand) (c : Code) → size (got a c) ≡ 1 + size c
 unfolding instructions_and_labels
 size_got (Local x) c = refl
 size_got (Const v) c = refl
+
+abbrev pub any_size : Option Operand → ℕ
+any_size None = 0
+any_size (Some o) = 1
+
+pub size_any : (o : Option Operand) (c : Code) → size (got_any o c) ≡ any_size o + size c
+size_any None c = omega arith
+size_any (Some o) c = size_got o c
 
 pub no_labels : (x : Callee) → label_count (call_to x) ≡ 0
 no_labels (direct x) = refl
@@ -176,11 +184,11 @@ size_front i v d k first (if_unit c fa a fb b behind rest) =
     let aa : size (arm a fa na) ≤ size fa_ + 11 * unit_count a + 2 = size_arm a fa na (size fa_ + 11 * unit_count a + 2) (omega arith) ia in
     let ab : size (arm b fb nb) ≤ size fb_ + 11 * unit_count b + 2 = size_arm b fb nb (size fb_ + 11 * unit_count b + 2) (omega arith) ib in
     let e = size_then first (flat_units (if_unit c fa a fb b behind rest)) in
-    let e2 = size_got c (branch None fa_ fb_ fr_) in
-    let e3 = size_got c done in
+    let e2 = size_any c (branch None fa_ fb_ fr_) in
+    let e3 = size_any c done in
     let ch = size_choice i k a b in
-    let ep = size_then first (got c done) in
-    let er = size_raised 0 1 (followed_by first (got c done)) in
+    let ep = size_then first (got_any c done) in
+    let er = size_raised 0 1 (followed_by first (got_any c done)) in
     omega arith
 
 pub size_law : SizeBound
@@ -226,6 +234,10 @@ deep_got : (a : Operand) (c : Code) → deep (got a c) ≡ deep c
 unfolding depth_of
 deep_got (Local x) c = refl
 deep_got (Const v) c = refl
+
+deep_any : (o : Option Operand) (c : Code) → deep (got_any o c) ≡ deep c
+deep_any None c = refl
+deep_any (Some o) c = deep_got o c
 
 deep_choice : (i : GuardIndices) (k : ℕ) (a b : Units) → deep (choice i k a b) ≡ 0
 unfolding depth_of
@@ -325,11 +337,11 @@ deep_front i v d k first (if_unit c fa a fb b behind rest) =
     let aa : deep (arm a fa na) ≤ deep fa_ + 2 = deep_arm a fa na (deep fa_ + 2) (omega arith) ia in
     let ab : deep (arm b fb nb) ≤ deep fb_ + 2 = deep_arm b fb nb (deep fb_ + 2) (omega arith) ib in
     let e = deep_then first (flat_units (if_unit c fa a fb b behind rest)) in
-    let e2 = deep_got c (branch None fa_ fb_ fr_) in
-    let e3 = deep_got c done in
+    let e2 = deep_any c (branch None fa_ fb_ fr_) in
+    let e3 = deep_any c done in
     let ch = deep_choice i k a b in
-    let ep = deep_then first (got c done) in
-    let er = deep_raised 0 1 (followed_by first (got c done)) in
+    let ep = deep_then first (got_any c done) in
+    let er = deep_raised 0 1 (followed_by first (got_any c done)) in
     omega arith
 
 pub depth_law : DepthBound
@@ -397,6 +409,10 @@ module _ (st : ℕ) where
   reads_got : (a : Operand) (c : Code) → reads st (got a c) ≡ reads st c
   reads_got (Local x) c = omega arith
   reads_got (Const v) c = omega arith
+
+  reads_any : (o : Option Operand) (c : Code) → reads st (got_any o c) ≡ reads st c
+  reads_any None c = refl
+  reads_any (Some o) c = reads_got o c
 
   reads_call : (x : Callee) → plain_reads st (call_to x) ≡ 0
   reads_call (direct x) = refl
@@ -504,12 +520,12 @@ module _ (i : GuardIndices) where
       let aa : reads i.state (arm a fa na) ≤ reads i.state fa_ + 4 * unit_count a + 1 = reads_arm i.state a fa na (reads i.state fa_ + 4 * unit_count a + 1) (omega arith) ia in
       let ab : reads i.state (arm b fb nb) ≤ reads i.state fb_ + 4 * unit_count b + 1 = reads_arm i.state b fb nb (reads i.state fb_ + 4 * unit_count b + 1) (omega arith) ib in
       let e = reads_then i.state first (flat_units (if_unit c fa a fb b behind rest)) in
-      let e2 = reads_got i.state c (branch None fa_ fb_ fr_) in
-      let e3 = reads_got i.state c done in
+      let e2 = reads_any i.state c (branch None fa_ fb_ fr_) in
+      let e3 = reads_any i.state c done in
       let ch = reads_choice k a b in
       let o = one_read i.state (basic (global_get i.state)) in
-      let ep = reads_then i.state first (got c done) in
-      let er = reads_raised i.state 0 1 (followed_by first (got c done)) in
+      let ep = reads_then i.state first (got_any c done) in
+      let er = reads_raised i.state 0 1 (followed_by first (got_any c done)) in
       omega arith
 
 pub reads_law : ReadsBound

@@ -10,7 +10,7 @@ use Rattle.guard_form.specs.Bounds.{unit_count, over, one_if, numbered_calls, ho
 use Rattle.guard_form.specs.Guarded.{each_end, body_exit, GuardIndices, guard_indices}
 use Rattle.guard_form.specs.Pieces.{Units, no_unit, call_unit, nest_unit, if_unit, call_to, numbers_in, call_total, numbered, holds_call, flat_units, first_piece, unit_call, units}
 use Rattle.guard_form.proofs.Grouped.{or_false, joins_law}
-use Rattle.guard_form.proofs.Sizes.{size_then, size_slots, size_set, size_got, one_read, reads_law}
+use Rattle.guard_form.proofs.Sizes.{size_then, size_slots, size_set, size_any, one_read, reads_law}
 
 abbrev size : Code → ℕ
 size c = instructions_and_labels c
@@ -46,7 +46,7 @@ passing_small first (if_unit c fa a fb b behind rest) =
     let ib = passing_small fb b in
     let ih = passing_small behind rest in
     let e = size_then first (flat_units (if_unit c fa a fb b behind rest)) in
-    let e2 = size_got c (branch None (followed_by fa (flat_units a)) (followed_by fb (flat_units b)) (followed_by behind (flat_units rest))) in
+    let e2 = size_any c (branch None (followed_by fa (flat_units a)) (followed_by fb (flat_units b)) (followed_by behind (flat_units rest))) in
     omega arith
 
 -- ---- units
@@ -73,7 +73,7 @@ units_small (if_unit c fa a fb b behind rest) =
     let ea = size_then fa (flat_units a) in
     let eb = size_then fb (flat_units b) in
     let er = size_then behind (flat_units rest) in
-    let e2 = size_got c (branch None (followed_by fa (flat_units a)) (followed_by fb (flat_units b)) (followed_by behind (flat_units rest))) in
+    let e2 = size_any c (branch None (followed_by fa (flat_units a)) (followed_by fb (flat_units b)) (followed_by behind (flat_units rest))) in
     omega arith
 
 module _ (ps : List ℕ) where
@@ -158,7 +158,7 @@ module _ (ps : List ℕ) where
       by (holds_call ps n a || holds_call ps (n + call_total a) b) refl (counted n a) (counted (n + call_total a) b) (counted (n + call_total a + call_total b) rest)
     where
       by : (h : Bool) → (holds_call ps n a || holds_call ps (n + call_total a) b) ≡ h → Counted n a → Counted (n + call_total a) b → Counted (n + call_total a + call_total b) rest
-          → Come (if h then if_unit c (first_piece ps n a) (units ps n a) (first_piece ps (n + call_total a) b) (units ps (n + call_total a) b)
+          → Come (if h then if_unit (Some c) (first_piece ps n a) (units ps n a) (first_piece ps (n + call_total a) b) (units ps (n + call_total a) b)
           (first_piece ps (n + call_total a + call_total b) rest) (units ps (n + call_total a + call_total b) rest) else units ps (n + call_total a + call_total b) rest)
           (numbered_calls ps n a + numbered_calls ps (n + call_total a) b + numbered_calls ps (n + call_total a + call_total b) rest)
           (numbered_calls ps n a + numbered_calls ps (n + call_total a) b + numbered_calls ps (n + call_total a + call_total b) rest

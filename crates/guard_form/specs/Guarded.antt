@@ -6,8 +6,8 @@ use Rattle.wa_types.specs.declared.values.ValType.TheVariants.{I32}
 use Rattle.wa_types.specs.declared.values.Value.TheVariants as V
 use Rattle.wa_types.specs.declared.operators.NumOp.TheVariants.{I32Ne, I32LtU}
 use Rattle.wa_types.specs.Syntax.{const, num, global_get, Plain, basic, local_get, local_set, br, br_if, br_table, Shape, a_block, a_loop, Code, done, plain, nest, branch}
-use Rattle.wa_model.specs.Flat.{FlatFunc, followed_by, got, set_to, slots_got}
-use Rattle.guard_form.specs.Pieces.{Units, no_unit, call_unit, nest_unit, if_unit, any_unit, numbers_in, call_to, first_piece, units}
+use Rattle.wa_model.specs.Flat.{FlatFunc, followed_by, set_to, slots_got}
+use Rattle.guard_form.specs.Pieces.{Units, no_unit, call_unit, nest_unit, if_unit, any_unit, numbers_in, call_to, first_piece, got_any, units}
 
 -- ---- labels raised
 
@@ -142,7 +142,7 @@ front i e d k first (call_unit slots x to behind rest) =
 front i e d k first (nest_unit s inner body behind rest) =
     guarded i first (nest s None (front i (exit_inside e s (any_unit rest)) (suc d) k inner body) (front i e d (k + numbers_in body) behind rest))
 front i e d k first (if_unit c fa a fb b behind rest) =
-    plain (basic (global_get i.state)) (branch (Some I32) (choice i k a b) (raised 0 1 (followed_by first (got c done)))
+    plain (basic (global_get i.state)) (branch (Some I32) (choice i k a b) (raised 0 1 (followed_by first (got_any c done)))
     (branch None (arm a fa (front i (exit_inside e a_block (any_unit rest)) (suc d) k fa a))
     (arm b fb (front i (exit_inside e a_block (any_unit rest)) (suc d) (k + numbers_in a) fb b)) (front i e d (k + numbers_in a + numbers_in b) behind rest)))
 

@@ -44,18 +44,18 @@ pub data BodyPlace (st : ℕ) (f : GuardedFunc) : ℕ → Units → List Enclosi
       → BodyPlace st f (k + numbers_in body) rest xs
   past_loop : {k : ℕ} {behind : Code} {rest : Units} {xs : List Enclosing} → (first : Code) → (body : Units) → BodyPlace st f k (nest_unit a_loop first body behind rest) xs
       → BodyPlace st f (k + numbers_in body) rest xs
-  past_if : {k : ℕ} {behind : Code} {rest : Units} {xs : List Enclosing} → (c : Operand) → (fa : Code) → (a : Units) → (fb : Code) → (b : Units)
+  past_if : {k : ℕ} {behind : Code} {rest : Units} {xs : List Enclosing} → (c : Option Operand) → (fa : Code) → (a : Units) → (fb : Code) → (b : Units)
       → BodyPlace st f k (if_unit c fa a fb b behind rest) xs
       → BodyPlace st f (k + numbers_in a + numbers_in b) rest xs
   in_block : {k : ℕ} {first : Code} {body : Units} {behind : Code} {rest : Units} {xs : List Enclosing} → (h : ℕ) → BodyPlace st f k (nest_unit a_block first body behind rest) xs
       → BodyPlace st f k body (in_a_block h (k + numbers_in body) done done behind rest ∷ xs)
   in_loop : {k : ℕ} {first : Code} {body : Units} {behind : Code} {rest : Units} {xs : List Enclosing} → (h : ℕ) → BodyPlace st f k (nest_unit a_loop first body behind rest) xs
       → BodyPlace st f k body (in_a_loop h k first body (k + numbers_in body) behind rest ∷ xs)
-  in_then : {k : ℕ} {c : Operand} {fa : Code} {a : Units} {fb : Code} {b : Units} {behind : Code} {rest : Units} {xs : List Enclosing} → (h : ℕ)
+  in_then : {k : ℕ} {c : Option Operand} {fa : Code} {a : Units} {fb : Code} {b : Units} {behind : Code} {rest : Units} {xs : List Enclosing} → (h : ℕ)
       → BodyPlace st f k (if_unit c fa a fb b behind rest) xs
       → BodyPlace st f k a (in_a_block h (k + numbers_in a + numbers_in b) (followed_by fb (flat_units b))
       (arm b fb (front (indices_of st f) (exit_inside (exit_at f xs) a_block (any_unit rest)) (suc (length xs)) (k + numbers_in a) fb b)) behind rest ∷ xs)
-  in_else : {k : ℕ} {c : Operand} {fa : Code} {a : Units} {fb : Code} {b : Units} {behind : Code} {rest : Units} {xs : List Enclosing} → (h : ℕ)
+  in_else : {k : ℕ} {c : Option Operand} {fa : Code} {a : Units} {fb : Code} {b : Units} {behind : Code} {rest : Units} {xs : List Enclosing} → (h : ℕ)
       → BodyPlace st f k (if_unit c fa a fb b behind rest) xs
       → BodyPlace st f (k + numbers_in a) b (in_a_block h (k + numbers_in a + numbers_in b) done done behind rest ∷ xs)
 

@@ -4,9 +4,10 @@ use Rattle.wa_types.specs.declared.values.ValType.{ValType}
 use Rattle.wa_types.specs.declared.values.ValType.TheVariants.{I32}
 use Rattle.wa_types.specs.Syntax.{Code, done, plain}
 use Rattle.wa_types.specs.Typing.{GlobalType, Around, listed, Types, Typed}
+use Rattle.wa_model.specs.declared.flat.Operand.{Operand}
 use Rattle.wa_model.specs.Flat.{Stmts, got, set_to, slots_got, result_got}
 use Rattle.wa_model.specs.FlatTyped.{StmtsTyped}
-use Rattle.guard_form.specs.Pieces.{Units, no_unit, call_unit, nest_unit, if_unit, call_to, first_piece, units}
+use Rattle.guard_form.specs.Pieces.{Units, no_unit, call_unit, nest_unit, if_unit, call_to, first_piece, got_any, units, StartsGot}
 use Rattle.guard_form.specs.Guarded.{GuardIndices, Exit, each_end, its_end, by_label, nowhere, front, written_body}
 
 -- each piece takes no operands to none, and so does each call with its arguments and its result
@@ -15,16 +16,22 @@ UnitsTyped c ls first no_unit = Types c ls first [] []
 UnitsTyped c ls first (call_unit slots x to behind rest) = Types c ls first [] [] × Types c ls (slots_got slots (plain (call_to x) (set_to to done))) [] []
     × UnitsTyped c ls behind rest
 UnitsTyped c ls first (nest_unit s inner body behind rest) = Types c ls first [] [] × UnitsTyped c (None ∷ ls) inner body × UnitsTyped c ls behind rest
-UnitsTyped c ls first (if_unit o fa a fb b behind rest) = Types c ls first [] [] × Types c ls (got o done) (I32 ∷ []) [] × UnitsTyped c (None ∷ ls) fa a
+UnitsTyped c ls first (if_unit o fa a fb b behind rest) = Types c ls first [] [] × Types c ls (got_any o done) (I32 ∷ []) [] × UnitsTyped c (None ∷ ls) fa a
     × UnitsTyped c (None ∷ ls) fb b × UnitsTyped c ls behind rest
 
--- The same where the piece in front takes these operands, and a call may leave operands to the piece behind it.
+-- the piece in front of an `if`, which takes these operands, with the condition behind it, or which leaves it
+abbrev pub ConditionTyped : Around → List (Option ValType) → (ins : List ValType) → (first : Code) → Option Operand → Type 0
+ConditionTyped c ls ins first (Some o) = Types c ls first [] ins × Types c ls (got o done) (I32 ∷ []) []
+ConditionTyped c ls ins first None = Types c ls first (I32 ∷ []) ins
+
+-- The same where the piece in front takes these operands, and a call may leave operands to the piece behind it. Since that piece
+-- stands with the call, it leaves no condition.
 abbrev pub UnitsTypedFrom : Around → List (Option ValType) → (ins : List ValType) → (first : Code) → Units → Type 0
 UnitsTypedFrom c ls ins first no_unit = Types c ls first [] ins
 UnitsTypedFrom c ls ins first (call_unit slots x to behind rest) = (outs : List ValType) × Types c ls first [] ins × Types c ls (slots_got slots (plain (call_to x) (set_to to done))) outs []
-    × UnitsTypedFrom c ls outs behind rest
+    × UnitsTypedFrom c ls outs behind rest × StartsGot rest
 UnitsTypedFrom c ls ins first (nest_unit s inner body behind rest) = Types c ls first [] ins × UnitsTypedFrom c (None ∷ ls) [] inner body × UnitsTypedFrom c ls [] behind rest
-UnitsTypedFrom c ls ins first (if_unit o fa a fb b behind rest) = Types c ls first [] ins × Types c ls (got o done) (I32 ∷ []) [] × UnitsTypedFrom c (None ∷ ls) [] fa a
+UnitsTypedFrom c ls ins first (if_unit o fa a fb b behind rest) = ConditionTyped c ls ins first o × UnitsTypedFrom c (None ∷ ls) [] fa a
     × UnitsTypedFrom c (None ∷ ls) [] fb b × UnitsTypedFrom c ls [] behind rest
 
 -- the label of an exit is one without a result

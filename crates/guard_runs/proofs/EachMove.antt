@@ -221,7 +221,7 @@ module _ (w : Sides) (ok : Together w) where
     arm_near ops k (nest_unit s inner body behind rest) xs first pl ca = four x ops k (nest_unit s inner body behind rest) xs first pl ca
     arm_near ops k (if_unit c fa a fb b behind rest) xs first pl ca = four x ops k (if_unit c fa a fb b behind rest) xs first pl ca
 
-    choice_step : (ops : List Value) (k : ℕ) (c : Operand) (fa : Code) (a : Units) (fb : Code) (b : Units) (behind : Code) (rest : Units) (xs : List Enclosing)
+    choice_step : (ops : List Value) (k : ℕ) (c : Option Operand) (fa : Code) (a : Units) (fb : Code) (b : Units) (behind : Code) (rest : Units) (xs : List Enclosing)
         → BodyPlace w.state f k (if_unit c fa a fb b behind rest) xs
         → M (step_at q x.s x.fn x.under x.ls ops (flat_labels f xs) (branch None (followed_by fa (flat_units a)) (followed_by fb (flat_units b)) (followed_by behind (flat_units rest))))
         (step_at p x.s' x.fn x.under' (x.ls ++ x.extra) ops (written_labels w.state f xs)

@@ -1,5 +1,5 @@
 -- Guarded code in a state that isn't 0.
-use Rattle.std.proofs.Common.{◌≡◌, ◌≢◌, ℕ, suc, ◌+◌, ◌≤◌, ◌<◌, List, [], ◌∷◌, Some, None, Bool, true, false, refl, sym, ap, ◌∙◌, subst, ◌⊎◌, inl, inr, ⊎_elim, arith}
+use Rattle.std.proofs.Common.{◌≡◌, ◌≢◌, ℕ, suc, ◌+◌, ◌≤◌, ◌<◌, List, [], ◌∷◌, Option, Some, None, Bool, true, false, refl, sym, ap, ◌∙◌, subst, ◌⊎◌, inl, inr, ⊎_elim, arith}
 use Rattle.std.proofs.lemmas.Bool.{cases_lt}
 use Rattle.wa_types.specs.declared.values.ValType.TheVariants.{I32}
 use Rattle.wa_types.specs.declared.values.Value.{Value}
@@ -10,11 +10,11 @@ use Rattle.wa_model.specs.Integers.{ine, ilt_u}
 use Rattle.wa_model.specs.declared.flat.Operand.{Operand}
 use Rattle.wa_model.specs.Store.{Store, value_at}
 use Rattle.wa_model.specs.Configuration.{Label, block_label, loop_label, Activation, Configuration, running}
-use Rattle.wa_model.specs.Flat.{followed_by, got}
+use Rattle.wa_model.specs.Flat.{followed_by}
 use Rattle.guard_form.specs.Bounds.{over, passing}
 use Rattle.guard_form.specs.Functions.{GuardedFunc, indices_of, HasUnit, ArmsHold}
 use Rattle.guard_form.specs.Guarded.{raised, GuardIndices, by_state, index_with, guarded, sought, choice, arm, Exit, each_end, its_end, by_label, nowhere, exit_inside, own_block, call_guarded, call_front, front}
-use Rattle.guard_form.specs.Pieces.{Units, no_unit, call_unit, nest_unit, if_unit, any_unit, numbers_in}
+use Rattle.guard_form.specs.Pieces.{Units, no_unit, call_unit, nest_unit, if_unit, any_unit, numbers_in, got_any}
 use Rattle.guard_form.specs.Places.{label_more}
 use Rattle.guard_runs.specs.Rewinding.{Within, ExitsTo, CanExit, Passes}
 use Rattle.guard_form.proofs.UnitLemmas.{Some_unit, any_is, arm_is, choice_is, choice_one, choice_two, some_or_none}
@@ -228,7 +228,7 @@ module _ (p : Module) (st : ℕ) (f : GuardedFunc) (s : Store) (fn : ℕ) (under
     can_exit nowhere us q = tt
 
     -- an `if`: its arms, what follows, and what decides
-    module _ (e : Exit) (d k : ℕ) (first : Code) (x : Operand) (fa : Code) (a : Units) (fb : Code) (b : Units) (behind : Code) (rest : Units) (labels : List Label) where
+    module _ (e : Exit) (d k : ℕ) (first : Code) (x : Option Operand) (fa : Code) (a : Units) (fb : Code) (b : Units) (behind : Code) (rest : Units) (labels : List Label) where
       abbrev pub na : Code
       na = front i (exit_inside e a_block (any_unit rest)) (suc d) k fa a
 
@@ -239,17 +239,17 @@ module _ (p : Module) (st : ℕ) (f : GuardedFunc) (s : Store) (fn : ℕ) (under
       next = front i e d (k + numbers_in a + numbers_in b) behind rest
 
       abbrev pub whole : Code
-      whole = plain (basic (global_get st)) (branch (Some I32) (choice i k a b) (raised 0 1 (followed_by first (got x done))) (branch None (arm a fa na) (arm b fb nb) next))
+      whole = plain (basic (global_get st)) (branch (Some I32) (choice i k a b) (raised 0 1 (followed_by first (got_any x done))) (branch None (arm a fa na) (arm b fb nb) next))
 
       abbrev lbc : List Label
-      lbc = block_label 0 1 (branch None (arm a fa na) (arm b fb nb) next) (raised 0 1 (followed_by first (got x done))) ∷ labels
+      lbc = block_label 0 1 (branch None (arm a fa na) (arm b fb nb) next) (raised 0 1 (followed_by first (got_any x done))) ∷ labels
 
       decides : (v : ℕ) → Within p (c [] (choice i k a b) lbc) 3 (c (V.I32 v ∷ []) done lbc)
           → Within p (c [] whole labels) 6 (c (V.I32 v ∷ []) (branch None (arm a fa na) (arm b fb nb) next) labels)
       decides v w =
           let two : Comes p (c [] whole labels) 2 (c [] (choice i k a b) lbc) = on p 1 1 _ _ _
-          (reads [] (branch (Some I32) (choice i k a b) (raised 0 1 (followed_by first (got x done))) (branch None (arm a fa na) (arm b fb nb) next)) labels)
-          (walks p 1 (c (V.I32 (suc n) ∷ []) (branch (Some I32) (choice i k a b) (raised 0 1 (followed_by first (got x done))) (branch None (arm a fa na) (arm b fb nb) next)) labels) _ refl) in
+          (reads [] (branch (Some I32) (choice i k a b) (raised 0 1 (followed_by first (got_any x done))) (branch None (arm a fa na) (arm b fb nb) next)) labels)
+          (walks p 1 (c (V.I32 (suc n) ∷ []) (branch (Some I32) (choice i k a b) (raised 0 1 (followed_by first (got_any x done))) (branch None (arm a fa na) (arm b fb nb) next)) labels) _ refl) in
           gets_on 6 (gets 2 two (omega arith)) (gets_on 4 w (gets 1 (walks p 1 (c (V.I32 v ∷ []) done lbc) (c (V.I32 v ∷ []) (branch None (arm a fa na) (arm b fb nb) next) labels) refl)
           (omega arith)) (omega arith)) (omega arith)
 

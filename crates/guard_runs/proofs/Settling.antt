@@ -10,16 +10,15 @@ use Rattle.wa_types.specs.Pruned.{pruned}
 use Rattle.wa_model.specs.Store.{Store}
 use Rattle.wa_model.specs.Configuration.{Label, block_label, Activation, Configuration, running}
 use Rattle.wa_model.specs.declared.flat.Operand.{Operand}
-use Rattle.wa_model.specs.declared.flat.Operand.TheVariants.{Local, Const}
-use Rattle.wa_model.specs.Flat.{followed_by, got}
+use Rattle.wa_model.specs.Flat.{followed_by}
 use Rattle.guard_form.specs.Functions.{GuardedFunc, Role, with_guards, indices_of, Calls, PiecesCall}
 use Rattle.guard_form.specs.Guarded.{raised, GuardIndices, by_state, guarded, sought, one_more, choice, arm, Exit, each_end, its_end, by_label, nowhere, exit_inside, own_block, last_piece, call_guarded, call_front, front}
-use Rattle.guard_form.specs.Pieces.{Units, no_unit, call_unit, nest_unit, if_unit, any_unit, numbers_in, flat_units}
+use Rattle.guard_form.specs.Pieces.{Units, no_unit, call_unit, nest_unit, if_unit, any_unit, numbers_in, got_any, flat_units}
 use Rattle.guard_form.specs.Places.{Enclosing, in_a_block, in_a_loop, flat_labels, exit_at, written_labels, label_more, BodyPlace, at_start, past_call, past_block, past_loop, past_if, in_block, in_loop, in_then, in_else}
 use Rattle.guard_runs.specs.Beside.{Sides, Together, BehindPiece, guard_end, before_call, before_if, sequence_end, func_end, tail_at, InPiece, outside, GoesOn, SamePoint, in_piece, at_args, at_block, at_loop, at_choice, at_end, at_return, Locals, Callers, Aligned, aligned, Near}
 use Rattle.guard_form.proofs.CodeLemmas.{calls_pruned, raised_none}
 use Rattle.guard_form.proofs.UnitLemmas.{last_none}
-use Rattle.guard_form.proofs.Grouped.{then_then, then_got, calls_then, calls_got}
+use Rattle.guard_form.proofs.Grouped.{then_then, then_any, calls_then, calls_any}
 use Rattle.guard_runs.proofs.SilentStretches.{Comes, none, on, walks}
 
 -- what both sides share while a function of this role runs
@@ -50,21 +49,13 @@ goes_branch : (d : ℕ) (r : Option ValType) (y z n : Code) → GoesOn d (branch
 goes_branch zero r y z n = tt
 goes_branch (suc d) r y z n = tt
 
--- a piece and a condition behind it
-goes_got : (first : Code) (c : Operand) → GoesOn 0 (followed_by first (got c done))
-unfolding followed_by
-goes_got done (Local x) = tt
-goes_got done (Const v) = tt
-goes_got (plain p n) c = tt
-goes_got (nest s r y n) c = tt
-goes_got (branch r y z n) c = tt
-
 none_then : (tail : Code) → followed_by done tail ≡ tail
 unfolding followed_by
 none_then tail = refl
 
-joined_got : (first : Code) (c : Operand) (tail : Code) → followed_by (followed_by first (got c done)) tail ≡ followed_by first (got c tail)
-joined_got first c tail = then_then first (got c done) tail ∙ ap (followed_by first) (then_got c done tail ∙ ap (got c) (none_then tail))
+-- a condition joins the piece in front
+joined_got : (first : Code) (c : Option Operand) (tail : Code) → followed_by (followed_by first (got_any c done)) tail ≡ followed_by first (got_any c tail)
+joined_got first c tail = then_then first (got_any c done) tail ∙ ap (followed_by first) (then_any c done tail ∙ ap (got_any c) (none_then tail))
 
 guarded_is : (i : GuardIndices) (first next : Code) → GoesOn 0 first → guarded i first next ≡ by_state i.state done (raised 0 1 first) next
 guarded_is i done next go = absurd go
@@ -218,23 +209,35 @@ module _ (w : Sides) where
       abbrev i : GuardIndices
       i = indices_of w.state f
 
+      -- a piece with the condition behind it begins, or the choice
+      at_condition : (ops : List Value) (k : ℕ) (c : Option Operand) (fa : Code) (a : Units) (fb : Code) (b : Units) (behind : Code) (rest : Units) (xs : List Enclosing)
+          → BodyPlace w.state f k (if_unit c fa a fb b behind rest) xs → (piece : Code) → Calls w.free (pruned piece)
+          → Near w 1 (cq x ops (followed_by piece (branch None (followed_by fa (flat_units a)) (followed_by fb (flat_units b)) (followed_by behind (flat_units rest)))) (flat_labels f xs))
+          (cp x ops (raised 0 1 piece) (block_label (length ops) 1 (branch None (arm a fa (front i (exit_inside (exit_at f xs) a_block (any_unit rest)) (suc (length xs)) k fa a))
+          (arm b fb (front i (exit_inside (exit_at f xs) a_block (any_unit rest)) (suc (length xs)) (k + numbers_in a) fb b))
+          (front i (exit_at f xs) (length xs) (k + numbers_in a + numbers_in b) behind rest)) done ∷ written_labels w.state f xs))
+      unfolding followed_by
+      at_condition ops k c fa a fb b behind rest xs pl done ca = later 1 0 1 _ _ _ (walks w.written 1 _ _ refl) (no_lag x ops _ _ _ _ (at_choice pl)) (omega arith)
+      at_condition ops k c fa a fb b behind rest xs pl (plain p n) ca = wider 0 1 _ _ (no_lag x ops _ _ _ _ (in_piece (before_if (length ops) pl) outside (plain p n) ca tt)) (omega arith)
+      at_condition ops k c fa a fb b behind rest xs pl (nest s r y n) ca = wider 0 1 _ _ (no_lag x ops _ _ _ _ (in_piece (before_if (length ops) pl) outside (nest s r y n) ca tt)) (omega arith)
+      at_condition ops k c fa a fb b behind rest xs pl (branch r y z n) ca = wider 0 1 _ _ (no_lag x ops _ _ _ _ (in_piece (before_if (length ops) pl) outside (branch r y z n) ca tt)) (omega arith)
+
       -- an `if` begins with the piece in front of it
-      begins_if : (ops : List Value) (k : ℕ) (c : Operand) (fa : Code) (a : Units) (fb : Code) (b : Units) (behind : Code) (rest : Units) (xs : List Enclosing) (first : Code)
+      begins_if : (ops : List Value) (k : ℕ) (c : Option Operand) (fa : Code) (a : Units) (fb : Code) (b : Units) (behind : Code) (rest : Units) (xs : List Enclosing) (first : Code)
           → BodyPlace w.state f k (if_unit c fa a fb b behind rest) xs → Calls w.free first
           → Near w 4 (cq x ops (followed_by first (flat_units (if_unit c fa a fb b behind rest))) (flat_labels f xs))
           (cp x ops (front i (exit_at f xs) (length xs) k first (if_unit c fa a fb b behind rest)) (written_labels w.state f xs))
       begins_if ops k c fa a fb b behind rest xs first pl ca =
           let next : Code = branch None (arm a fa (front i (exit_inside (exit_at f xs) a_block (any_unit rest)) (suc (length xs)) k fa a)) (arm b fb (front i (exit_inside (exit_at f xs) a_block (any_unit rest)) (suc (length xs)) (k + numbers_in a) fb b))
           (front i (exit_at f xs) (length xs) (k + numbers_in a + numbers_in b) behind rest) in
-          let piece : Code = followed_by first (got c done) in
+          let piece : Code = followed_by first (got_any c done) in
           let from = cp x ops (front i (exit_at f xs) (length xs) k first (if_unit c fa a fb b behind rest)) (written_labels w.state f xs) in
           let two : Comes w.written from 2 (cp x ops (raised 0 1 piece) (block_label (length ops) 1 next done ∷ written_labels w.state f xs)) =
           on w.written 1 1 _ _ _ (reads x ops (branch (Some I32) (choice i k a b) (raised 0 1 piece) next) (written_labels w.state f xs)) (walks w.written 1 _ _ refl) in
-          let at_piece = no_lag x ops _ _ _ _ (in_piece (before_if (length ops) pl) outside piece
-          (calls_pruned w.free piece (calls_then w.free first (got c done) ca (calls_got w.free c done tt))) (goes_got first c)) in
+          let at_piece = at_condition ops k c fa a fb b behind rest xs pl piece (calls_pruned w.free piece (calls_then w.free first (got_any c done) ca (calls_any w.free c done tt))) in
           subst (λ z. Near w 4 (cq x ops z (flat_labels f xs)) from) (joined_got first c (branch None (followed_by fa (flat_units a)) (followed_by fb (flat_units b))
           (followed_by behind (flat_units rest))))
-          (later 2 0 4 _ _ _ two at_piece (omega arith))
+          (later 2 1 4 _ _ _ two at_piece (omega arith))
 
       -- at a unit, with nothing in front of it
       pub settle_units : (ops : List Value) (k : ℕ) (us : Units) (xs : List Enclosing) → BodyPlace w.state f k us xs

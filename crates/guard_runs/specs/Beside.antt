@@ -74,7 +74,7 @@ pub data BehindPiece (w : Sides) : Role → (by : ℕ) → (tail : Code) → (ou
       → BodyPlace w.state f k (call_unit slots x to behind rest) xs
       → BehindPiece w (with_guards f) (suc (one_more (has_block f rest xs) 0)) (flat_units (call_unit slots x to behind rest)) (flat_labels f xs)
       (block_label h 0 (call_code w.state f xs k slots x to behind rest) done ∷ call_labels w.state f h2 xs k rest)
-  before_if : {f : GuardedFunc} {k : ℕ} {c : Operand} {fa : Code} {a : Units} {fb : Code} {b : Units} {behind : Code} {rest : Units} {xs : List Enclosing} → (h : ℕ)
+  before_if : {f : GuardedFunc} {k : ℕ} {c : Option Operand} {fa : Code} {a : Units} {fb : Code} {b : Units} {behind : Code} {rest : Units} {xs : List Enclosing} → (h : ℕ)
       → BodyPlace w.state f k (if_unit c fa a fb b behind rest) xs
       → BehindPiece w (with_guards f) 1 (branch None (followed_by fa (flat_units a)) (followed_by fb (flat_units b)) (followed_by behind (flat_units rest))) (flat_labels f xs)
       (block_label h 1 (branch None (arm a fa (front (indices_of w.state f) (exit_inside (exit_at f xs) a_block (any_unit rest)) (suc (length xs)) k fa a))
@@ -118,7 +118,7 @@ pub data SamePoint (w : Sides) : Role → (ops : List Value) → (code : Code) �
       → BodyPlace w.state f k (nest_unit a_loop first body behind rest) xs
       → SamePoint w (with_guards f) ops (flat_units (nest_unit a_loop first body behind rest)) (flat_labels f xs)
       (front (indices_of w.state f) (exit_at f xs) (length xs) k done (nest_unit a_loop first body behind rest)) (written_labels w.state f xs)
-  at_choice : {ops : List Value} {f : GuardedFunc} {k : ℕ} {c : Operand} {fa : Code} {a : Units} {fb : Code} {b : Units} {behind : Code} {rest : Units} {xs : List Enclosing}
+  at_choice : {ops : List Value} {f : GuardedFunc} {k : ℕ} {c : Option Operand} {fa : Code} {a : Units} {fb : Code} {b : Units} {behind : Code} {rest : Units} {xs : List Enclosing}
       → BodyPlace w.state f k (if_unit c fa a fb b behind rest) xs
       → SamePoint w (with_guards f) ops (branch None (followed_by fa (flat_units a)) (followed_by fb (flat_units b)) (followed_by behind (flat_units rest))) (flat_labels f xs)
       (branch None (arm a fa (front (indices_of w.state f) (exit_inside (exit_at f xs) a_block (any_unit rest)) (suc (length xs)) k fa a)) (arm b fb (front (indices_of w.state f) (exit_inside (exit_at f xs) a_block (any_unit rest)) (suc (length xs)) (k + numbers_in a) fb b))

@@ -17,7 +17,7 @@ use Rattle.local_spill.specs.Spilling.{SpillIndices, location_of, room_tested, s
 use Rattle.wa_model.specs.Store.{gives}
 use Rattle.slim_modules.specs.Slim as S
 use Rattle.slim_modules.specs.Slim.{Free, Slims, Terms}
-use Rattle.slim_modules.specs.Pieces.{Units, no_unit, call_unit, nest_unit, if_unit, any_unit, numbers_in, call_to, flat_units}
+use Rattle.slim_modules.specs.Pieces.{Units, no_unit, call_unit, nest_unit, if_unit, any_unit, numbers_in, call_to, got_any, flat_units}
 use Rattle.slim_modules.specs.Guarded.{raise, raised_plain, raised, GuardIndices, by_state, index_with, guarded, sought, one_more, index_noted, noted, call_guarded, choice, arm, Exit, each_end, its_end, by_label, nowhere, exit_inside, last_piece, call_front, body_exit, guarded_body, front, written_body}
 
 -- ---- marks
@@ -71,6 +71,10 @@ module _ {X : Type 0} (k : Marking X) where
   marks_got : (o : Operand) (c : Code) → marks_of (got o c) ≡ marks_of c
   marks_got (Local x) c = unmarked (local_get x) c (k.on_get x)
   marks_got (Const v) c = unmarked (basic (const v)) c (k.on_basic (const v))
+
+  marks_any : (o : Option Operand) (c : Code) → marks_of (got_any o c) ≡ marks_of c
+  marks_any None c = refl
+  marks_any (Some o) c = marks_got o c
 
   -- slim code has the marks of the code beside it
   pub marks_slim : (t : Terms) (n : ℕ) (ts : List Free) (out f : Free) (sh : S.Shape) (code code' : Code) → Slims t n ts out f sh code code' → marks_of code' ≡ marks_of code
@@ -220,7 +224,7 @@ module _ {X : Type 0} (k : Marking X) where
         ∙ ap (λ z. marks_of first ++ (marks_of (followed_by inner (flat_units body)) ++ z)) (marks_front e d (n + numbers_in body) behind rest ∙ sym (marks_then behind (flat_units rest)))
     marks_front e d n first (if_unit o fa a fb b behind rest) =
         let v = exit_inside e a_block (any_unit rest) in
-        let whole : Code = raised 0 1 (followed_by first (got o done)) in
+        let whole : Code = raised 0 1 (followed_by first (got_any o done)) in
         let one_arm : Code = arm a fa (front i v (suc d) n fa a) in
         let two_arm : Code = arm b fb (front i v (suc d) (n + numbers_in a) fb b) in
         let next : Code = front i e d (n + numbers_in a + numbers_in b) behind rest in
@@ -228,7 +232,7 @@ module _ {X : Type 0} (k : Marking X) where
         let eb : marks_of two_arm ≡ marks_of (followed_by fb (flat_units b)) = marks_arm b fb (front i v (suc d) (n + numbers_in a) fb b) (marks_front v (suc d) (n + numbers_in a) fb b) ∙ sym (marks_then fb (flat_units b)) in
         let en : marks_of next ≡ marks_of (followed_by behind (flat_units rest)) = marks_front e d (n + numbers_in a + numbers_in b) behind rest ∙ sym (marks_then behind (flat_units rest)) in
         let tested : marks_of whole ≡ marks_of first =
-        marks_raised 0 1 (followed_by first (got o done)) ∙ marks_then first (got o done) ∙ ap (λ z. marks_of first ++ z) (marks_got o done) ∙ append-nil (marks_of first) in
+        marks_raised 0 1 (followed_by first (got_any o done)) ∙ marks_then first (got_any o done) ∙ ap (λ z. marks_of first ++ z) (marks_any o done) ∙ append-nil (marks_of first) in
         let arms : Code = branch None one_arm two_arm next in
         let flat_arms : Code = branch None (followed_by fa (flat_units a)) (followed_by fb (flat_units b)) (followed_by behind (flat_units rest)) in
         let same : marks_of arms ≡ marks_of flat_arms =
@@ -237,7 +241,7 @@ module _ {X : Type 0} (k : Marking X) where
         unmarked (basic (global_get i.state)) (branch (Some I32) (choice i n a b) whole arms) (k.on_basic (global_get i.state))
         ∙ ap (λ z. z ++ marks_of whole ++ marks_of arms) (marks_choice n a b)
         ∙ ap (λ z. z ++ marks_of arms) tested
-        ∙ ap (λ z. marks_of first ++ z) (same ∙ sym (marks_got o flat_arms))
+        ∙ ap (λ z. marks_of first ++ z) (same ∙ sym (marks_any o flat_arms))
 
   -- ---- frames
 

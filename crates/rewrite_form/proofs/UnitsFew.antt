@@ -50,7 +50,7 @@ units_are_few ps n (decides c a b rest) =
   where
     by : (h : Bool) → few ps n a → few ps (n + call_total a) b → few ps (n + call_total a + call_total b) rest
         → unit_count
-        (if h then if_unit c (first_piece ps n a) (units ps n a) (first_piece ps (n + call_total a) b) (units ps (n + call_total a) b)
+        (if h then if_unit (Some c) (first_piece ps n a) (units ps n a) (first_piece ps (n + call_total a) b) (units ps (n + call_total a) b)
         (first_piece ps (n + call_total a + call_total b) rest) (units ps (n + call_total a + call_total b) rest)
         else units ps (n + call_total a + call_total b) rest)
         ≤ 1 + calls_and_constructs a + calls_and_constructs b + calls_and_constructs rest

@@ -64,8 +64,8 @@ pub free_call_put : (ps : List ℕ) (a b : Walk) (p : Sequence) (k : ℕ) (op : 
     → IsCallCode op → Stepped a b true (one_code (calls op stack args to no_more)) → Put ps a p b (record p { place = k }) (calls op stack args to)
 free_call_put ps a b p k op stack args to goes is free one st =
     piece_put ps a b p (calls op stack args to no_more) k goes is (no_number ps p.place op free) (λ c. goes_calls op (last_of args stack) to c one) st.slim st.good st.alike st.puts
-    (λ t among n ts out around s fixed g c' sl. st.step t among (length (calls_of (flat_units (units ps (suc p.place) s))) + n) ts g (first_piece ps (suc p.place) s) c' around
-    (ap t.fixed (calls_left ps (suc p.place) n s) ∙ none_fixed t (is_place ps p.place) stack _ free fixed.0) sl)
+    (λ t among n ts out around s fixed g c c' same sl. st.step t among (length (calls_of (flat_units (units ps (suc p.place) s))) + n) ts g c c' around
+    (ap t.fixed (ap (λ i. i + (length (calls_of (flat_units (units ps (suc p.place) s))) + n)) same ∙ calls_left ps (suc p.place) n s) ∙ none_fixed t (is_place ps p.place) stack _ free fixed.0) sl)
 
 -- ---- with a number
 
@@ -159,7 +159,8 @@ numbered_put ps a m m1 d p q k kept v slots target stack args to goes is good sa
           (ks.2 ∙ opened.piece) (ap (λ o. piece_call o (slots_got (last_of args stack) (followed_by op (set_to to (first_piece ps (suc p.place) s))))) num)
           (ap (λ o. unit_call o (last_of args stack) to (first_piece ps (suc p.place) s) (units ps (suc p.place) s)) num
           ∙ (λ j. call_unit (sym slots_are j) x to (first_piece ps (sym next j) s) (units ps (sym next j) s)))
-          (λ c' us' f.
+          (λ c us. refl) (λ c us. tt)
+          (λ c' us' clear f.
           λ f0 sh c c2 go sl.
           before_call slots.items x g (free_at t d) go sl (subst (λ z. Held z slots.items) (sym base) arguments)
           (subst (λ z. Held z (t.fixed (length (calls_of (set_to to (followed_by (first_piece ps k s) (flat_units (units ps k s))))) + n))) (sym base)
@@ -167,6 +168,7 @@ numbered_put ps a m m1 d p q k kept v slots target stack args to goes is good sa
           (sym (ap (λ cs. length cs + n) (calls_set to (followed_by (first_piece ps k s) (flat_units (units ps k s)))) ∙ joined_calls ps k n s))
           (fixed_held t (is_place ps p.place) stack _ (free_by t.slot m1.stack.items) is fixed.0 (no_slot_held t m1.stack.items) held)))
           (subst (λ z. ResultSlim t z to None (free_at t d) (shape_at d)) (sym base) (result t m m1 d v kept opened.good full cut_is le fit to (among_next t m m1 opened.alike mid) kept_is))
+          (clear refl)
           (from_slim t n ts out d (first_piece ps k s) (units ps k s) c' us' f)) first us h);
     }
   where

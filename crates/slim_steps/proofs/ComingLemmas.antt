@@ -16,10 +16,10 @@ use Rattle.slim_walk.specs.Walking.{free_at, shape_at, unstacked, Alike, Among, 
 use Rattle.slim_walk.proofs.BranchLemmas.{bare_shape, flushed_full}
 use Rattle.slim_walk.proofs.StepLemmas.{flushed_slim, slots_of, small_of}
 use Rattle.slim_steps.specs.declared.sequence.Sequence.{Sequence}
-use Rattle.slim_steps.specs.Coming.{Around, CallsFixed, Comes, From, Rest}
+use Rattle.slim_steps.specs.Coming.{left_by, with_left, Around, CallsFixed, Comes, From, Rest}
 use Rattle.slim_steps.specs.SequenceView.{first_with, units_with}
 use Rattle.slim_steps.specs.Steps.{Put}
-use Rattle.slim_steps.proofs.PieceLemmas.{goes_by, none_left, place_with}
+use Rattle.slim_steps.proofs.PieceLemmas.{goes_by, left_calls, left_one, none_left, place_with}
 
 -- ---- what is left
 
@@ -48,9 +48,9 @@ module _ (ps : List ℕ) (a b : Walk) (p : Sequence) (u : Stmts) (k : ℕ) (goes
   us0 s = units ps (one_place p.place u) s
 
   pub piece_put : (slim : Code → Code) → Good b → Alike a b → Puts a.piece.items b.piece.items slim
-      → ((t : Terms) → Among t a → (n : ℕ) (ts : List Free) (out : Free) → Around t a ts → (s : Stmts) → CallsFixed t ps p.place n (with_rest u s) → (g : Free) (c' : Code)
-      → Slims t (length (calls_of (flat_units (us0 s))) + n) ts g (free_at t b) (shape_at b) (fp s) c'
-      → Slims t (length (calls_of (flat_units (us0 s))) + n) ts g (free_at t a) (shape_at a) (one_code u (fp s)) (slim c')) → Put ps a p b (record p { place = k }) (with_rest u)
+      → ((t : Terms) → Among t a → (n : ℕ) (ts : List Free) (out : Free) → Around t a ts → (s : Stmts) → CallsFixed t ps p.place n (with_rest u s) → (g : Free) (c c' : Code)
+      → length (calls_of c) ≡ length (calls_of (fp s)) → Slims t (length (calls_of (flat_units (us0 s))) + n) ts g (free_at t b) (shape_at b) c c'
+      → Slims t (length (calls_of (flat_units (us0 s))) + n) ts g (free_at t a) (shape_at a) (one_code u c) (slim c')) → Put ps a p b (record p { place = k }) (with_rest u)
   piece_put slim good alike puts step = record {
     good = good;
     alike = alike;
@@ -58,10 +58,12 @@ module _ (ps : List ℕ) (a b : Walk) (p : Sequence) (u : Stmts) (k : ℕ) (goes
     step = λ t among n ts out around s fixed first us h.
         let f0 = from_rest t n ts out ps p.ended k b s h.piece h.units goes h.rest in
         let f : From t n ts out b (fp s) (us0 s) h.piece h.units = subst (λ j. From t n ts out b (first_piece ps j s) (units ps j s) h.piece h.units) is f0 in
+        let o = left_by (us0 s) h.units in
         let g : From t n ts out a (one_code u (fp s)) (us0 s) (slim h.piece) h.units = record {
           end = f.end;
           goes = goes_by (us0 s) (fp s) (one_code u (fp s)) (steady (fp s)) f.goes;
-          slim = step t among n ts out around s fixed f.end h.piece f.slim;
+          slim = subst (λ z. Slims t (length (calls_of (flat_units (us0 s))) + n) ts f.end (free_at t a) (shape_at a) z (slim h.piece)) (sym (left_one o u (fp s)))
+              (step t among n ts out around s fixed f.end (with_left o (fp s)) h.piece (left_calls o (fp s)) f.slim);
           behind = f.behind;
         } in
         let g1 = subst (λ c. From t n ts out a c (us0 s) (slim h.piece) h.units) (sym (first_of ps p.place u s free)) g in
@@ -70,13 +72,14 @@ module _ (ps : List ℕ) (a b : Walk) (p : Sequence) (u : Stmts) (k : ℕ) (goes
           piece = slim h.piece;
           units = h.units;
           rest = rest_from t n ts out ps p.ended p.place a (with_rest u s) (slim h.piece) h.units goes g2;
+          clear = h.clear;
           first_is = ap (first_with p) (sym (puts h.piece)) ∙ h.first_is;
           units_is = ap (λ z. units_with p z h.units) (sym (puts h.piece)) ∙ h.units_is;
         };
   }
 
   pub stepped_put : Stepped a b false (one_code u) → Put ps a p b (record p { place = k }) (with_rest u)
-  stepped_put st = piece_put st.slim st.good st.alike st.puts (λ t among n ts out around s fixed g c' sl. st.step t among _ ts g (fp s) c' around tt sl)
+  stepped_put st = piece_put st.slim st.good st.alike st.puts (λ t among n ts out around s fixed g c c' same sl. st.step t among _ ts g c c' around tt sl)
 
 -- ---- jumps
 
@@ -100,6 +103,7 @@ ended_put ps a b p u goes is free e = record {
         units = no_unit;
         rest = subst (λ z. Rest t n ts out ps p.ended p.place a (with_rest u z) e.slim no_unit) (sym h.rest.0)
             (rest_from t n ts out ps p.ended p.place a (with_rest u no_more) e.slim no_unit goes g2);
+        clear = λ z. tt;
         first_is = ap (first_with p) (sym e.puts ∙ ap (onto b.piece.items) (sym h.rest.1)) ∙ h.first_is;
         units_is = (λ j. units_with p ((sym e.puts ∙ ap (onto b.piece.items) (sym h.rest.1)) j) (sym h.rest.2 j)) ∙ h.units_is;
       };
@@ -114,8 +118,9 @@ flush_from t n ts out a m c us c' us' among good fl h = record {
   goes = h.goes;
   slim =
       let k = length (calls_of (flat_units us)) + n in
-      let s1 : Slims t k ts h.end (free_at t m) [] c c' = subst (λ sh. Slims t k ts h.end (free_at t m) sh c c') (bare_shape m fl.set) h.slim in
-      flushed_slim t (small_of t a among) k ts h.end a c c' (slots_of t a good among.slots) (subst (λ f. Slims t k ts h.end f [] c c') (flushed_full t a m fl) s1);
+      let d = with_left (left_by us us') c in
+      let s1 : Slims t k ts h.end (free_at t m) [] d c' = subst (λ sh. Slims t k ts h.end (free_at t m) sh d c') (bare_shape m fl.set) h.slim in
+      flushed_slim t (small_of t a among) k ts h.end a d c' (slots_of t a good among.slots) (subst (λ f. Slims t k ts h.end f [] d c') (flushed_full t a m fl) s1);
   behind = h.behind;
 }
 
@@ -129,6 +134,7 @@ flush_comes t n ts out ps a m p s first us goes among good fl h =
       units = h.units;
       rest = rest_from t n ts out ps p.ended p.place a s (put h.piece) h.units goes
           (flush_from t n ts out a m (first_piece ps p.place s) (units ps p.place s) h.piece h.units among good fl f);
+      clear = h.clear;
       first_is = ap (first_with p) (sym (fl.puts h.piece)) ∙ h.first_is;
       units_is = ap (λ z. units_with p z h.units) (sym (fl.puts h.piece)) ∙ h.units_is;
     }

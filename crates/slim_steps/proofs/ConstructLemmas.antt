@@ -6,7 +6,7 @@ use Rattle.wa_types.specs.Syntax.{a_block, a_loop, Shape as Nesting, Code, nest}
 use Rattle.wa_types.specs.View.{onto}
 use Rattle.wa_model.specs.Flat.{Stmts, no_more, nests, code_of, followed_by}
 use Rattle.guard_form.specs.Bounds.{unit_count}
-use Rattle.guard_form.specs.Pieces.{Units, no_unit, nest_unit, call_total, holds_call, first_piece, flat_units, units}
+use Rattle.guard_form.specs.Pieces.{Units, no_unit, nest_unit, call_total, holds_call, first_piece, flat_units, units, StartsGot}
 use Rattle.guard_form.proofs.CodeLemmas.{then_done}
 use Rattle.guard_form.proofs.Grouped.{joins}
 use Rattle.flat_pieces.specs.Putting.{Puts}
@@ -23,7 +23,7 @@ use Rattle.slim_walk.proofs.StepLemmas.{alike_then, among_next}
 use Rattle.slim_steps.specs.declared.sequence.Head.{Head}
 use Rattle.slim_steps.specs.declared.sequence.Sequence.{Sequence}
 use Rattle.slim_steps.specs.declared.sequence.Written.{Written}
-use Rattle.slim_steps.specs.Coming.{calls_in, Around, Behind, CallsFixed, Comes}
+use Rattle.slim_steps.specs.Coming.{calls_in, left_by, Around, Behind, CallsFixed, Comes}
 use Rattle.slim_steps.specs.Inside.{first_code, units_in, in_piece, as_unit, IsInside, Nested, Same}
 use Rattle.slim_steps.specs.SequenceView.{head_in_front}
 use Rattle.slim_steps.specs.Steps.{Opened, Put}
@@ -91,10 +91,10 @@ module _ (ps : List ℕ) (m d b : Walk) (p q : Sequence) (body : Stmts) (kept : 
       let held = not_held ps p.place body w (inside_count ps m p.place body kept d w inside) none in
       piece_put ps m b p (nests y body no_more) w.place goes place_is held (λ c. refl) (nest y None (first_code w.pieces)) same.good (alike_then m d b inside.alike same.alike)
       (λ c. puts c ∙ ap (λ ys. onto ys (nest y None (first_code w.pieces) c)) inside.piece)
-      (λ t among n ts out around s fixed g c' sl.
+      (λ t among n ts out around s fixed g c c' same2 sl.
       let k = length (calls_of (flat_units (units ps (p.place + call_total body) s))) + n in
-      let c = first_piece ps (p.place + call_total body) s in
-      let fixed2 : CallsFixed t ps p.place (length (calls_of c) + k) body = subst (λ i. CallsFixed t ps p.place i body) (sym (calls_left ps (p.place + call_total body) n s)) fixed.0 in
+      let left = ap (λ i. i + k) same2 ∙ calls_left ps (p.place + call_total body) n s in
+      let fixed2 : CallsFixed t ps p.place (length (calls_of c) + k) body = subst (λ i. CallsFixed t ps p.place i body) (sym left) fixed.0 in
       let sl2 : Slims t k ts g (free_at t d) [] c c' = subst (λ sh. Slims t k ts g (free_at t d) sh c c') (bare_shape b (b_bare same.stack same.set))
       (subst (λ f. Slims t k ts g f (shape_at b) c c') (free_same t same.stack same.set) sl) in
       subst (λ sh. Slims t k ts g (free_at t m) sh (nest y None (code_of body) c) (nest y None (first_code w.pieces) c')) (sym (bare_shape m bare))
@@ -119,7 +119,8 @@ module _ (ps : List ℕ) (m d b : Walk) (p q : Sequence) (body : Stmts) (kept : 
             unit_comes t n ts out ps m d b b p q w.place w.place head (nests y body s) s make goes (bare_shape m bare) inside.piece opened opened.piece
             (if_true (holds_call ps p.place body) _ _ held)
             (if_true (holds_call ps p.place body) _ _ held ∙ (λ j. make (first_piece ps (sym place_is j) s) (units ps (sym place_is j) s)))
-            (λ c' us' f.
+            (λ c us. ap (left_by (make (first_piece ps w.place s) (units ps w.place s))) (is c us)) (λ c us. subst StartsGot (sym (is c us)) tt)
+            (λ c' us' clear f.
             let sl : SlimUnits t n ts out (free_at t d) [] (first_piece ps w.place s) (units ps w.place s) c' us' =
             subst (λ sh. SlimUnits t n ts out (free_at t d) sh (first_piece ps w.place s) (units ps w.place s) c' us') (bare_shape b (b_bare opened.stack opened.set))
             (subst (λ g. SlimUnits t n ts out g (shape_at b) (first_piece ps w.place s) (units ps w.place s) c' us') (free_same t opened.stack opened.set)

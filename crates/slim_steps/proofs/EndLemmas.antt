@@ -38,6 +38,7 @@ finished_ended a b p w is c = record {
     piece = done;
     units = no_unit;
     rest = rest_ended t n ts out ps p.ended p.place a is;
+    clear = λ z. tt;
     first_is = ap (first_with p) (onto_done a.piece.items) ∙ sym c.first;
     units_is = ap (λ z. units_with p z no_unit) (onto_done a.piece.items) ∙ sym c.units;
   };
@@ -61,6 +62,7 @@ finished_flushed a m b p w good goes fl c = record {
         piece = done;
         units = no_unit;
         rest = rest_from t n ts out ps p.ended p.place m no_more done no_unit goes f;
+        clear = λ z. tt;
         first_is = ap (first_with p) (onto_done m.piece.items) ∙ sym c.first;
         units_is = ap (λ z. units_with p z no_unit) (onto_done m.piece.items) ∙ sym c.units;
       });

@@ -1,5 +1,5 @@
 -- Ifs in slim pieces.
-use Rattle.std.proofs.Common.{◌≡◌, ℕ, ◌+◌, ◌-◌, ◌<◌, List, [], ◌∷◌, length, take, drop, None, Bool, true, false, refl, sym, ap, ◌∙◌, subst, arith, ◌⊎◌, inl, inr, length-drop}
+use Rattle.std.proofs.Common.{◌≡◌, ℕ, ◌+◌, ◌-◌, ◌<◌, List, [], ◌∷◌, length, take, drop, Some, None, Bool, true, false, refl, sym, ap, ◌∙◌, subst, arith, ◌⊎◌, inl, inr, length-drop}
 use Rattle.std.specs.Prelude.{◌||◌}
 use Rattle.std.specs.declared.vec.Vec.{Vec}
 use Rattle.std.specs.declared.alloc.Global.{Global}
@@ -12,14 +12,14 @@ use Rattle.wa_types.specs.View.{onto}
 use Rattle.wa_model.specs.declared.flat.Operand.TheVariants.{Local}
 use Rattle.wa_model.specs.Flat.{Stmts, no_more, decides, code_of, followed_by, slots_got}
 use Rattle.guard_form.specs.Bounds.{unit_count}
-use Rattle.guard_form.specs.Pieces.{Units, no_unit, if_unit, call_total, holds_call, first_piece, flat_units, units}
+use Rattle.guard_form.specs.Pieces.{Units, no_unit, if_unit, call_total, holds_call, first_piece, flat_units, units, StartsGot}
 use Rattle.flat_pieces.specs.Putting.{Puts}
 use Rattle.flat_pieces.proofs.StmtLemmas.{if_true}
 use Rattle.slim_form.specs.Emit.{elem, free_by}
 use Rattle.slim_form.specs.Slim as S
 use Rattle.slim_form.specs.Slim.{Free, Covers, gets, more, narrows, plainly, plainly_held, Slims, Terms}
 use Rattle.slim_form.proofs.EmittedCode as E
-use Rattle.slim_units.specs.SlimUnits.{SlimUnits, before_if}
+use Rattle.slim_units.specs.SlimUnits.{SlimUnits, before_if, before_kept_if}
 use Rattle.slim_walk.specs.declared.stack.Walk.{Walk}
 use Rattle.slim_walk.specs.Walking.{free_at, shape_at, unstacked, Alike, Among, Flushed, Good, IsTop, Taken, from_stack}
 use Rattle.slim_walk.proofs.BranchLemmas.{bare_shape}
@@ -29,15 +29,15 @@ use Rattle.slim_walk.proofs.StepLemmas.{in_place, alike_then, among_next, elem_d
 use Rattle.slim_steps.specs.declared.sequence.Head.{Head}
 use Rattle.slim_steps.specs.declared.sequence.Sequence.{Sequence}
 use Rattle.slim_steps.specs.declared.sequence.Written.{Written}
-use Rattle.slim_steps.specs.Coming.{calls_in, Around, Behind, CallsFixed, Comes}
-use Rattle.slim_steps.specs.Inside.{condition_got, condition_set, first_code, units_in, in_piece, as_unit, Conditioned, Decided, IsInside, Same}
-use Rattle.slim_steps.specs.SequenceView.{head_in_front}
+use Rattle.slim_steps.specs.Coming.{calls_in, left_by, with_left, Around, Behind, CallsFixed, Comes}
+use Rattle.slim_steps.specs.Inside.{condition_got, condition_set, first_code, units_in, in_piece, as_kept, as_unit, Conditioned, Decided, IsInside, Same}
+use Rattle.slim_steps.specs.SequenceView.{call_open, head_in_front}
 use Rattle.slim_steps.specs.Steps.{Opened, Put}
 use Rattle.slim_steps.proofs.ComingLemmas.{flush_comes, from_slim, piece_put}
 use Rattle.slim_steps.proofs.ConstructLemmas.{around_next, body_slim, full_free}
 use Rattle.slim_steps.proofs.InsideLemmas.{inside_count}
-use Rattle.slim_steps.proofs.PieceLemmas.{calls_left, free_by_count, held_by as held_by_count, joined_calls, none_held}
-use Rattle.slim_steps.proofs.UnitLemmas.{unit_comes}
+use Rattle.slim_steps.proofs.PieceLemmas.{calls_left, free_by_count, held_by as held_by_count, joined_calls, left_done, none_held}
+use Rattle.slim_steps.proofs.UnitLemmas.{unit_comes, unit_comes_by}
 
 -- ---- the condition
 
@@ -119,6 +119,10 @@ module _ (a m : Walk) (x : ℕ) (direct : Bool) (good : Good a) (h : Conditioned
       by false e p = λ c. p c ∙ h.flushed e c
 
 -- ---- the whole
+
+never : {P : Type 0} (z : Bool) → z ≡ true → z ≡ false → P
+never true e f = cc
+never false e f = cc
 
 or_none : (a b : Bool) → a ≡ false → b ≡ false → (a || b) ≡ false
 or_none true b e f = cc
@@ -204,10 +208,9 @@ module _ (ps : List ℕ) (a m d1 d2 b : Walk) (p q : Sequence) (x : ℕ) (direct
       let h2 = free_by_count ps n1 sb (sym else_count ∙ ap unit_count none2) in
       piece_put ps a b p (decides (Local x) sa sb no_more) w.place goes place_is (or_none (holds_call ps p.place sa) (holds_call ps n1 sb) h1 h2) (λ c. refl)
       (λ c. condition_put direct a x (branch None (first_code v.pieces) (first_code w.pieces) c)) same.good (alike_then a d2 b alike2 same.alike) (puts_all puts)
-      (λ t among n ts out around s fixed g c' sl.
+      (λ t among n ts out around s fixed g c c' same2 sl.
       let k = length (calls_of (flat_units (units ps (n1 + call_total sb) s))) + n in
-      let c = first_piece ps (n1 + call_total sb) s in
-      let left : calls_in s + n ≡ length (calls_of c) + k = sym (calls_left ps (n1 + call_total sb) n s) in
+      let left : calls_in s + n ≡ length (calls_of c) + k = sym (ap (λ i. i + k) same2 ∙ calls_left ps (n1 + call_total sb) n s) in
       let f1 : CallsFixed t ps p.place (calls_in sb + (length (calls_of c) + k)) sa = subst (λ i. CallsFixed t ps p.place (calls_in sb + i) sa) left fixed.0 in
       let f2 : CallsFixed t ps n1 (length (calls_of c) + k) sb = subst (λ i. CallsFixed t ps n1 i sb) left fixed.1 in
       let top = free_at t m in
@@ -218,8 +221,17 @@ module _ (ps : List ℕ) (a m d1 d2 b : Walk) (p q : Sequence) (x : ℕ) (direct
       condition_slim a m x direct good c0 t among k ts g (branch None (code_of sa) (code_of sb) c) (branch None (first_code v.pieces) (first_code w.pieces) c')
       (S.decides None top (plainly_held plainly) x1 x2 sl2))
 
+  either : 0 < unit_count (units_in v.pieces) + unit_count (units_in w.pieces) → (holds_call ps p.place sa || holds_call ps n1 sb) ≡ true
+  either some = by (holds_call ps p.place sa) refl
+    where
+      by : (z : Bool) → holds_call ps p.place sa ≡ z → (holds_call ps p.place sa || holds_call ps n1 sb) ≡ true
+      by true e = or_some (holds_call ps p.place sa) (holds_call ps n1 sb) (inl e)
+      by false e =
+          let z = arms_count ∙ ap unit_count (none_held ps p.place sa e) in
+          or_some (holds_call ps p.place sa) (holds_call ps n1 sb) (inr (held_by_count ps n1 sb (let y = else_count in omega arith)))
+
   unit_put : (head : Head) → (piece : Vec Instr Global) → 0 < unit_count (units_in v.pieces) + unit_count (units_in w.pieces) → Puts d2.piece.items piece.items (condition_set direct x)
-      → ((c : Code) (us : Units) → head_in_front head c us ≡ if_unit (Local x) (first_code v.pieces) (units_in v.pieces) (first_code w.pieces) (units_in w.pieces) c us)
+      → ((c : Code) (us : Units) → head_in_front head c us ≡ if_unit (Some (Local x)) (first_code v.pieces) (units_in v.pieces) (first_code w.pieces) (units_in w.pieces) c us)
       → Opened (record d2 { piece = piece }) (record p { place = w.place }) b q head → Put ps a p b q (decides (Local x) sa sb)
   unit_put head piece some puts is opened =
       let fl : Flushed a (set_again a m x direct good c0 piece) = flushed_again a m x direct good c0 piece (subst (λ ys. Puts ys piece.items (condition_set direct x)) pieces_same puts) in
@@ -228,8 +240,8 @@ module _ (ps : List ℕ) (a m d1 d2 b : Walk) (p q : Sequence) (x : ℕ) (direct
       let ua = units ps p.place sa in
       let fb = first_piece ps n1 sb in
       let ub = units ps n1 sb in
-      let make = λ (c : Code) (us : Units). if_unit (Local x) fa ua fb ub c us in
-      let held : (holds_call ps p.place sa || holds_call ps n1 sb) ≡ true = either in
+      let make = λ (c : Code) (us : Units). if_unit (Some (Local x)) fa ua fb ub c us in
+      let held : (holds_call ps p.place sa || holds_call ps n1 sb) ≡ true = either some in
       record {
         good = opened.good;
         alike = alike_then a d2 b alike2 (record { alloc = opened.alike.alloc; low = opened.alike.low; places = opened.alike.places; floor = opened.alike.floor; below = opened.alike.below });
@@ -244,7 +256,8 @@ module _ (ps : List ℕ) (a m d1 d2 b : Walk) (p q : Sequence) (x : ℕ) (direct
             (unit_comes t n ts out ps f (record d2 { piece = piece }) b b p q w.place w.place head (decides (Local x) sa sb s) s make goes (bare_shape f refl) refl opened opened.piece
             (if_true (holds_call ps p.place sa || holds_call ps n1 sb) _ _ held)
             (if_true (holds_call ps p.place sa || holds_call ps n1 sb) _ _ held ∙ (λ j. make (first_piece ps (sym place_is j) s) (units ps (sym place_is j) s)))
-            (λ c' us' fr.
+            (λ c us. ap (left_by (make fs us0)) (is c us)) (λ c us. subst StartsGot (sym (is c us)) tt)
+            (λ c' us' clear fr.
             let sl0 : SlimUnits t n ts out top [] fs us0 c' us' =
             subst (λ sh. SlimUnits t n ts out top sh fs us0 c' us') (bare_shape b (b_bare opened.stack opened.set))
             (subst (λ g. SlimUnits t n ts out g (shape_at b) fs us0 c' us') (free_b t opened.stack opened.set) (from_slim t n ts out b fs us0 c' us' fr)) in
@@ -257,16 +270,52 @@ module _ (ps : List ℕ) (a m d1 d2 b : Walk) (p q : Sequence) (x : ℕ) (direct
             (then_slim t among ts around (calls_in sb + (calls_in s + n)) fixed.0))
             (subst (λ i. SlimUnits t i (top ∷ ts) top top [] fb ub (first_code w.pieces) (units_in w.pieces)) behind (else_slim t among ts around (calls_in s + n) fixed.1)) sl0)) first us h1);
       }
-    where
-      either : (holds_call ps p.place sa || holds_call ps n1 sb) ≡ true
-      either = by (holds_call ps p.place sa) refl
-        where
-          by : (z : Bool) → holds_call ps p.place sa ≡ z → (holds_call ps p.place sa || holds_call ps n1 sb) ≡ true
-          by true e = or_some (holds_call ps p.place sa) (holds_call ps n1 sb) (inl e)
-          by false e =
-              let z = arms_count ∙ ap unit_count (none_held ps p.place sa e) in
-              or_some (holds_call ps p.place sa) (holds_call ps n1 sb) (inr (held_by_count ps n1 sb (let y = else_count in omega arith)))
+
+  -- the condition stays where it is
+  kept_put : (head : Head) → direct ≡ true → call_open p.open ≡ false → 0 < unit_count (units_in v.pieces) + unit_count (units_in w.pieces)
+      → ((c : Code) (us : Units) → head_in_front head c us ≡ if_unit None (first_code v.pieces) (units_in v.pieces) (first_code w.pieces) (units_in w.pieces) c us)
+      → Opened d2 (record p { place = w.place }) b q head → Put ps a p b q (decides (Local x) sa sb)
+  kept_put head alone free some is opened =
+      let fa = first_piece ps p.place sa in
+      let ua = units ps p.place sa in
+      let fb = first_piece ps n1 sb in
+      let ub = units ps n1 sb in
+      let make = λ (c : Code) (us : Units). if_unit (Some (Local x)) fa ua fb ub c us in
+      let held : (holds_call ps p.place sa || holds_call ps n1 sb) ≡ true = either some in
+      record {
+        good = opened.good;
+        alike = alike_then a d2 b alike2 opened.alike;
+        place = opened.place ∙ place_is;
+        step = λ t among n ts out around s fixed first us h.
+            let h1 : Comes t n ts out ps b (record q { place = w.place }) s first us = subst (λ j. Comes t n ts out ps b (record q { place = j }) s first us) opened.place h in
+            let fs = first_piece ps w.place s in
+            let us0 = units ps w.place s in
+            let behind : calls_in s + n ≡ length (calls_of (followed_by fs (flat_units us0))) + n = sym (joined_calls ps w.place n s) in
+            let top = free_at t m in
+            let k = length (calls_of (flat_units (make fs us0))) + n in
+            let left : Slims t k ts top (free_at t a) (shape_at a) (plain (local_get x) done) done =
+            subst (λ z. Slims t k ts top (free_at t a) (shape_at a) (plain (local_get x) done) (condition_put z a x done)) alone
+            (condition_slim a m x direct good c0 t among k ts top done done (S.ends (λ y e. e) (plainly_held plainly))) in
+            unit_comes_by t n ts out ps a d2 b b p q w.place w.place head (decides (Local x) sa sb s) s make top goes (pieces_same ∙ (c0.alone alone).1) opened opened.piece
+            (if_true (holds_call ps p.place sa || holds_call ps n1 sb) _ _ held)
+            (if_true (holds_call ps p.place sa || holds_call ps n1 sb) _ _ held ∙ (λ j. make (first_piece ps (sym place_is j) s) (units ps (sym place_is j) s)))
+            (λ c us. subst (λ z. Slims t k ts top (free_at t a) (shape_at a) (with_left (left_by (make fs us0) z) done) done) (sym (is c us))
+            (subst (λ z. Slims t k ts top (free_at t a) (shape_at a) z done) (sym (left_done (Local x))) left))
+            (λ c us e. never (call_open p.open) e free)
+            (λ c' us' clear fr.
+            let sl0 : SlimUnits t n ts out top [] fs us0 c' us' =
+            subst (λ sh. SlimUnits t n ts out top sh fs us0 c' us') (bare_shape b (b_bare opened.stack opened.set))
+            (subst (λ g. SlimUnits t n ts out g (shape_at b) fs us0 c' us') (free_b t opened.stack opened.set) (from_slim t n ts out b fs us0 c' us' fr)) in
+            subst (λ z. Behind t n ts out top (make fs us0) z) (sym (is c' us'))
+            (λ g sh c c2 go sl.
+            before_kept_if (Local x) top top go sl
+            (subst (λ i. SlimUnits t i (top ∷ ts) top top [] fa ua (first_code v.pieces) (units_in v.pieces))
+            ((λ j. calls_in sb + behind j) ∙ sym (joined_calls ps n1 (length (calls_of (followed_by fs (flat_units us0))) + n) sb))
+            (then_slim t among ts around (calls_in sb + (calls_in s + n)) fixed.0))
+            (subst (λ i. SlimUnits t i (top ∷ ts) top top [] fb ub (first_code w.pieces) (units_in w.pieces)) behind (else_slim t among ts around (calls_in s + n) fixed.1)) sl0)) first us h1;
+      }
 
   pub if_put : Decided x direct d2 p b q v w → Put ps a p b q (decides (Local x) sa sb)
   if_put (in_piece none1 none2 same q_is puts) = subst (λ z. Put ps a p b z (decides (Local x) sa sb)) (sym q_is) (free_put none1 none2 same puts)
   if_put (as_unit head piece some puts is opened) = unit_put head piece some puts is opened
+  if_put (as_kept head alone free some is opened) = kept_put head alone free some is opened

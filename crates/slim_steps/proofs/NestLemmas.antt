@@ -1,6 +1,6 @@
 -- What constructs put.
 use Rattle.std.proofs.Common.{◌≡◌, ℕ, ◌+◌, ◌-◌, ◌<◌, ◌≤◌, List, [], ◌∷◌, length, take, Bool, true, false, Result, Ok, Err, OnOk, refl, sym, ap, ◌∙◌, arith}
-use Rattle.std.specs.Prelude.{nat_eq}
+use Rattle.std.specs.Prelude.{nat_eq, not, ◌&&◌}
 use Rattle.std.specs.declared.vec.Vec.{Vec}
 use Rattle.std.specs.declared.alloc.Global.{Global}
 use Rattle.std.proofs.lemmas.List.{length-take-le}
@@ -55,6 +55,11 @@ free_if v w false e h = cc
 pub held_if : (v w : Written) (b : Bool) → b ≡ false → AreFree v w b → 0 < unit_count (units_in v.pieces) + unit_count (units_in w.pieces)
 held_if v w true e h = cc
 held_if v w false e h = h
+
+pub both_told : (a b : Bool) → (a && not b) ≡ true → (a ≡ true) × (b ≡ false)
+both_told true true e = cc
+both_told true false e = (refl, refl)
+both_told false b e = cc
 
 pub set_none : (a : Walk) (x : ℕ) (direct : Bool) → direct ≡ false → SetAgain a a x direct
 set_none a x true e = cc

@@ -3,22 +3,22 @@ use Rattle.std.proofs.Common.{◌≡◌, ℕ, suc, ◌+◌, ◌<◌, List, [], �
 use Rattle.std.specs.Prelude.{◌||◌, if◌then◌else◌}
 use Rattle.std.specs.Option.{is_some}
 use Rattle.wa_types.specs.Pausing.{Callee, direct, indirect, calls_of}
-use Rattle.wa_types.specs.Syntax.{basic, local_get, local_set, local_tee, call, call_indirect, Code, done, plain}
+use Rattle.wa_types.specs.Syntax.{basic, br_if, br_table, local_get, local_set, local_tee, call, call_indirect, Code, done, plain, branch}
 use Rattle.wa_model.specs.declared.flat.Operand.{Operand}
 use Rattle.wa_model.specs.declared.flat.Operand.TheVariants.{Local, Const}
-use Rattle.wa_model.specs.Flat.{Stmts, no_more, computes, copies, calls, leaps, leaps_if, leaps_by, nests, decides, halts, followed_by, got, all_got, set_to, slots_got, last_of}
+use Rattle.wa_model.specs.Flat.{Stmts, no_more, computes, copies, calls, leaps, leaps_if, leaps_by, nests, decides, halts, followed_by, got, all_got, set_to, slots_got, last_of, code_of}
 use Rattle.wa_model.specs.FlatFits.{ComputesFit, IsCallCode}
 use Rattle.guard_form.specs.Bounds.{unit_count}
 use Rattle.guard_form.specs.Grouping.{is_place}
 use Rattle.guard_form.specs.Pieces.{Units, no_unit, call_unit, nest_unit, if_unit, call_to, call_total, sole_callee, numbered, holds_call, first_piece, unit_call, units, flat_units}
 use Rattle.guard_form.proofs.Counting.{calls_done, calls_then}
-use Rattle.guard_form.proofs.Grouped.{has_unit, joins}
+use Rattle.guard_form.proofs.Grouped.{has_unit, joins, then_all_got, then_got, then_set, then_slots, then_then}
 use Rattle.guard_form.proofs.UnitLemmas.{Some_unit}
-use Rattle.flat_pieces.specs.Statements.{with_rest, one_place}
+use Rattle.flat_pieces.specs.Statements.{with_rest, one_code, one_place}
 use Rattle.flat_pieces.proofs.StmtLemmas.{if_false}
 use Rattle.slim_form.specs.Parts.{goes_on}
 use Rattle.slim_form.specs.Slim.{Terms}
-use Rattle.slim_steps.specs.Coming.{calls_in, CallsFixed, Goes}
+use Rattle.slim_steps.specs.Coming.{calls_in, with_left, CallsFixed, Goes}
 
 -- ---- which sequences have units
 
@@ -117,6 +117,44 @@ number_is ps n x e = ap (λ b. if b then sole_callee (plain (call_to x) done) el
 
 pub no_number : (ps : List ℕ) (n : ℕ) (op : Code) → is_place ps n ≡ false → is_some (numbered ps n op) ≡ false
 no_number ps n op e = ap (λ b. is_some (if b then sole_callee op else None)) e
+
+-- ---- a condition behind a piece
+
+then_one : (u : Stmts) (c d : Code) → followed_by (one_code u c) d ≡ one_code u (followed_by c d)
+unfolding followed_by
+then_one no_more c d = refl
+then_one (computes op args to rest) c d =
+    then_all_got args (followed_by op (set_to to c)) d ∙ ap (all_got args) (then_then op (set_to to c) d ∙ ap (followed_by op) (then_set to c d))
+then_one (copies to from rest) c d = then_got from (plain (local_set to) c) d
+then_one (calls op stack args to rest) c d =
+    then_slots (last_of args stack) (followed_by op (set_to to c)) d ∙ ap (slots_got (last_of args stack)) (then_then op (set_to to c) d ∙ ap (followed_by op) (then_set to c d))
+then_one (leaps l rest) c d = refl
+then_one (leaps_if o l rest) c d = then_got o (plain (br_if l) c) d
+then_one (leaps_by o ls l rest) c d = then_got o (plain (br_table ls l) c) d
+then_one (nests y body rest) c d = refl
+then_one (decides o a b rest) c d = then_got o (branch None (code_of a) (code_of b) c) d
+then_one (halts rest) c d = refl
+
+pub left_one : (o : Option Operand) (u : Stmts) (c : Code) → with_left o (one_code u c) ≡ one_code u (with_left o c)
+left_one None u c = refl
+left_one (Some o) u c = then_one u c (got o done)
+
+no_calls : (o : Operand) → calls_of (got o done) ≡ []
+unfolding calls_of
+no_calls (Local x) = refl
+no_calls (Const v) = refl
+
+pub left_calls : (o : Option Operand) (c : Code) → length (calls_of (with_left o c)) ≡ length (calls_of c)
+left_calls None c = refl
+left_calls (Some o) c =
+    let e = ap length (calls_then c (got o done)) in
+    let l = length-append (calls_of c) (calls_of (got o done)) in
+    let z = ap length (no_calls o) in
+    omega arith
+
+pub left_done : (o : Operand) → with_left (Some o) done ≡ got o done
+unfolding followed_by
+left_done o = refl
 
 -- ---- pieces that come to their end
 

@@ -44,6 +44,7 @@ opened_some a v p us o head old u piece good none e f g is more = record {
   piece = none;
   place = refl;
   ended = refl;
+  is = e;
   first = λ c. ap (λ z. first_where z (code p.first.items) c) e ∙ sym (ap (λ z. first_where z (code p.first.items) (code a.piece.items)) f);
   units = λ c rest.
       ap (λ z. units_onto us.items (open_where z c rest)) e ∙ ap (λ xs. units_onto xs (head_in_front head c rest)) more ∙ one_more p.units.items u (head_in_front head c rest)

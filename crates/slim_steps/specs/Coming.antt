@@ -1,12 +1,13 @@
 -- What statements to come have to come to, for the whole to be slim.
-use Rattle.std.specs.Prelude.{◌≡◌, ◌<◌, ◌^◌, ◌+◌, ℕ, suc, List, [], length, take, Bool, true, false}
+use Rattle.std.specs.Prelude.{◌≡◌, ◌<◌, ◌^◌, ◌+◌, ℕ, suc, List, [], length, take, Option, Some, None, Bool, true, false}
 use Rattle.wa_types.specs.Pausing.{calls_of}
 use Rattle.wa_types.specs.Syntax.{Code, done}
 use Rattle.wa_types.specs.View.{onto}
-use Rattle.wa_model.specs.Flat.{Stmts, no_more, computes, copies, calls, leaps, leaps_if, leaps_by, nests, decides, halts, code_of}
+use Rattle.wa_model.specs.declared.flat.Operand.{Operand}
+use Rattle.wa_model.specs.Flat.{Stmts, no_more, computes, copies, calls, leaps, leaps_if, leaps_by, nests, decides, halts, followed_by, got, code_of}
 use Rattle.wa_model.specs.FlatFits.{StmtsFit}
 use Rattle.guard_form.specs.Grouping.{is_place}
-use Rattle.guard_form.specs.Pieces.{Units, no_unit, call_total, first_piece, flat_units, units}
+use Rattle.guard_form.specs.Pieces.{Units, no_unit, if_unit, call_total, first_piece, flat_units, units, StartsGot}
 use Rattle.slim_form.specs.Emit.{free_by}
 use Rattle.slim_form.specs.Parts.{goes_on}
 use Rattle.slim_form.specs.Slim.{Free, Held, Reaches, Shape, Slims, Terms}
@@ -14,7 +15,7 @@ use Rattle.slim_units.specs.SlimUnits.{SlimUnits}
 use Rattle.slim_walk.specs.declared.stack.Walk.{Walk}
 use Rattle.slim_walk.specs.Walking.{free_at, shape_at}
 use Rattle.slim_steps.specs.declared.sequence.Sequence.{Sequence}
-use Rattle.slim_steps.specs.SequenceView.{first_with, units_with}
+use Rattle.slim_steps.specs.SequenceView.{call_open, first_with, units_with}
 
 -- At a call with so many behind it no local is fixed; at a numbered one none but those that aren't slots, and its stack.
 abbrev pub FixedFor : Terms → (numbered : Bool) → (stack : List ℕ) → (behind : ℕ) → Type 0
@@ -44,17 +45,27 @@ abbrev pub Goes : Units → Code → Type 0
 Goes no_unit c = Prim.Unit {0}
 Goes _ c = goes_on c ≡ true
 
+-- the condition that the slim piece in front of units leaves, where it is got on the other side
+abbrev pub left_by : (us us' : Units) → Option Operand
+left_by (if_unit o fa a fb b behind rest) (if_unit None fa' a' fb' b' behind' rest') = o
+left_by _ _ = None
+
+-- a piece with it
+abbrev pub with_left : Option Operand → Code → Code
+with_left None c = c
+with_left (Some o) c = followed_by c (got o done)
+
 module _ (t : Terms) (n : ℕ) (ts : List Free) (out : Free) where
   -- Slim units beside these: whatever piece comes to them, with these locals free at its end.
   abbrev pub Behind : Free → (us us' : Units) → Type 0
   Behind g us us' =
-      (f : Free) (sh : Shape) (c c' : Code) → Goes us c → Slims t (length (calls_of (flat_units us)) + n) ts g f sh c c' → SlimUnits t n ts out f sh c us c' us'
+      (f : Free) (sh : Shape) (c c' : Code) → Goes us c → Slims t (length (calls_of (flat_units us)) + n) ts g f sh (with_left (left_by us us') c) c' → SlimUnits t n ts out f sh c us c' us'
 
   -- A piece and units, from where the walk is, and the slim ones beside them.
   pub record From (w : Walk) (c : Code) (us : Units) (c' : Code) (us' : Units) : Type 0 where
     pub end : Free
     pub goes : Goes us c
-    pub slim : Slims t (length (calls_of (flat_units us)) + n) ts end (free_at t w) (shape_at w) c c'
+    pub slim : Slims t (length (calls_of (flat_units us)) + n) ts end (free_at t w) (shape_at w) (with_left (left_by us us') c) c'
     pub behind : Behind end us us'
 
   -- what statements have to come to; nothing stands behind a jump
@@ -62,11 +73,13 @@ module _ (t : Terms) (n : ℕ) (ts : List Free) (out : Free) where
   Rest ps false p w s c' us' = From w (first_piece ps p s) (units ps p s) c' us'
   Rest ps true p w s c' us' = (s ≡ no_more) × (c' ≡ done) × (us' ≡ no_unit)
 
-  -- From here, with statements to come, a sequence can come to this first piece and these units.
+  -- From here, with statements to come, a sequence can come to this first piece and these units. A piece that stands with a call leaves
+  -- no condition.
   pub record Comes (ps : List ℕ) (w : Walk) (q : Sequence) (s : Stmts) (first : Code) (us : Units) : Type 0 where
     pub piece : Code
     pub units : Units
     pub rest : Rest ps q.ended q.place w s piece units
+    pub clear : call_open q.open ≡ true → StartsGot units
     pub first_is : first_with q (onto w.piece.items piece) ≡ first
     pub units_is : units_with q (onto w.piece.items piece) units ≡ us
 

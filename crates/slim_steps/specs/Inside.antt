@@ -21,7 +21,7 @@ use Rattle.slim_steps.specs.declared.sequence.Head.{Head}
 use Rattle.slim_steps.specs.declared.sequence.Sequence.{Sequence}
 use Rattle.slim_steps.specs.declared.sequence.Written.{Written}
 use Rattle.slim_steps.specs.Coming.{Around, CallsFixed, Comes}
-use Rattle.slim_steps.specs.SequenceView.{first_with, head_in_front, units_with}
+use Rattle.slim_steps.specs.SequenceView.{call_open, first_with, head_in_front, units_with}
 use Rattle.slim_steps.specs.Steps.{Opened}
 
 -- the first piece, and the units
@@ -157,10 +157,14 @@ abbrev pub AreFree : (v w : Written) → Bool → Type 0
 AreFree v w true = (units_in v.pieces ≡ no_unit) × (units_in w.pieces ≡ no_unit)
 AreFree v w false = 0 < unit_count (units_in v.pieces) + unit_count (units_in w.pieces)
 
--- An `if` was put: in the piece, where its arms have no units, or as a unit.
+-- An `if` was put: in the piece, where its arms have no units, or as a unit, for which its condition is set, or left where it stands
+-- alone and not behind a call.
 pub data Decided (x : ℕ) (direct : Bool) (a : Walk) (p : Sequence) (b : Walk) (q : Sequence) (v w : Written) : Type 0 where
   in_piece : units_in v.pieces ≡ no_unit → units_in w.pieces ≡ no_unit → Same a b → q ≡ record p { place = w.place }
       → Puts a.piece.items b.piece.items (λ c. condition_got direct x (branch None (first_code v.pieces) (first_code w.pieces) c)) → Decided x direct a p b q v w
   as_unit : (head : Head) → (piece : Vec Instr Global) → 0 < unit_count (units_in v.pieces) + unit_count (units_in w.pieces) → Puts a.piece.items piece.items (condition_set direct x)
-      → ((c : Code) (us : Units) → head_in_front head c us ≡ if_unit (Local x) (first_code v.pieces) (units_in v.pieces) (first_code w.pieces) (units_in w.pieces) c us)
+      → ((c : Code) (us : Units) → head_in_front head c us ≡ if_unit (Some (Local x)) (first_code v.pieces) (units_in v.pieces) (first_code w.pieces) (units_in w.pieces) c us)
       → Opened (record a { piece = piece }) (record p { place = w.place }) b q head → Decided x direct a p b q v w
+  as_kept : (head : Head) → direct ≡ true → call_open p.open ≡ false → 0 < unit_count (units_in v.pieces) + unit_count (units_in w.pieces)
+      → ((c : Code) (us : Units) → head_in_front head c us ≡ if_unit None (first_code v.pieces) (units_in v.pieces) (first_code w.pieces) (units_in w.pieces) c us)
+      → Opened a (record p { place = w.place }) b q head → Decided x direct a p b q v w

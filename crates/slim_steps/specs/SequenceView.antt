@@ -1,5 +1,5 @@
 -- What a sequence that is gone over comes to, with more behind it.
-use Rattle.std.specs.Prelude.{List, [], ◌∷◌, Option, Some, None}
+use Rattle.std.specs.Prelude.{List, [], ◌∷◌, Option, Some, None, Bool, true, false}
 use Rattle.wa_types.specs.Syntax.{a_block, a_loop, Code}
 use Rattle.wa_types.specs.View.{code}
 use Rattle.guard_form.specs.Pieces.{Units, call_unit, nest_unit, if_unit}
@@ -15,6 +15,11 @@ head_in_front (Call slots target to) c rest = call_unit slots.items (callee_of t
 head_in_front (Block p) c rest = nest_unit a_block (code p.first.items) (units_of p.units.items) c rest
 head_in_front (Loop p) c rest = nest_unit a_loop (code p.first.items) (units_of p.units.items) c rest
 head_in_front (If condition p q) c rest = if_unit condition (code p.first.items) (units_of p.units.items) (code q.first.items) (units_of q.units.items) c rest
+
+-- a call is open: the piece so far stands with it
+abbrev pub call_open : Option Head → Bool
+call_open (Some (Call slots target to)) = true
+call_open _ = false
 
 -- units in front of others
 abbrev pub units_onto : List Unit → Units → Units

@@ -37,6 +37,7 @@ pub record Opened (a : Walk) (p : Sequence) (b : Walk) (q : Sequence) (head : He
   pub piece : b.piece.items ≡ []
   pub place : q.place ≡ p.place
   pub ended : q.ended ≡ p.ended
+  pub is : q.open ≡ Some head
   pub first : (c : Code) → first_with q c ≡ first_with p (code a.piece.items)
   pub units : (c : Code) (us : Units) → units_with q c us ≡ units_with p (code a.piece.items) (head_in_front head c us)
 

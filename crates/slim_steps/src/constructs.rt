@@ -5,6 +5,7 @@ ghost use Rattle.wa_types.specs.Syntax.{a_block, a_loop, branch};
 ghost use Rattle.wa_types.specs.View.{code};
 ghost use Rattle.flat_pieces.specs.Putting.{Puts};
 ghost use Rattle.slim_walk.specs.Walking.{Good};
+ghost use Rattle.slim_steps.specs.SequenceView.{call_open};
 ghost use Rattle.slim_steps.specs.Inside.{condition_got, AreFree, Claimed, ConditionTold, Decided, Entered, Left, Nested, Same, SetAgain};
 
 use crate::sequence::{Head, Sequence, Written, open_unit};
@@ -187,6 +188,31 @@ fn are_free(then_arm: &Written, else_arm: &Written) -> bool
     else_arm.pieces.units.is_empty()
 }
 
+/// Whether a unit is a call.
+fn is_call(head: &Head) -> bool
+    ensures { result ≡ call_open (Some head.now) }
+{
+    match head {
+        Head::Call { .. } => true,
+        Head::Block(_) => false,
+        Head::Loop(_) => false,
+        Head::If { .. } => false,
+    }
+}
+
+/// Whether a condition that stands on the operand stack may stay there in front of a unit: not in a piece that stands with a call.
+fn may_stay(all: &Sequence, direct: bool) -> bool
+    ensures { result ≡ (direct && not (call_open all.now.open)) }
+{
+    if !direct {
+        return false;
+    }
+    match &all.open {
+        None => true,
+        Some(head) => !is_call(head),
+    }
+}
+
 /// Puts an `if` whose condition was taken so: in the piece, or as a unit where it holds a numbered call.
 pub fn put_if(
     at: &mut Walk,
@@ -206,9 +232,17 @@ pub fn put_if(
     if free {
         return put_free_if(at, x, direct, first.first, second.first);
     }
+    if may_stay(all, direct) {
+        let head = Head::If {
+            cond: None,
+            then_arm: first,
+            else_arm: second,
+        };
+        return open_unit(at, all, head);
+    }
     set_condition(at, x, direct)?;
     let head = Head::If {
-        cond: Operand::Local(x),
+        cond: Some(Operand::Local(x)),
         then_arm: first,
         else_arm: second,
     };

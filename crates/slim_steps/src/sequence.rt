@@ -27,8 +27,9 @@ pub enum Head {
     },
     Block(Pieces),
     Loop(Pieces),
+    /// No condition is told that the piece in front has left on the operand stack.
     If {
-        cond: Operand,
+        cond: Option<Operand>,
         then_arm: Pieces,
         else_arm: Pieces,
     },

@@ -1,14 +1,16 @@
 -- Slim units have the same calls and numbers, and call nothing else.
 use Rattle.std.proofs.Common.{◌≡◌, ℕ, suc, ◌+◌, List, [], ◌∷◌, Some, None, false, refl, ap, arith, ◌⊎◌, inl, inr, ⊎_elim}
 use Rattle.wa_types.specs.Pausing.{Callee}
-use Rattle.wa_types.specs.Syntax.{Code}
+use Rattle.wa_types.specs.Syntax.{Code, done}
+use Rattle.wa_model.specs.Flat.{followed_by, got}
 use Rattle.wa_model.specs.Store.{gives}
 use Rattle.guard_form.specs.Functions.{Calls, HasUnit, PiecesCall}
 use Rattle.guard_form.specs.Pieces.{Units, no_unit, call_unit, nest_unit, if_unit}
+use Rattle.guard_form.proofs.Grouped.{calls_got, calls_then}
 use Rattle.guard_form.proofs.UnitLemmas.{any_is, any_some, Some_unit}
 use Rattle.slim_form.specs.Slim as S
 use Rattle.slim_form.specs.Slim.{Free, Shape, Slims, Terms, more, ends, does, keeps, uses, saves, narrows, forgets}
-use Rattle.slim_units.specs.SlimUnits.{SlimUnits, untouched, alone, before_call, before_block, before_loop, before_if}
+use Rattle.slim_units.specs.SlimUnits.{SlimUnits, untouched, alone, before_call, before_block, before_loop, before_if, before_kept_if}
 use Rattle.slim_units.specs.Laws.{AlikeUnits, PiecesCallAlike, UnitsAreAlike}
 
 -- ---- code
@@ -71,15 +73,16 @@ module _ (t : Terms) where
   some_stays : (n : ℕ) (ts : List Free) (out f : Free) (sh : Shape) (first first' : Code) (us us' : Units) → SlimUnits t n ts out f sh first us first' us' → Some_unit us → Some_unit us'
   some_stays n ts out _ _ first _ us _ untouched h = h
   some_stays n ts out f sh first first' _ _ (alone sl) h = h
-  some_stays n ts out f sh first first' _ _ (before_call _ _ _ _ _ _ _ _ _ _) h = tt
+  some_stays n ts out f sh first first' _ _ (before_call _ _ _ _ _ _ _ _ _ _ _) h = tt
   some_stays n ts out f sh first first' _ _ (before_block _ _ _ _ _ _) h = tt
   some_stays n ts out f sh first first' _ _ (before_loop _ _ _ _ _ _ _ _) h = tt
   some_stays n ts out f sh first first' _ _ (before_if _ _ _ _ _ _ _ _ _ _ _) h = tt
+  some_stays n ts out f sh first first' _ _ (before_kept_if _ _ _ _ _ _ _ _) h = tt
 
   pub units_alike : (n : ℕ) (ts : List Free) (out f : Free) (sh : Shape) (first first' : Code) (us us' : Units) → SlimUnits t n ts out f sh first us first' us' → AlikeUnits first first' us us'
   units_alike n ts out _ _ first _ us _ untouched = record { numbers = refl; count = refl; numbered = λ test h. h; arms = λ h. h }
   units_alike n ts out f sh first first' _ _ (alone sl) = record { numbers = refl; count = refl; numbered = λ test h. h; arms = λ h. h }
-  units_alike n ts out f sh first first' _ _ (before_call {sh2 = sh2} {behind = behind} {behind' = behind'} {rest = rest} {rest' = rest'} {to = to} {to' = to'} slots x g h2 go sl hs hf re on) =
+  units_alike n ts out f sh first first' _ _ (before_call {sh2 = sh2} {behind = behind} {behind' = behind'} {rest = rest} {rest' = rest'} {to = to} {to' = to'} slots x g h2 go sl hs hf re sg on) =
       let e = units_alike n ts out h2 sh2 behind behind' rest rest' on in
       record { numbers = ap suc e.numbers; count = ap (λ i. 1 + i) e.count; numbered = λ test h. (h.0, e.numbered test h.1); arms = e.arms }
   units_alike n ts out f sh first first' _ _ (before_block {inner = inner} {inner' = inner'} {behind = behind} {behind' = behind'} {body = body} {body' = body'} {rest = rest} {rest' = rest'} g h2 go sl ib on) =
@@ -103,13 +106,31 @@ module _ (t : Terms) where
         numbered = λ test h. (i.numbered test h.0, j.numbered test h.1, e.numbered test h.2);
         arms = λ h. (⊎_elim (λ s. then_has a' b' (some_stays _ (h2 ∷ ts) h2 k [] fa fa' a a' ia s)) (λ s. else_has a' b' (some_stays _ (h2 ∷ ts) h2 k [] fb fb' b b' ib s)) (one_of a b h.0), i.arms h.1, j.arms h.2, e.arms h.3);
       }
+  units_alike n ts out f sh first first' _ _ (before_kept_if {fa = fa} {fa' = fa'} {fb = fb} {fb' = fb'} {behind = behind} {behind' = behind'} {a = a} {a' = a'} {b = b} {b' = b'}
+      {rest = rest} {rest' = rest'} o g h2 go sl ia ib on) =
+      let e = units_alike n ts out h2 [] behind behind' rest rest' on in
+      let i = units_alike _ (h2 ∷ ts) h2 g [] fa fa' a a' ia in
+      let j = units_alike _ (h2 ∷ ts) h2 g [] fb fb' b b' ib in
+      let e1 = e.numbers in let e2 = e.count in let i1 = i.numbers in let i2 = i.count in let j1 = j.numbers in let j2 = j.count in
+      record {
+        numbers = omega arith;
+        count = omega arith;
+        numbered = λ test h. (i.numbered test h.0, j.numbered test h.1, e.numbered test h.2);
+        arms = λ h. (
+          ⊎_elim (λ s. then_has a' b' (some_stays _ (h2 ∷ ts) h2 g [] fa fa' a a' ia s)) (λ s. else_has a' b' (some_stays _ (h2 ∷ ts) h2 g [] fb fb' b b' ib s)) (one_of a b h.0),
+          i.arms h.1,
+          j.arms h.2,
+          e.arms h.3,
+        );
+      }
 
   module _ (P : Callee → Type 0) where
     pub pieces_call : (n : ℕ) (ts : List Free) (out f : Free) (sh : Shape) (first first' : Code) (us us' : Units) → SlimUnits t n ts out f sh first us first' us' → Calls P first → PiecesCall P us
         → Calls P first' × PiecesCall P us'
     pieces_call n ts out _ _ first _ us _ untouched h k = (h, k)
     pieces_call n ts out f sh first first' _ _ (alone sl) h k = (code_calls t P n ts out f sh first first' sl h, tt)
-    pieces_call n ts out f sh first first' _ _ (before_call {sh2 = sh2} {behind = behind} {behind' = behind'} {rest = rest} {rest' = rest'} {to = to} {to' = to'} slots x g h2 go sl hs hf re on) h k =
+    pieces_call n ts out f sh first first' _ _ (before_call {sh2 = sh2} {behind = behind} {behind' = behind'} {rest = rest} {rest' = rest'} {to = to} {to' = to'} slots x g h2 go sl hs hf re
+        sg on) h k =
         let e = pieces_call n ts out h2 sh2 behind behind' rest rest' on k.0 k.1 in
         (code_calls t P _ ts g f sh first first' sl h, (e.0, e.1))
     pieces_call n ts out f sh first first' _ _ (before_block {inner = inner} {inner' = inner'} {behind = behind} {behind' = behind'} {body = body} {body' = body'} {rest = rest} {rest' = rest'} g h2 go sl ib on) h k =
@@ -125,6 +146,12 @@ module _ (t : Terms) where
         let j = pieces_call _ (h2 ∷ ts) h2 l [] fb fb' b b' ib k.2 k.3 in
         let e = pieces_call n ts out h2 [] behind behind' rest rest' on k.4 k.5 in
         (code_calls t P _ ts g f sh first first' sl h, (i.0, i.1, j.0, j.1, e.0, e.1))
+    pieces_call n ts out f sh first first' _ _ (before_kept_if {fa = fa} {fa' = fa'} {fb = fb} {fb' = fb'} {behind = behind} {behind' = behind'} {a = a} {a' = a'} {b = b} {b' = b'}
+        {rest = rest} {rest' = rest'} o g h2 go sl ia ib on) h k =
+        let i = pieces_call _ (h2 ∷ ts) h2 g [] fa fa' a a' ia k.0 k.1 in
+        let j = pieces_call _ (h2 ∷ ts) h2 g [] fb fb' b b' ib k.2 k.3 in
+        let e = pieces_call n ts out h2 [] behind behind' rest rest' on k.4 k.5 in
+        (code_calls t P _ ts g f sh (followed_by first (got o done)) first' sl (calls_then P first (got o done) h (calls_got P o done tt)), (i.0, i.1, j.0, j.1, e.0, e.1))
 
 pub alike_law : UnitsAreAlike
 alike_law t n ts out f sh first first' us us' su = units_alike t n ts out f sh first first' us us' su

@@ -1,17 +1,19 @@
 -- The code of slim units is slim.
-use Rattle.std.proofs.Common.{◌≡◌, ℕ, ◌+◌, length, List, [], ◌∷◌, Option, Some, None, true, refl, sym, subst}
+use Rattle.std.proofs.Common.{◌≡◌, ℕ, ◌+◌, length, List, [], ◌∷◌, Option, Some, None, true, refl, sym, ap, ◌∙◌, subst}
 use Rattle.wa_types.specs.Pausing.{Callee, direct, indirect, calls_of}
-use Rattle.wa_types.specs.Syntax.{const, Code, done, plain, branch}
+use Rattle.wa_types.specs.Syntax.{basic, br, br_if, br_table, call, call_indirect, const, local_get, local_set, local_tee, return, unreachable, Code, done, plain, nest, branch}
 use Rattle.wa_model.specs.declared.flat.Operand.{Operand}
 use Rattle.wa_model.specs.declared.flat.Operand.TheVariants.{Local, Const}
 use Rattle.wa_model.specs.Flat.{followed_by, got, result_got, set_to, slots_got}
 use Rattle.guard_form.specs.Pieces.{Units, call_unit, call_to, flat_units}
 use Rattle.guard_form.proofs.CodeLemmas.{then_done}
+use Rattle.guard_form.proofs.Grouped.{then_got, then_then}
+use Rattle.slim_form.specs.Parts.{goes_on}
 use Rattle.slim_form.specs.Slim as S
 use Rattle.slim_form.specs.Slim.{Free, Covers, Held, Shape, Slims, Terms, does, ends, forgets, keeps, lacks_all, narrows, Plainly, plainly, plainly_held, takes_none, takes_same}
 use Rattle.slim_form.proofs.EmittedCode.{same_slim}
 use Rattle.slim_form.proofs.SlimPieces.{then_slim}
-use Rattle.slim_units.specs.SlimUnits.{OperandHeld, ResultSlim, has_none, is_set, is_kept, SlimUnits, untouched, alone, before_call, before_block, before_loop, before_if}
+use Rattle.slim_units.specs.SlimUnits.{OperandHeld, ResultSlim, has_none, is_set, is_kept, SlimUnits, untouched, alone, before_call, before_block, before_loop, before_if, before_kept_if}
 use Rattle.slim_units.specs.Laws.{BodyIsSlim, ToHeld, UnitsAreSlim}
 
 module _ (t : Terms) where
@@ -37,16 +39,56 @@ module _ (t : Terms) where
   if_slim n ts out g k h (Const v) a a' b b' r r' hc co sa sb sr = does (const v) takes_none (narrows k co (S.decides None h (plainly_held plainly) sa sb sr))
 
   -- a piece in front of a unit
-  in_front : (n : ℕ) (ts : List Free) (out g f : Free) (sh : Shape) (first first' k k' : Code) → Rattle.slim_form.specs.Parts.goes_on first ≡ true
+  in_front : (n : ℕ) (ts : List Free) (out g f : Free) (sh : Shape) (first first' k k' : Code) → goes_on first ≡ true
       → Slims t (length (calls_of k) + n) ts g f sh first first' → Slims t n ts out g [] k k' → Slims t n ts out f sh (followed_by first k) (followed_by first' k')
   in_front n ts out g f sh first first' k k' go sl behind = then_slim t n ts out g k k' behind (length (calls_of k) + n) f sh first first' refl go sl
+
+  -- a condition that the slim piece leaves
+  calls_condition : (c : Operand) (a b r : Code) → calls_of (got c (branch None a b r)) ≡ calls_of (branch None a b r)
+  unfolding calls_of
+  calls_condition (Local x) a b r = refl
+  calls_condition (Const v) a b r = refl
+
+  goes_condition : (c : Code) (o : Operand) → goes_on (followed_by c (got o done)) ≡ goes_on c
+  unfolding followed_by
+  goes_condition done (Local x) = refl
+  goes_condition done (Const v) = refl
+  goes_condition (plain (basic b) r) o = goes_condition r o
+  goes_condition (plain (local_get x) r) o = goes_condition r o
+  goes_condition (plain (local_set x) r) o = goes_condition r o
+  goes_condition (plain (local_tee x) r) o = goes_condition r o
+  goes_condition (plain (br l) r) o = refl
+  goes_condition (plain (br_if l) r) o = goes_condition r o
+  goes_condition (plain (br_table ls l) r) o = refl
+  goes_condition (plain return r) o = refl
+  goes_condition (plain unreachable r) o = refl
+  goes_condition (plain (call x) r) o = goes_condition r o
+  goes_condition (plain (call_indirect x) r) o = goes_condition r o
+  goes_condition (nest s r body k) o = goes_condition k o
+  goes_condition (branch r a b k) o = goes_condition k o
+
+  none_then : (tail : Code) → followed_by done tail ≡ tail
+  unfolding followed_by
+  none_then tail = refl
+
+  kept_if_slim : (n : ℕ) (ts : List Free) (out g f h : Free) (sh : Shape) (c : Operand) (first first' a a' b b' r r' : Code) → goes_on first ≡ true
+      → Slims t (length (calls_of (got c (branch None a b r))) + n) ts g f sh (followed_by first (got c done)) first'
+      → Slims t (length (calls_of b) + (length (calls_of r) + n)) (h ∷ ts) h g [] a a' → Slims t (length (calls_of r) + n) (h ∷ ts) h g [] b b' → Slims t n ts out h [] r r'
+      → Slims t n ts out f sh (followed_by first (got c (branch None a b r))) (followed_by first' (branch None a' b' r'))
+  kept_if_slim n ts out g f h sh c first first' a a' b b' r r' go sl sa sb sr =
+      let k : Code = branch None a b r in
+      let joined : followed_by (followed_by first (got c done)) k ≡ followed_by first (got c k) =
+      then_then first (got c done) k ∙ ap (followed_by first) (then_got c done k ∙ ap (got c) (none_then k)) in
+      subst (λ z. Slims t n ts out f sh z (followed_by first' (branch None a' b' r'))) joined
+      (in_front n ts out g f sh (followed_by first (got c done)) first' k (branch None a' b' r') (goes_condition first c ∙ go)
+      (subst (λ cs. Slims t (length cs + n) ts g f sh (followed_by first (got c done)) first') (calls_condition c a b r) sl) (S.decides None h plainly sa sb sr))
 
   pub units_slim : (n : ℕ) (ts : List Free) (out f : Free) (sh : Shape) (first first' : Code) (us us' : Units) → SlimUnits t n ts out f sh first us first' us'
       → Slims t n ts out f sh (followed_by first (flat_units us)) (followed_by first' (flat_units us'))
   units_slim n ts out _ _ first _ us _ untouched = same_slim t n ts out (followed_by first (flat_units us))
   units_slim n ts out f sh first first' _ _ (alone sl) =
       subst (λ c. Slims t n ts out f sh c (followed_by first' done)) (sym (then_done first)) (subst (λ c. Slims t n ts out f sh first c) (sym (then_done first')) sl)
-  units_slim n ts out f sh first first' _ _ (before_call {sh2 = sh2} {behind = behind} {behind' = behind'} {rest = rest} {rest' = rest'} {to = to} {to' = to'} slots x g h go sl hs hf re on) =
+  units_slim n ts out f sh first first' _ _ (before_call {sh2 = sh2} {behind = behind} {behind' = behind'} {rest = rest} {rest' = rest'} {to = to} {to' = to'} slots x g h go sl hs hf re sg on) =
       in_front n ts out g f sh first first' (flat_units (call_unit slots x to behind rest)) (flat_units (call_unit slots x to' behind' rest')) go sl
       (call_slim n ts out g slots x [] (set_to to (followed_by behind (flat_units rest))) (set_to to' (followed_by behind' (flat_units rest'))) plainly hs hf
       (result_slim n ts out g h sh2 to to' (followed_by behind (flat_units rest)) (followed_by behind' (flat_units rest')) re (units_slim n ts out h sh2 behind behind' rest rest' on)))
@@ -63,6 +105,12 @@ module _ (t : Terms) where
       (followed_by behind (flat_units rest)) (followed_by behind' (flat_units rest')) hc co
       (units_slim (length (calls_of (followed_by fb (flat_units b))) + (length (calls_of (followed_by behind (flat_units rest))) + n)) (h ∷ ts) h k [] fa fa' a a' ia)
       (units_slim (length (calls_of (followed_by behind (flat_units rest))) + n) (h ∷ ts) h k [] fb fb' b b' ib) (units_slim n ts out h [] behind behind' rest rest' on))
+  units_slim n ts out f sh first first' _ _ (before_kept_if {fa = fa} {fa' = fa'} {fb = fb} {fb' = fb'} {behind = behind} {behind' = behind'} {a = a} {a' = a'} {b = b} {b' = b'}
+      {rest = rest} {rest' = rest'} c g h go sl ia ib on) =
+      kept_if_slim n ts out g f h sh c first first' (followed_by fa (flat_units a)) (followed_by fa' (flat_units a')) (followed_by fb (flat_units b)) (followed_by fb' (flat_units b'))
+      (followed_by behind (flat_units rest)) (followed_by behind' (flat_units rest')) go sl
+      (units_slim (length (calls_of (followed_by fb (flat_units b))) + (length (calls_of (followed_by behind (flat_units rest))) + n)) (h ∷ ts) h g [] fa fa' a a' ia)
+      (units_slim (length (calls_of (followed_by behind (flat_units rest))) + n) (h ∷ ts) h g [] fb fb' b b' ib) (units_slim n ts out h [] behind behind' rest rest' on)
 
 pub units_law : UnitsAreSlim
 units_law t n ts out f sh first first' us us' su = units_slim t n ts out f sh first first' us us' su

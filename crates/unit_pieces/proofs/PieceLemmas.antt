@@ -1,10 +1,9 @@
 -- Pieces: what is put of a call, and of a condition.
 use Rattle.std.proofs.Common.{◌≡◌, ℕ, suc, ◌≤◌, ◌<◌, ◌^◌, ◌∷◌, List, [], Option, Some, None, refl, sym, ap, ◌∙◌, arith}
-use Rattle.wa_types.specs.declared.values.Value.TheVariants as V
 use Rattle.wa_types.specs.declared.operators.NumOp.TheVariants.{I32Ne}
 use Rattle.wa_types.specs.declared.instrs.Instr.{Instr}
 use Rattle.wa_types.specs.declared.instrs.Instr.TheVariants.{Call, CallIndirect}
-use Rattle.wa_types.specs.Syntax.{const, num, global_get, local_set, br_if, basic, call, call_indirect, Code, done, plain, nest, branch}
+use Rattle.wa_types.specs.Syntax.{num, global_get, br_if, basic, call, call_indirect, Code, done, plain, nest, branch}
 use Rattle.wa_types.specs.Pausing.{Callee}
 use Rattle.wa_types.specs.Counts.{depth_of}
 use Rattle.wa_types.specs.View.{in_front, onto, code}
@@ -12,8 +11,9 @@ use Rattle.wa_types.proofs.ViewLemmas.{is_block, is_loop, is_if, is_plain, kind,
 use Rattle.wa_model.specs.declared.flat.Operand.{Operand}
 use Rattle.wa_model.specs.declared.flat.Operand.TheVariants.{Local, Const}
 use Rattle.wa_model.specs.Flat.{followed_by, got, set_to, slots_got}
-use Rattle.guard_form.specs.Pieces.{call_to}
+use Rattle.guard_form.specs.Pieces.{call_to, got_any}
 use Rattle.guard_form.specs.Guarded.{GuardIndices, index_with, raised_plain, raised, sought, index_noted, noted}
+use Rattle.guard_form.proofs.CodeLemmas.{then_done}
 use Rattle.flat_pieces.specs.Putting.{Puts}
 use Rattle.flat_pieces.specs.Raising.{LabelsBelow, Raisable}
 use Rattle.unit_pieces.specs.declared.pieces.Target.{Target}
@@ -91,8 +91,9 @@ raised_behind d n (nest s r b a) c = ap (nest s r (raised (suc d) n b)) (raised_
 raised_behind d n (branch r x y a) c = ap (branch r (raised (suc d) n x) (raised (suc d) n y)) (raised_behind d n a c)
 
 -- the condition behind the raised piece
-pub condition_is : (o : Operand) (first : Code) (mid new : List Instr) → code mid ≡ raised 0 1 first → Puts mid new (got o) → code new ≡ raised 0 1 (followed_by first (got o done))
-condition_is o first mid new e puts =
+pub condition_is : (o : Option Operand) (first : Code) (mid new : List Instr) → code mid ≡ raised 0 1 first → Puts mid new (got_any o) → code new ≡ raised 0 1 (followed_by first (got_any o done))
+condition_is None first mid new e puts = sym (onto_done new) ∙ puts done ∙ onto_done mid ∙ e ∙ ap (raised 0 1) (sym (then_done first))
+condition_is (Some o) first mid new e puts =
     sym (onto_done new) ∙ puts done ∙ onto_then mid (got o done) ∙ (λ j. followed_by (e j) (sym (raised_got 0 1 o) j)) ∙ sym (raised_behind 0 1 first (got o done))
 
 -- ---- labels of what is written whole

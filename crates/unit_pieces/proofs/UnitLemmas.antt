@@ -1,5 +1,5 @@
 -- Units, one by one.
-use Rattle.std.proofs.Common.{◌≡◌, ℕ, zero, suc, ◌+◌, ◌<◌, ◌≤◌, ◌^◌, ◌∷◌, List, [], length, get_or, drop, Option, None, Bool, true, false, subst, refl, sym, ap, ◌∙◌, arith, add-one, drop-cons}
+use Rattle.std.proofs.Common.{◌≡◌, ℕ, zero, suc, ◌+◌, ◌<◌, ◌≤◌, ◌^◌, ◌∷◌, List, [], length, get_or, drop, Option, Some, None, Bool, true, false, subst, refl, sym, ap, ◌∙◌, arith, add-one, drop-cons}
 use Rattle.std.specs.Prelude.{if◌then◌else◌, min, nat_eq}
 use Rattle.std.proofs.lemmas.Bool.{ne_eqb}
 use Rattle.std.specs.declared.vec.Vec.{Vec}
@@ -12,7 +12,7 @@ use Rattle.wa_types.specs.View.{code}
 use Rattle.wa_types.proofs.ViewLemmas.{code_none}
 use Rattle.wa_model.specs.declared.flat.Operand.{Operand}
 use Rattle.wa_model.specs.Flat.{followed_by, set_to}
-use Rattle.guard_form.specs.Pieces.{Units, no_unit, call_unit, nest_unit, if_unit, any_unit, call_to, flat_units, numbers_in}
+use Rattle.guard_form.specs.Pieces.{Units, no_unit, call_unit, nest_unit, if_unit, any_unit, call_to, got_any, flat_units, numbers_in}
 use Rattle.guard_form.specs.Bounds.{unit_count}
 use Rattle.guard_form.specs.Guarded.{Exit, each_end, its_end, by_label, nowhere, exit_behind, exit_inside}
 use Rattle.guard_form.proofs.UnitLemmas.{Some_unit}
@@ -51,7 +51,7 @@ pub loop_is : (u : Unit) (first : Vec Instr Global) (body : Vec Unit Global) (be
 unfolding unit_in_front row_units
 loop_is u first body behind e rest = ap (λ y. unit_in_front y rest) e ∙ ap (λ b. nest_unit a_loop (code first.items) b (code behind.items) rest) (vec_is body)
 
-pub if_is : (u : Unit) (o : Operand) (fa : Vec Instr Global) (a : Vec Unit Global) (fb : Vec Instr Global) (b : Vec Unit Global) (behind : Vec Instr Global)
+pub if_is : (u : Unit) (o : Option Operand) (fa : Vec Instr Global) (a : Vec Unit Global) (fb : Vec Instr Global) (b : Vec Unit Global) (behind : Vec Instr Global)
     → u ≡ If o fa a fb b behind → (rest : Units)
     → unit_in_front u rest ≡ if_unit o (code fa.items) (units_of a.items) (code fb.items) (units_of b.items) (code behind.items) rest
 unfolding unit_in_front row_units
@@ -187,6 +187,10 @@ called : (d n : ℕ) (p : Plain) (rest : Code) → Raisable d n (plain p rest) �
 unfolding depth_of
 called d n p rest h = record { few = h.few; labels = h.labels.1; shallow = h.shallow }
 
+raisable_any : (d n : ℕ) (o : Option Operand) (c : Code) → Raisable d n (got_any o c) → Raisable d n c
+raisable_any d n None c h = h
+raisable_any d n (Some o) c h = raisable_got d n o c h
+
 pub pieces_raisable : (d : ℕ) (us : Units) → Raisable d 2 (flat_units us) → UnitsRaisable d us
 pieces_raisable d no_unit h = tt
 pieces_raisable d (call_unit slots x to behind rest) h =
@@ -199,7 +203,7 @@ pieces_raisable d (nest_unit s first body behind rest) h =
     let b = raisable_then d 2 behind (flat_units rest) q.1 in
     (a.0, pieces_raisable (suc d) body a.1, b.0, pieces_raisable d rest b.1)
 pieces_raisable d (if_unit o fa a fb b behind rest) h =
-    let q = arms d 2 (followed_by fa (flat_units a)) (followed_by fb (flat_units b)) (followed_by behind (flat_units rest)) (raisable_got d 2 o _ h) in
+    let q = arms d 2 (followed_by fa (flat_units a)) (followed_by fb (flat_units b)) (followed_by behind (flat_units rest)) (raisable_any d 2 o _ h) in
     let x = raisable_then (suc d) 2 fa (flat_units a) q.0 in
     let y = raisable_then (suc d) 2 fb (flat_units b) q.1 in
     let z = raisable_then d 2 behind (flat_units rest) q.2 in
@@ -247,7 +251,7 @@ nest_ready e w more d k piece v s first body behind is ew h =
       numbers = omega arith;
     }
 
-pub arms_ready : (e w : Exit) (more : Bool) (d k j : ℕ) (piece : Code) (v : Units) (o : Operand) (fa : Code) (a : Units) (fb : Code) (b : Units) (behind : Code)
+pub arms_ready : (e w : Exit) (more : Bool) (d k j : ℕ) (piece : Code) (v : Units) (o : Option Operand) (fa : Code) (a : Units) (fb : Code) (b : Units) (behind : Code)
     → v ≡ if_unit o fa a fb b behind no_unit
     → w ≡ exit_inside e a_block more → Ready e d k piece v → Ready w (d + 1) k fa a × (j ≡ k + numbers_in a → Ready w (d + 1) j fb b)
 arms_ready e w more d k j piece v o fa a fb b behind is ew h =

@@ -6,8 +6,8 @@ use Rattle.wa_types.specs.Syntax.{global_get, basic, a_block, Shape, Code, done,
 use Rattle.wa_types.specs.View.{in_front, onto, code}
 use Rattle.wa_types.proofs.ViewLemmas.{code_none, onto_none}
 use Rattle.wa_model.specs.declared.flat.Operand.{Operand}
-use Rattle.wa_model.specs.Flat.{followed_by, got}
-use Rattle.guard_form.specs.Pieces.{Units, no_unit, call_unit, nest_unit, if_unit, any_unit, numbers_in}
+use Rattle.wa_model.specs.Flat.{followed_by}
+use Rattle.guard_form.specs.Pieces.{Units, no_unit, call_unit, nest_unit, if_unit, any_unit, numbers_in, got_any}
 use Rattle.std.specs.Prelude.{if◌then◌else◌}
 use Rattle.guard_form.proofs.UnitLemmas.{last_none}
 use Rattle.guard_form.specs.Bounds.{unit_count}
@@ -90,11 +90,11 @@ nest_stepped g e w more d l k old mid new piece u s first body behind f x ew q i
       number = num ∙ omega arith;
     }
 
-pub if_stepped : (g : Guards) (e w : Exit) (more : Bool) (d l k : ℕ) (old mid new piece : List Instr) (u : Unit) (o : Operand) (fa : Code) (a : Units) (fb : Code) (b : Units)
+pub if_stepped : (g : Guards) (e w : Exit) (more : Bool) (d l k : ℕ) (old mid new piece : List Instr) (u : Unit) (o : Option Operand) (fa : Code) (a : Units) (fb : Code) (b : Units)
     (behind : List Instr) (p q : Sequence) (x : Instr)
     → w ≡ exit_inside e a_block more → l ≡ d + 1 → ((rest : Units) → unit_in_front u rest ≡ if_unit o fa a fb b (code behind) rest) → piece_behind u ≡ behind
     → IsArm g w l k fa a p → IsArm g w l p.number fb b q
-    → Puts old mid (λ c. plain (basic (global_get g.state)) (branch (Some I32) (choice (indices g) k a b) (raised 0 1 (followed_by (code piece) (got o done))) c))
+    → Puts old mid (λ c. plain (basic (global_get g.state)) (branch (Some I32) (choice (indices g) k a b) (raised 0 1 (followed_by (code piece) (got_any o done))) c))
     → new ≡ mid ++ x ∷ [] → ((c : Code) → in_front x c ≡ branch None (code p.code.items) (code q.code.items) c) → Stepped g e more d k old new piece u q.number
 if_stepped g e w more d l k old mid new piece u o fa a fb b behind p q x ew es is next first second puts pushed shape =
     let i = indices g in
@@ -110,7 +110,7 @@ if_stepped g e w more d l k old mid new piece u o fa a fb b behind p q x ew es i
           let wp : code p.code.items ≡ arm a fa (front i wi (suc d) k fa a) = first.written ∙ (λ j. arm a fa (front i (we j) (z j) k fa a)) in
           let wq : code q.code.items ≡ arm b fb (front i wi (suc d) (k + numbers_in a) fb b) = second.written ∙ (λ j. arm b fb (front i (we j) (z j) (pn j) fb b)) in
           ap (λ y. onto old (front i e d k (code piece) y)) (is rest)
-          ∙ (λ j. onto old (plain (basic (global_get g.state)) (branch (Some I32) (choice i k a b) (raised 0 1 (followed_by (code piece) (got o done)))
+          ∙ (λ j. onto old (plain (basic (global_get g.state)) (branch (Some I32) (choice i k a b) (raised 0 1 (followed_by (code piece) (got_any o done)))
           (branch None (sym wp j) (sym wq j) behind_code))))
           ∙ sym (puts (branch None (code p.code.items) (code q.code.items) behind_code))
           ∙ sym (put_one mid new x (branch None (code p.code.items) (code q.code.items)) pushed shape behind_code) ∙ sym (λ j. onto new (front i e d (qn j) (code (next j)) rest));

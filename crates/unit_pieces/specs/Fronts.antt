@@ -1,12 +1,12 @@
 -- What is written of units.
-use Rattle.std.specs.Prelude.{◌≡◌, ◌<◌, ◌≤◌, ◌+◌, ◌^◌, ℕ, suc, List, [], Some, Bool}
+use Rattle.std.specs.Prelude.{◌≡◌, ◌<◌, ◌≤◌, ◌+◌, ◌^◌, ℕ, suc, List, [], Option, Some, Bool}
 use Rattle.wa_types.specs.declared.instrs.Instr.{Instr}
 use Rattle.wa_types.specs.declared.values.ValType.TheVariants.{I32}
 use Rattle.wa_types.specs.Syntax.{basic, global_get, Code, done, plain, branch}
 use Rattle.wa_types.specs.View.{onto, code}
 use Rattle.wa_model.specs.declared.flat.Operand.{Operand}
-use Rattle.wa_model.specs.Flat.{followed_by, got}
-use Rattle.guard_form.specs.Pieces.{Units, no_unit, call_unit, nest_unit, if_unit, any_unit, numbers_in}
+use Rattle.wa_model.specs.Flat.{followed_by}
+use Rattle.guard_form.specs.Pieces.{Units, no_unit, call_unit, nest_unit, if_unit, any_unit, numbers_in, got_any}
 use Rattle.guard_form.specs.Bounds.{unit_count}
 use Rattle.guard_form.specs.Guarded.{GuardIndices, raised, choice, arm, Exit, front}
 use Rattle.flat_pieces.specs.Raising.{Raisable}
@@ -34,8 +34,8 @@ pub record Ready (e : Exit) (d k : ℕ) (first : Code) (us : Units) : Type 0 whe
   pub numbers : k + numbers_in us < 2 ^ 32
 
 -- the condition of an `if` with the piece in front of it, or the choice of the arm
-abbrev pub condition_code : GuardIndices → (k : ℕ) → (piece : Code) → Operand → (then_arm else_arm : Units) → Code → Code
-condition_code i k piece o a b c = plain (basic (global_get i.state)) (branch (Some I32) (choice i k a b) (raised 0 1 (followed_by piece (got o done))) c)
+abbrev pub condition_code : GuardIndices → (k : ℕ) → (piece : Code) → Option Operand → (then_arm else_arm : Units) → Code → Code
+condition_code i k piece o a b c = plain (basic (global_get i.state)) (branch (Some I32) (choice i k a b) (raised 0 1 (followed_by piece (got_any o done))) c)
 
 -- a sequence as it is written
 pub record IsFront (g : Guards) (e : Exit) (d k : ℕ) (first : Code) (us : Units) (s : Sequence) : Type 0 where

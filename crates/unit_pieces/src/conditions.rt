@@ -3,7 +3,7 @@
 ghost use Rattle.std.specs.Prelude.{◌≡◌, ◌+◌, IfOk, OnOk};
 ghost use Rattle.wa_types.specs.View.{code};
 ghost use Rattle.guard_form.specs.Guarded.{choice};
-ghost use Rattle.guard_form.specs.Pieces.{numbers_in};
+ghost use Rattle.guard_form.specs.Pieces.{got_any, numbers_in};
 ghost use Rattle.flat_pieces.specs.Putting.{Puts};
 ghost use Rattle.flat_pieces.specs.Raising.{Raisable};
 ghost use Rattle.flow_calls.specs.Emitting.{indices};
@@ -41,12 +41,25 @@ fn choose(
     Ok(out)
 }
 
+/// Puts an operand, where one is told.
+fn put_any(out: &mut Vec<Instr>, cond: Option<Operand>) -> Result<(), AllocError>
+    ensures { OnOk result (Puts out.old.items out.new.items (got_any cond)) }
+{
+    match cond {
+        None => Ok(()),
+        Some(operand) => {
+            put_operand(out, operand)?;
+            Ok(())
+        }
+    }
+}
+
 /// Puts the condition of an `if` behind the piece in front of it, or in a state that isn't 0 the choice of the arm.
 pub(crate) fn put_condition(
     guards: &Guards,
     out: &mut Vec<Instr>,
     piece: &[Instr],
-    cond: Operand,
+    cond: Option<Operand>,
     then_units: &[Unit],
     else_units: &[Unit],
     _first: u32,
@@ -58,7 +71,7 @@ pub(crate) fn put_condition(
 {
     let sought = choose(guards, then_units, else_units, _first, number)?;
     let mut inside = raised(guards.alloc, 0, 1, piece)?;
-    put_operand(&mut inside, cond)?;
+    put_any(&mut inside, cond)?;
     put_test(out, guards.state, Some(ValType::I32), sought, inside)?;
     Ok(())
 }

@@ -29,9 +29,10 @@ pub enum Unit {
         body: Vec<Unit>,
         behind: Vec<Instr>,
     },
-    /// The operand, then an `if` without a result. An arm without units is its piece alone.
+    /// The operand, where the piece in front doesn't leave it on the operand stack, then an `if` without a result. An arm without
+    /// units is its piece alone.
     If {
-        cond: Operand,
+        cond: Option<Operand>,
         then_first: Vec<Instr>,
         then_units: Vec<Unit>,
         else_first: Vec<Instr>,

@@ -9,4 +9,4 @@ pub returns : goal.returns
 returns c = λ rest.
     c.in_ok-put_test.ensures rest
     ∙ (λ j. onto c.args.out.now.items (plain (basic (global_get c.args.guards.now.state)) (branch (Some I32) (c.in_ok-sought.ensures j)
-    (condition_is c.args.cond (code c.args.piece.now) c.in_ok-inside.inside.items c.put_operand.new.out.items c.in_ok-inside.ensures c.in_ok-put_operand.ensures j) rest)))
+    (condition_is c.args.cond (code c.args.piece.now) c.in_ok-inside.inside.items c.put_any.new.out.items c.in_ok-inside.ensures c.in_ok-put_any.ensures j) rest)))

@@ -4,9 +4,9 @@ use Rattle.wa_types.specs.declared.values.ValType.TheVariants.{I32}
 use Rattle.wa_types.specs.Syntax.{a_block, a_loop, basic, branch, done, global_get, plain}
 use Rattle.wa_types.specs.View.{code, onto}
 use Rattle.wa_types.proofs.ViewLemmas.{in_block, in_loop, in_if}
-use Rattle.wa_model.specs.Flat.{followed_by, got}
+use Rattle.wa_model.specs.Flat.{followed_by}
 use Rattle.guard_form.specs.Bounds.{unit_count}
-use Rattle.guard_form.specs.Pieces.{no_unit, call_unit, nest_unit, if_unit, numbers_in}
+use Rattle.guard_form.specs.Pieces.{no_unit, call_unit, nest_unit, if_unit, numbers_in, got_any}
 use Rattle.guard_form.specs.Guarded.{arm, choice, front, raised}
 use Rattle.guard_form.proofs.UnitLemmas.{arm_is}
 use Rattle.flat_pieces.specs.Raising.{Raisable}
@@ -147,7 +147,7 @@ put_unit-returns-in_ok-push-in-If t c =
     (λ rest. c.in_ok-put_condition-in-If.ensures rest
     ∙ (λ j. onto c.args.out.now.items (plain (basic (global_get c.args.guards.now.state)) (branch (Some I32) (choice (indices c.args.guards.now) c.args.number
     (units_of ((c.deref-in-If-5.ensures.value ∙ sym c.deref-in-If-2.ensures.value) j)) (units_of ((c.deref-in-If-6.ensures.value ∙ sym c.deref-in-If-4.ensures.value) j)))
-    (raised 0 1 (followed_by (code c.args.piece.now) (got c.in-If.cond done))) rest))))
+    (raised 0 1 (followed_by (code c.args.piece.now) (got_any c.in-If.cond done))) rest))))
     c.in_ok-push-in-If.ensures.items (in_if None _ _)
 
 pub write_arm-returns-then-is_empty : goal.write_arm-returns-then-is_empty
