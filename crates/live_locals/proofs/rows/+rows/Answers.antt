@@ -93,9 +93,9 @@ put_stmt_rows-returns-in_ok-first-in-Block-clause-rows t c = block_rows c.args.n
     c.in_ok-copied-in-Block.ensures c.in_ok-push-in-Block.ensures.items c.in_ok-first-in-Block.ensures.rows
 
 pub put_stmt_rows-returns-in_ok-first-in-Loop-clause-rows : goal.put_stmt_rows-returns-in_ok-first-in-Loop-clause-rows
-put_stmt_rows-returns-in_ok-first-in-Loop-clause-rows t c = loop_rows c.args.numbers.now c.args.stmt.now c.args.tos.now.items (stmts c.deref-in-Loop.result.now) c.in_ok-copied-in-Loop.field-0 c.push-in-Loop.new.self.items
+put_stmt_rows-returns-in_ok-first-in-Loop-clause-rows t c = loop_rows c.args.numbers.now c.args.stmt.now c.args.tos.now.items (stmts c.deref-in-Loop.result.now) c.in_ok-head-in-Loop.head c.push-in-Loop.new.self.items
     c.args.set.now c.deref_mut.result.now c.pass_stmt.new.set c.args.last c.in_ok-first-in-Loop.first c.args.rows.now.items c.put_body_rows-in-Loop.new.rows.items (loop_is c.args.stmt.now c.in-Loop.body c.in-Loop.is no_more ∙ ap (λ xs. nests a_loop (stmts xs) no_more) (sym c.deref-in-Loop.ensures.value))
-    c.in_ok-copied-in-Loop.ensures (c.in_ok-push-in-Loop.ensures.items ∙ ap (λ ts. ts ++ c.in_ok-copied-in-Loop.field-0 ∷ []) c.in_ok-pass_stmt-in-Loop.ensures.labels)
+    c.in_ok-head-in-Loop.ensures (c.in_ok-push-in-Loop.ensures.items ∙ ap (λ ts. ts ++ c.in_ok-head-in-Loop.head ∷ []) c.in_ok-pass_stmt-in-Loop.ensures.labels)
     (c.deref_mut.ensures.value ∙ c.in_ok-inner-in-Loop.ensures) c.in_ok-pass_stmt-in-Loop.ensures.tells c.in_ok-first-in-Loop.ensures.rows
 
 pub put_stmt_rows-returns-in_ok-first-in-If-clause-passed : goal.put_stmt_rows-returns-in_ok-first-in-If-clause-passed
