@@ -1,5 +1,4 @@
 pub use Rattle.range_laws.proofs.BlockingRuns
-pub use Rattle.slim_modules.proofs.SlimModules
 pub use Rattle.slim_modules.proofs.UnitsPassed
 pub mod Behaving
 pub mod CallPoints

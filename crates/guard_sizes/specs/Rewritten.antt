@@ -1,16 +1,15 @@
--- Functions flattened, guarded and given frames: how large and how deep they are, what they cost at a pause, and how often they
--- read the state.
-use Rattle.std.specs.Prelude.{◌≡◌, ◌≢◌, ◌≤◌, ℕ, ◌+◌, ◌*◌, List, length, Some, slice_get}
+-- Functions flattened, guarded and given frames: how large and how deep they are, and what they cost at a pause.
+use Rattle.std.specs.Prelude.{◌≡◌, ◌≤◌, ℕ, ◌+◌, ◌*◌, List, length, Some, slice_get}
 use Rattle.wa_types.specs.Bounds.{Weight}
 use Rattle.wa_types.specs.Counts.{depth_of}
 use Rattle.wa_types.specs.Frames.{SlotPairs}
-use Rattle.wa_types.specs.Modules.{around, locals_of, defined_at}
+use Rattle.wa_types.specs.Modules.{locals_of}
 use Rattle.wa_types.specs.Pruned.{pruned}
 use Rattle.wa_types.specs.Syntax.{Func, Module}
 use Rattle.wa_types.specs.Validity.{Valid}
 use Rattle.wa_model.specs.Rewrites.{instructions_and_labels}
 use Rattle.flat_laws.specs.Flatten.{flattened}
-use Rattle.guard_form.specs.Bounds.{passing, reads, reads_bound}
+use Rattle.guard_form.specs.Bounds.{passing}
 use Rattle.guard_form.specs.Guarded.{guarded_code}
 use Rattle.guard_form.specs.Pieces.{first_piece, units}
 use Rattle.frame_laws.specs.Function.{WrittenFunc, by_layout, function_code, unwinding, rewinding}
@@ -40,9 +39,3 @@ pub record IsSmall (m : Module) (x : ℕ) (f : Func) (st : ℕ) (places : List �
 abbrev pub RewrittenIsSmall : Type 0
 RewrittenIsSmall =
     (m : Module) (i x : ℕ) (f : Func) (st : ℕ) (places : List ℕ) (l : Layout) → Valid m → slice_get m.funcs i ≡ Some f → KeepsFew m f l → IsSmall m x f st places l
-
--- The state, which stands behind the module's own globals, is read at most so often.
-abbrev pub RewrittenReadsFew : Type 0
-RewrittenReadsFew =
-    (m : Module) (x : ℕ) (f : Func) (st : ℕ) (places : List ℕ) (l : Layout) → Valid m → defined_at m x ≡ Some f → length (around m f).globals ≤ st → l.address ≢ st
-    → reads st (function_code st (rewritten m x f st places l)) ≤ reads_bound places (flattened m x f).body

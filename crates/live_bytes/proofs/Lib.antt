@@ -1,5 +1,6 @@
 pub use Rattle.live_form.proofs.CodeAlone
 pub use Rattle.live_form.proofs.PolicyCases
+pub use Rattle.live_form.proofs.PolicyReads
 pub use Rattle.prepared_modules.proofs.EmittedBy
 pub use Rattle.prepared_modules.proofs.FitsBy
 pub use Rattle.prepared_modules.proofs.Grown

@@ -1,4 +1,3 @@
-pub use Rattle.flat_guards.proofs.SlimModules
 pub use Rattle.live_stacks.proofs.Whole
 pub use Rattle.range_laws.proofs.BlockingRuns
 pub mod ByCallFramed

@@ -15,6 +15,7 @@ use Rattle.wa_types.specs.Syntax.{Func, Module}
 use Rattle.wa_types.specs.Validity.{Valid}
 use Rattle.wa_types.specs.View.{func_of, module_of}
 use Rattle.wa_types.specs.declared.syntax.Module.{Module as ModuleValue}
+use Rattle.wa_model.specs.Rewrites.{Rewrites}
 use Rattle.module_rewrite.specs.FlattenWhole.{NonePasses}
 use Rattle.live_bytes.proofs.BytesByPolicy.{short_as}
 use Rattle.live_bytes.specs.EmittedAs.{AreEmitted, EmittedAs, IsEmittedWhere, IsWrittenUnder}
@@ -130,7 +131,7 @@ module _ (m : Module) (s : Settings) (which : List Bool) (gs : List Func) (are :
       })
 
 -- a module that isn't written
-pub text_fault : (m : Module) (s : Settings) (which : List Bool) (written : Module) (fault : EncodeFault) → CanBeWritten m s which → EmittedAs m s which written → IsUnwritten written fault
-    → EmitsModule m s (Err (of_encode fault))
-text_fault m s which written Memory can as_ h = tt
-text_fault m s which written (TooLong len) can as_ h = record { which = which; can = can; written = written; emitted = as_; is = h.0; over = h.1 }
+pub text_fault : (m : Module) (s : Settings) (which : List Bool) (written : Module) (fault : EncodeFault) → CanBeWritten m s which → EmittedAs m s which written → Rewrites m s written
+    → IsUnwritten written fault → EmitsModule m s (Err (of_encode fault))
+text_fault m s which written Memory can as_ same h = tt
+text_fault m s which written (TooLong len) can as_ same h = record { which = which; can = can; written = written; emitted = as_; rewrites = same; is = h.0; over = h.1 }

@@ -4,8 +4,10 @@ use Rattle.wa_types.specs.Encoding.{Enc}
 use Rattle.wa_types.specs.Modules.{func_imports}
 use Rattle.wa_types.specs.Pausing.{Settings, TellsMayPause}
 use Rattle.wa_types.specs.Syntax.{Module}
+use Rattle.wa_model.specs.Rewrites.{Rewrites}
 use Rattle.module_rewrite.specs.FlattenWhole.{NonePasses}
 use Rattle.live_bytes.specs.EmittedAs.{EmittedAs}
+use Rattle.live_bytes.specs.PolicyLaws.{EachReadsFew}
 use Rattle.module_rewrite.specs.Whole.{FirstTooMany}
 use Rattle.module_bytes.specs.declared.fault.EmitFault.{EmitFault}
 use Rattle.module_bytes.specs.declared.fault.EmitFault.TheVariants.{Memory, Locals, TooLong}
@@ -16,20 +18,24 @@ pub record CanBeWritten (m : Module) (s : Settings) (which : List Bool) : Type 0
   pub tells : TellsMayPause m s which
   pub few : NonePasses m (drop (func_imports m) which) m.funcs
 
--- The text is the bytes of the module that is emitted by the policy of the settings, which aren't too many.
+-- The text is the bytes of a module that is emitted by the policy of the settings, which aren't too many. It is the original, rewritten: it
+-- behaves like it under every plan of pauses; and its functions read the global of the state few times.
 pub record IsWritten (m : Module) (s : Settings) (r : Emitted) : Type 0 where
   pub can : CanBeWritten m s r.instrumented.items
   pub written : Module
   pub emitted : EmittedAs m s r.instrumented.items written
+  pub rewrites : Rewrites m s written
+  pub reads : EachReadsFew m s r.instrumented.items written
   pub text : r.text.items ≡ Enc written
   pub short : length (Enc written) ≤ 67108864
 
--- It has so many bytes, too many.
+-- One that is the original, rewritten, has so many bytes, too many.
 pub record IsTooLong (m : Module) (s : Settings) (len : ℕ) : Type 0 where
   pub which : List Bool
   pub can : CanBeWritten m s which
   pub written : Module
   pub emitted : EmittedAs m s which written
+  pub rewrites : Rewrites m s written
   pub is : len ≡ length (Enc written)
   pub over : 67108864 < len
 

@@ -18,9 +18,9 @@ use Rattle.slim_units.specs.Laws.{ToHeld}
 use Rattle.unit_pieces.specs.declared.pieces.Pieces.{Pieces}
 use Rattle.slim_pieces.specs.Functions.{is_between, AreSlim, SlimTold}
 use Rattle.slim_pieces.specs.Inside.{first_code, units_in}
-use Rattle.slim_modules.specs.SlimModule.{flat_terms, is_slot, plain_pieces}
+use Rattle.slim_modules.specs.SlimModule.{SlimPieces, flat_terms, is_slot, plain_pieces}
 use Rattle.slim_modules.proofs.SlimModules.{plain_slim}
-use Rattle.slim_functions.specs.Told.{GuardedTold, PiecesTold}
+use Rattle.slim_functions.specs.Told.{GuardedTold}
 use Rattle.slim_functions.proofs.FixedLemmas.{all_fixed, stacks_count}
 
 slot_between : (first count x : ℕ) → (not (nat_lt x first) && nat_lt x (first + count)) ≡ is_between first count x
@@ -51,6 +51,13 @@ result_held m f t is (Some ty) =
     held : (b : Bool) → b ≡ false → (b && not false) ≡ false
     held true e = cc
     held false e = refl
+
+-- Where this is the flat function of a function, and its slots are those, they are its slim pieces.
+abbrev pub PiecesTold : (places : List ℕ) → (low count : ℕ) → FlatFunc → Option Pieces → Type 0
+PiecesTold ps low count g None = Prim.Unit {0}
+PiecesTold ps low count g (Some p) =
+    (m : Module) (x : ℕ) (f : Func) → g ≡ flattened m x f → low ≡ length (locals_of m f) → count ≡ length (SlotPairs m f)
+    → SlimPieces m ps x f (record { exits = true; first = first_code p; units = units_in p })
 
 pub pieces_told : (ps : List ℕ) (low count : ℕ) (g : FlatFunc) (o : Option Pieces) → FlatFits g → SlimTold ps low count g o → PiecesTold ps low count g o
 pieces_told ps low count g None fits h = tt

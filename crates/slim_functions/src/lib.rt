@@ -4,7 +4,5 @@
 #![tactic(auto)]
 
 mod guarded;
-mod pieces;
 
 pub use guarded::guard_slim;
-pub use pieces::slim_function;

@@ -34,7 +34,6 @@ use Rattle.module_bytes.specs.ModuleWhole.{Asyncifies}
 use Rattle.module_bytes.specs.declared.fault.EmitFault.{EmitFault}
 use Rattle.module_bytes.specs.declared.fault.EmitFault.TheVariants.{Memory as emit_memory, Locals as emit_locals, TooLong as emit_too_long}
 use Rattle.module_bytes.specs.Whole.{EmitsModule}
-use Rattle.source_modules.proofs.FreeNames.{runs_rewritten}
 use Rattle.source_modules.specs.declared.source.SourceFault.{SourceFault}
 use Rattle.source_modules.specs.Sources.{IsValidSource, told_counts, rewritten_counts}
 use Rattle.source_modules.specs.Refusals.{IsFaultOf, IsOfRead, IsOfEmit, IsOfRewrite, IsUnreserved}
@@ -176,5 +175,5 @@ emit_refused s bytes m (emit_too_long len) r src h e =
       h.emitted,
       h.is,
       h.over,
-      runs_rewritten m s h.which h.written h.emitted src.valid src.unreserved.free (strict bytes m src) (few_written m h.which few) h.can.tells,
+      h.rewrites,
     )

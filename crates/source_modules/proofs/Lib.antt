@@ -1,4 +1,3 @@
 pub use Rattle.module_bytes.proofs.CodeAlone
 pub mod Accepted
-pub mod FreeNames
 pub mod Fronts

@@ -7,8 +7,11 @@ use Rattle.wa_types.specs.Runtime.{func_space, global_space, with_runtime}
 use Rattle.wa_types.specs.Validity.{Valid}
 use Rattle.wa_types.specs.View.{func_of, module_of}
 use Rattle.call_graph.specs.Settings.{settings_of}
-use Rattle.live_bytes.proofs.PolicyCases.{functions_law}
-use Rattle.module_rewrite.proofs.WholeLemmas.{globals_small, space_small}
+use Rattle.live_bytes.specs.PolicyLaws.{CanBeEmitted}
+use Rattle.live_bytes.proofs.PolicyCases.{functions_law, rewrites_as}
+use Rattle.live_bytes.proofs.PolicyReads.{emitted_reads}
+use Rattle.module_rewrite.proofs.FreeNames.{unreserved_is_free}
+use Rattle.module_rewrite.proofs.WholeLemmas.{few_written, globals_small, space_small}
 use Rattle.module_bytes.specs.Emitting.{AllEmitted}
 use Rattle.module_bytes.specs.Whole.{EmitsModule}
 use Rattle.module_bytes.proofs.Parts.{parts_around, parts_locals, parts_short, text_fault}
@@ -88,9 +91,12 @@ returns-in_err-text c =
     let a = parts_around m s which e.funcs e.emitted valid c.requires.sizes c.in_ok-which.ensures e.few c.requires.few c.requires.short
     c.in_ok-with.with with c.len-own.result own c.deref-3.result.now c.deref-3.ensures.value
     c.in_ok-entries.entries.bytes.items c.as_slice.result.now e.entries_are (c.as_slice.ensures ∙ c.in_ok-put_funcs.ensures) in
+    let can : CanBeEmitted m s which = record { valid = valid; sizes = c.requires.sizes; few = few_written m which e.few; tells = c.in_ok-which.ensures } in
+    let as_ = functions_law m s which e.funcs e.emitted in
+    let same = rewrites_as m s which (with_runtime (record m { funcs = e.funcs })) can (unreserved_is_free m c.requires.free) as_ in
     let r = err_from_is_err_and c.from_residual-in_err-text.result c.from_residual-in_err-text.ensures.1 in
     subst (EmitsModule m s) (sym r.1) (subst (λ z. EmitsModule m s (Err z)) (sym r.2)
-    (text_fault m s which (with_runtime (record m { funcs = e.funcs })) c.in_err-text.field-0.0 (record { tells = c.in_ok-which.ensures; few = e.few }) (functions_law m s which e.funcs e.emitted)
+    (text_fault m s which (with_runtime (record m { funcs = e.funcs })) c.in_err-text.field-0.0 (record { tells = c.in_ok-which.ensures; few = e.few }) as_ same
     (c.in_err-text.ensures.fault (with_runtime (record m { funcs = e.funcs })) a)))
 
 pub returns : goal.returns
@@ -107,10 +113,15 @@ returns c =
     let a = parts_around m s which e.funcs e.emitted valid c.requires.sizes c.in_ok-which.ensures e.few c.requires.few c.requires.short
     c.in_ok-with.with with c.len-own.result own c.deref-3.result.now c.deref-3.ensures.value
     c.in_ok-entries.entries.bytes.items c.as_slice.result.now e.entries_are (c.as_slice.ensures ∙ c.in_ok-put_funcs.ensures) in
+    let can : CanBeEmitted m s which = record { valid = valid; sizes = c.requires.sizes; few = few_written m which e.few; tells = c.in_ok-which.ensures } in
+    let as_ = functions_law m s which e.funcs e.emitted in
+    let same = rewrites_as m s which (with_runtime (record m { funcs = e.funcs })) can (unreserved_is_free m c.requires.free) as_ in
     record {
       can = record { tells = c.in_ok-which.ensures; few = e.few };
       written = with_runtime (record m { funcs = e.funcs });
-      emitted = functions_law m s which e.funcs e.emitted;
+      emitted = as_;
+      rewrites = same;
+      reads = emitted_reads m s which (with_runtime (record m { funcs = e.funcs })) can as_;
       text = c.in_ok-text.ensures.ok (with_runtime (record m { funcs = e.funcs })) a;
       short = c.in_ok-text.ensures.short (with_runtime (record m { funcs = e.funcs })) a;
     }

@@ -7,9 +7,9 @@ use Rattle.wa_types.specs.Modules.{func_imports}
 use Rattle.wa_types.specs.Syntax.{Module}
 use Rattle.wa_types.specs.View.{module_of}
 use Rattle.call_graph.specs.Settings.{settings_of}
+use Rattle.norm_laws.proofs.Norms.{norm_rewritten}
 use Rattle.source_modules.specs.Sources.{rewritten_counts}
-use Rattle.source_modules.proofs.Accepted.{strict, few_bytes, few_functions, few_written, none_passes, emit_refused, source_prepared}
-use Rattle.source_modules.proofs.FreeNames.{sources_rewritten}
+use Rattle.source_modules.proofs.Accepted.{strict, few_bytes, few_functions, none_passes, emit_refused, source_prepared}
 use Rattle.source_modules.proofs.source.rewrite.Goals as goal
 
 pub emit_module-requires-clause-sizes : goal.emit_module-requires-clause-sizes
@@ -46,6 +46,5 @@ returns-clause-done c =
       count,
       e.text,
       source_prepared c.args.bytes.now m c.in_ok-valid.ensures.source s which few e.can.tells e.written e.emitted (λ i. omega (arith, c.type_inv.bytes i)) e.short,
-      sources_rewritten m s which e.written e.emitted c.in_ok-valid.ensures.source.valid c.in_ok-valid.ensures.source.unreserved.free
-          (strict c.args.bytes.now m c.in_ok-valid.ensures.source) (few_written m which few) e.can.tells,
+      norm_rewritten m s e.written e.rewrites,
     )
