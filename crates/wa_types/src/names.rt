@@ -1,3 +1,5 @@
+//! Names (standard, section 2.2.4).
+
 ghost use Rattle.std.specs.Prelude.{◌≡◌, IfOk};
 
 use std::alloc::{AllocError, Global};
