@@ -52,7 +52,7 @@ takes (store op align offset) = 2
 takes memory_size = 0
 takes memory_grow = 1
 
--- how many results it gives
+-- how many results it gives (4.4.1 to 4.4.4)
 abbrev pub gives : Basic → ℕ
 gives nop = 0
 gives drop = 0
@@ -77,7 +77,7 @@ abbrev pub chosen : ℕ → Value → Value → Value
 chosen zero lower upper = upper
 chosen (suc n) lower upper = lower
 
--- the number of bytes of an access, and of bits of a type
+-- the number of bytes of an access, and of bits of a type (4.4.4.1, 2.3.1)
 abbrev pub width_of : AccessRow → ℕ
 width_of row = 2 ^ row.natural
 
@@ -89,6 +89,7 @@ bits_of I64 = 64
 abbrev pub extended : AccessRow → ℕ → Value
 extended row n = value_of row.ty (if row.signed then extend_s (8 * width_of row) (bits_of row.ty) n else n)
 
+-- a load of the number that its bytes spell, where they are all there (4.4.4.1)
 abbrev pub loaded : Store → AccessRow → Option ℕ → Did
 loaded s row None = fails OutOfBounds
 loaded s row (Some n) = works s (extended row n ∷ [])
@@ -98,6 +99,7 @@ abbrev pub load_at : Store → ℕ → Option AccessRow → Did
 load_at s place None = lacks
 load_at s place (Some row) = loaded s row (number_at s.memory place (width_of row))
 
+-- a store, where its bytes are all there (4.4.4.2)
 abbrev pub stored : Store → Option (List ℕ) → Did
 stored s None = fails OutOfBounds
 stored s (Some memory) = works (with_memory s memory) []

@@ -4,7 +4,7 @@ use Rattle.std.specs.Int.{Width, cast_unsigned}
 use Rattle.wa_types.specs.declared.leb.LebFault.{LebFault}
 use Rattle.wa_types.specs.declared.leb.LebFault.TheVariants.{Short, Long, Bits}
 
--- The bytes spell n, an unsigned number of so many bits. A byte below 128 is the last. One from 128 on has
+-- The bytes spell n, an unsigned number of so many bits (5.2.2). A byte below 128 is the last. One from 128 on has
 -- seven low bits, and the bytes after it spell the rest, of seven bits fewer. Padding by zeros is allowed.
 abbrev pub IsUnsigned : ℕ → List ℕ → ℕ → Type 0
 IsUnsigned bits [] n = ⊥
@@ -12,14 +12,14 @@ IsUnsigned bits (b ∷ bs) n =
     ((b < 128) × (b < 2 ^ bits) × (bs ≡ []) × (n ≡ b))
     ⊎ ((128 ≤ b) × (b < 256) × (7 < bits) × (high : ℕ) × (n + 128 ≡ b + 128 * high) × IsUnsigned (bits - 7) bs high)
 
--- The number of a signed spelling's last byte, as so many bits of two's complement; the byte's unused bits
+-- The number of a signed spelling's last byte (5.2.2), as so many bits of two's complement; the byte's unused bits
 -- have to repeat the sign.
 abbrev pub last_signed : ℕ → ℕ → Result ℕ LebFault
 last_signed bits b =
     if nat_lt b 64 then (if nat_lt b (2 ^ (bits - 1)) then Ok b else Err Bits)
     else (if nat_lt (b + 2 ^ (bits - 1)) 128 then Err Bits else Ok (b + 2 ^ bits - 128))
 
--- The bytes spell n, a signed number as so many bits of two's complement.
+-- The bytes spell n, a signed number as so many bits of two's complement (5.2.2).
 abbrev pub IsSigned : ℕ → List ℕ → ℕ → Type 0
 IsSigned bits [] n = ⊥
 IsSigned bits (b ∷ bs) n =

@@ -9,7 +9,7 @@ use Rattle.wa_types.specs.Reading.{types_in, imports_in}
 abbrev pub place_if : Bool → ℕ → List ℕ
 place_if b place = if b then place ∷ [] else []
 
--- the offset of a float type
+-- the offset of a float type (5.3.1)
 abbrev pub float_type : Placed → List ℕ
 float_type t = place_if (is_float_type t.byte) t.place
 

@@ -3,7 +3,7 @@
 use Rattle.std.specs.Prelude.{ℕ, length, Option, Some, None, Bool, nat_le, ◌==◌, ◌&&◌, ◌||◌, if◌then◌else◌}
 use Rattle.wa_types.specs.Binary.{Operands, nothing, zero_byte, index, index_and_zero, access, labels, constant, float}
 
--- What follows an opcode: nothing, a zero byte, an index, an index and a zero byte, an alignment exponent and an
+-- What follows an opcode (5.4): nothing, a zero byte, an index, an index and a zero byte, an alignment exponent and an
 -- offset, labels and a last one, a signed number of so many bits, or the bytes of a float.
 pub data Follows : Type 0 where
   no_operand a_zero an_index an_index_and_zero an_access some_labels : Follows
@@ -34,7 +34,7 @@ follows op =
     else (if within 0x45 0xBF op then Some no_operand
     else None))))))))))))))
 
--- what these operands are
+-- what these operands are (5.4)
 abbrev pub shape : Operands → Follows
 shape nothing = no_operand
 shape zero_byte = a_zero
