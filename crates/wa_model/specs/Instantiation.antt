@@ -36,9 +36,11 @@ pub record Piece (X : Type 0) : Type 0 where
   pub at : ℕ
   pub items : List X
 
+-- what an element segment writes: each of its entries is initialised
 abbrev pub elem_piece : List Value → Elem → Piece (Option ℕ)
 elem_piece globals e = record { at = place_at globals e.offset; items = map (λ x. Some x) e.funcs }
 
+-- what a data segment writes
 abbrev pub byte_piece : List Value → Segment → Piece ℕ
 byte_piece globals s = record { at = place_at globals s.offset; items = s.bytes }
 
@@ -47,6 +49,7 @@ abbrev pub first_out : {X : Type 0} → (size i : ℕ) → List (Piece X) → Op
 first_out size i [] = None
 first_out size i (p ∷ ps) = if nat_le (p.at + length p.items) size then first_out size (suc i) ps else Some i
 
+-- with a piece written over what stands at its place
 abbrev pub put_piece : {X : Type 0} → List X → Piece X → List X
 put_piece xs p = take p.at xs ++ p.items ++ drop (p.at + length p.items) xs
 
@@ -60,15 +63,17 @@ pub data Opening : Type 0 where
   fails_as : (how : End) → Opening
   opens : (store : Store) → Opening
 
--- all data segments are tested, behind all element segments, before any is written (4.5.4)
+-- the end by the first data segment that is out, else a store with all segments written (4.5.4)
 abbrev pub bytes_checked : (globals : List Value) → (memory : List ℕ) → (table : List (Option ℕ)) → List (Piece (Option ℕ)) → List (Piece ℕ) → Option ℕ → Opening
 bytes_checked globals memory table elems bytes (Some i) = fails_as (BytesOut i)
 bytes_checked globals memory table elems bytes None = opens (record { globals = globals; memory = put_pieces memory bytes; table = put_pieces table elems })
 
+-- the end by the first element segment that is out, else by the data segments
 abbrev pub elems_checked : (globals : List Value) → (memory : List ℕ) → (table : List (Option ℕ)) → List (Piece (Option ℕ)) → List (Piece ℕ) → Option ℕ → Opening
 elems_checked globals memory table elems bytes (Some i) = fails_as (ElementsOut i)
 elems_checked globals memory table elems bytes None = bytes_checked globals memory table elems bytes (first_out (length memory) 0 bytes)
 
+-- with all segments written, or the end by the first that is out
 abbrev pub filled : (globals : List Value) → (memory : List ℕ) → (table : List (Option ℕ)) → List (Piece (Option ℕ)) → List (Piece ℕ) → Opening
 filled globals memory table elems bytes = elems_checked globals memory table elems bytes (first_out (length table) 0 elems)
 

@@ -121,6 +121,7 @@ through m s fn under ls own ops rest labels sort (Some (Some x)) =
     then invoke m s fn under ls own ops rest labels (param_count (type_at m sort)) x (defined_at m x)
     else traps (param_count (type_at m sort)) TypeMismatch s
 
+-- the maximum of the first of some limits, where it is told
 abbrev pub first_max : List Limits → Option ℕ
 first_max [] = None
 first_max (l ∷ ls) = l.max

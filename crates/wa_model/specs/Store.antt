@@ -77,10 +77,11 @@ abbrev pub chosen : ℕ → Value → Value → Value
 chosen zero lower upper = upper
 chosen (suc n) lower upper = lower
 
--- the number of bytes of an access, and of bits of a type (4.4.4.1, 2.3.1)
+-- the number of bytes of an access (4.4.4.1)
 abbrev pub width_of : AccessRow → ℕ
 width_of row = 2 ^ row.natural
 
+-- the number of bits of a type (2.3.1)
 abbrev pub bits_of : ValType → ℕ
 bits_of I32 = 32
 bits_of I64 = 64
@@ -137,6 +138,7 @@ pub record Access : Type 0 where
   pub at : ℕ
   pub width : ℕ
 
+-- the access of a row at a place, where the row is there
 abbrev pub access_of : Bool → ℕ → Option AccessRow → Option Access
 access_of stores at None = None
 access_of stores at (Some row) = Some (record { stores = stores; at = at; width = width_of row })

@@ -56,6 +56,7 @@ with_number bytes at width n = with_piece bytes at (bytes_of width n)
 
 -- ---- growth (4.4.4.4 memory.grow), within the type's greatest number of pages and 1,024
 
+-- the most pages that a memory may have, by what its type tells
 abbrev pub page_bound : Option ℕ → ℕ
 page_bound None = 1024
 page_bound (Some most) = min most 1024

@@ -10,19 +10,22 @@ use Rattle.wa_types.specs.declared.syntax.ImportKind.TheVariants.{Func as a_func
 use Rattle.wa_types.specs.Syntax.{FuncType, Func, GlobalDef, Module}
 use Rattle.wa_types.specs.Typing.{GlobalType, Around}
 
--- what an import of each kind declares: the index of a type, limits, a global type (2.5.11)
+-- What an import of each kind declares (2.5.11): the index of the type of a function,
 abbrev pub imported_func : ImportKind → Option ℕ
 imported_func (a_func_import sort) = Some sort
 imported_func _ = None
 
+-- the limits of a table,
 abbrev pub imported_table : ImportKind → Option Limits
 imported_table (a_table_import l) = Some l
 imported_table _ = None
 
+-- the limits of a memory,
 abbrev pub imported_memory : ImportKind → Option Limits
 imported_memory (a_memory_import l) = Some l
 imported_memory _ = None
 
+-- and the type of a global.
 abbrev pub imported_global : ImportKind → Option GlobalType
 imported_global (a_global_import t mutable) = Some (record { ty = t; mutable = mutable })
 imported_global _ = None
@@ -55,9 +58,11 @@ global_type g = record { ty = g.ty; mutable = g.mutable }
 abbrev pub all_globals : Module → List GlobalType
 all_globals m = imported imported_global m ++ map global_type m.globals
 
+-- the type [] -> []
 abbrev pub empty_type : FuncType
 empty_type = record { params = []; results = [] }
 
+-- a type that is told, else that one
 abbrev pub or_empty : Option FuncType → FuncType
 or_empty None = empty_type
 or_empty (Some t) = t

@@ -67,9 +67,10 @@ is_float_op op =
     within 0x2A 0x2B op || within 0x38 0x39 op || within 0x43 0x44 op || within 0x5B 0x66 op || within 0x8B 0xA6 op
     || within 0xA8 0xAB op || within 0xAE 0xBF op
 
--- the opcode of a load of an integer, and of a store (5.4.4)
+-- the opcode of a load of an integer (5.4.4)
 abbrev pub is_load_op : ℕ → Bool
 is_load_op op = within 0x28 0x29 op || within 0x2C 0x35 op
 
+-- the opcode of a store of an integer (5.4.4)
 abbrev pub is_store_op : ℕ → Bool
 is_store_op op = within 0x36 0x37 op || within 0x3A 0x3E op

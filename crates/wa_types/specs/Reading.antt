@@ -156,39 +156,47 @@ pub record IsSegment (raw : RawSegment) (s : Segment) : Type 0 where
   pub offset : IsExpression raw.offset s.offset
   pub bytes : s.bytes ≡ raw.bytes
 
--- what a section holds, by its kind (5.5.4, 5.5.5 and 5.5.7 to 5.5.14)
+-- the types of a section, where it is of that kind (5.5.4)
 abbrev pub types_in : Section → List RawType
 types_in (types ts) = ts
 types_in _ = []
 
+-- the imports of a section (5.5.5)
 abbrev pub imports_in : Section → List RawImport
 imports_in (imports is) = is
 imports_in _ = []
 
+-- the tables (5.5.7)
 abbrev pub tables_in : Section → List Limits
 tables_in (tables ts) = ts
 tables_in _ = []
 
+-- the memories (5.5.8)
 abbrev pub memories_in : Section → List Limits
 memories_in (memories ms) = ms
 memories_in _ = []
 
+-- the globals (5.5.9)
 abbrev pub globals_in : Section → List RawGlobal
 globals_in (globals gs) = gs
 globals_in _ = []
 
+-- the exports (5.5.10)
 abbrev pub exports_in : Section → List Export
 exports_in (exports es) = es
 exports_in _ = []
 
+-- the start function (5.5.11)
 abbrev pub starts_in : Section → List ℕ
 starts_in (start x) = x ∷ []
 starts_in _ = []
 
+-- the element segments (5.5.12)
 abbrev pub elements_in : Section → List RawElem
 elements_in (elements es) = es
 elements_in _ = []
 
+-- the data segments (5.5.14)
 abbrev pub segments_in : Section → List RawSegment
 segments_in (segments ss) = ss
 segments_in _ = []

@@ -26,19 +26,22 @@ kind_sorts _ = []
 abbrev pub all_sorts : Module → List ℕ
 all_sorts m = flat_map (λ (i : Import). kind_sorts i.kind) m.imports ++ map (λ (f : Func). f.sort) m.funcs
 
--- the kinds of imports (2.5.11)
+-- an import of a function (2.5.11)
 abbrev pub is_func : ImportKind → Bool
 is_func (a_func_import sort) = true
 is_func _ = false
 
+-- an import of a table (2.5.11)
 abbrev pub is_table : ImportKind → Bool
 is_table (a_table_import l) = true
 is_table _ = false
 
+-- an import of a memory (2.5.11)
 abbrev pub is_memory : ImportKind → Bool
 is_memory (a_memory_import l) = true
 is_memory _ = false
 
+-- an import of a global (2.5.11)
 abbrev pub is_global : ImportKind → Bool
 is_global (a_global_import t mutable) = true
 is_global _ = false
@@ -88,6 +91,7 @@ abbrev pub plain_lists : (lists : ℕ) → Plain → Type 0
 plain_lists lists (br_table targets last) = length targets < lists
 plain_lists lists _ = Unit {0}
 
+-- the same of all code
 abbrev pub code_lists : (lists : ℕ) → Code → Type 0
 code_lists lists done = Unit {0}
 code_lists lists (plain p rest) = plain_lists lists p × code_lists lists rest
@@ -105,14 +109,17 @@ pub record FuncSizes (lists items : ℕ) (m : Module) (f : Func) : Type 0 where
   pub labels : code_lists lists f.body
   pub total : code_items f.body + 1 + code_params m f.body + params_of_type m.types f.sort + sum_by (λ (r : Run). r.count) f.locals < items
 
+-- the size rule of a function type
 pub record TypeSizes (lists : ℕ) (t : FuncType) : Type 0 where
   pub params : length t.params < lists
   pub results : length t.results < lists
 
+-- the size rule of an element segment
 pub record ElemSizes (lists : ℕ) (e : Elem) : Type 0 where
   pub funcs : length e.funcs < lists
   pub offset : code_lists lists e.offset
 
+-- the size rule of a data segment
 pub record SegmentSizes (lists : ℕ) (s : Segment) : Type 0 where
   pub bytes : length s.bytes < lists
   pub offset : code_lists lists s.offset
@@ -179,11 +186,12 @@ CodeFits (plain p rest) = PlainFits p × CodeFits rest
 CodeFits (nest s r body rest) = CodeFits body × CodeFits rest
 CodeFits (branch r a b rest) = CodeFits a × CodeFits b × CodeFits rest
 
--- limits, numbers of 32 bits (2.3.4)
+-- a maximum, where there is one (2.3.4)
 abbrev pub MaxFits : Option ℕ → Type 0
 MaxFits None = Unit {0}
 MaxFits (Some high) = high < 2 ^ 32
 
+-- limits, numbers of 32 bits (2.3.4)
 abbrev pub LimitsFit : Limits → Type 0
 LimitsFit l = (l.min < 2 ^ 32) × MaxFits l.max
 

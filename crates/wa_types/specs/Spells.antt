@@ -166,11 +166,12 @@ Rising last [] = Unit {0}
 Rising last (custom name bytes ∷ ss) = Rising last ss
 Rising last (s ∷ ss) = (last < section_id s) × Rising (section_id s) ss
 
--- the type indices of the functions of a section, and its bodies (5.5.6, 5.5.13)
+-- the type indices of the functions of a section (5.5.6)
 abbrev pub sorts_in : Section → List ℕ
 sorts_in (functions sorts) = sorts
 sorts_in _ = []
 
+-- the bodies of a section (5.5.13)
 abbrev pub bodies_in : Section → List RawBody
 bodies_in (bodies bs) = bs
 bodies_in _ = []

@@ -99,24 +99,27 @@ calls_at table None = lacks 1
 calls_at false (Some t) = lacks 3
 calls_at true (Some t) = moves (I32 ∷ reverse t.params) (reverse t.results)
 
--- local.get, local.set and local.tee (3.3.3.1 to 3.3.3.3)
+-- local.get (3.3.3.1)
 abbrev pub gets : Option ValType → Sig
 gets None = lacks 6
 gets (Some t) = moves [] (t ∷ [])
 
+-- local.set (3.3.3.2)
 abbrev pub sets : Option ValType → Sig
 sets None = lacks 6
 sets (Some t) = moves (t ∷ []) []
 
+-- local.tee (3.3.3.3)
 abbrev pub tees : Option ValType → Sig
 tees None = lacks 6
 tees (Some t) = moves (t ∷ []) (t ∷ [])
 
--- global.get and global.set (3.3.3.4, 3.3.3.5)
+-- global.get (3.3.3.4)
 abbrev pub gets_global : Option GlobalType → Sig
 gets_global None = lacks 5
 gets_global (Some g) = moves [] (g.ty ∷ [])
 
+-- global.set (3.3.3.5)
 abbrev pub sets_global : Option GlobalType → Sig
 sets_global None = lacks 5
 sets_global (Some g) = if g.mutable then moves (g.ty ∷ []) [] else late 10 (g.ty ∷ []) []
@@ -125,12 +128,13 @@ sets_global (Some g) = if g.mutable then moves (g.ty ∷ []) [] else late 10 (g.
 abbrev pub accesses : ℕ → AccessRow → (ins outs : List ValType) → Sig
 accesses align row ins outs = if nat_le align row.natural then moves ins outs else late 9 ins outs
 
--- a load, and behind it a store (3.3.4.1 to 3.3.4.4); one whose opcode is none has no type
+-- a load (3.3.4.1, 3.3.4.2); one whose opcode is none has no type
 abbrev pub loads : Bool → ℕ → Option AccessRow → Sig
 loads false align row = lacks 4
 loads true align None = lacks 8
 loads true align (Some row) = accesses align row (I32 ∷ []) (row.ty ∷ [])
 
+-- a store (3.3.4.3, 3.3.4.4)
 abbrev pub stores : Bool → ℕ → Option AccessRow → Sig
 stores false align row = lacks 4
 stores true align None = lacks 8
