@@ -36,11 +36,11 @@ pub record Piece (X : Type 0) : Type 0 where
   pub at : ℕ
   pub items : List X
 
--- what an element segment writes: each of its entries is initialised
+-- what an element segment writes: each of its entries is initialised (4.5.4)
 abbrev pub elem_piece : List Value → Elem → Piece (Option ℕ)
 elem_piece globals e = record { at = place_at globals e.offset; items = map (λ x. Some x) e.funcs }
 
--- what a data segment writes
+-- what a data segment writes (4.5.4)
 abbrev pub byte_piece : List Value → Segment → Piece ℕ
 byte_piece globals s = record { at = place_at globals s.offset; items = s.bytes }
 
@@ -58,7 +58,7 @@ abbrev pub put_pieces : {X : Type 0} → List X → List (Piece X) → List X
 put_pieces xs [] = xs
 put_pieces xs (p ∷ ps) = put_pieces (put_piece xs p) ps
 
--- What instantiation comes to: the end of the program, or a store.
+-- What instantiation comes to (4.5.4): the end of the program, or a store.
 pub data Opening : Type 0 where
   fails_as : (how : End) → Opening
   opens : (store : Store) → Opening
@@ -68,7 +68,7 @@ abbrev pub bytes_checked : (globals : List Value) → (memory : List ℕ) → (t
 bytes_checked globals memory table elems bytes (Some i) = fails_as (BytesOut i)
 bytes_checked globals memory table elems bytes None = opens (record { globals = globals; memory = put_pieces memory bytes; table = put_pieces table elems })
 
--- the end by the first element segment that is out, else by the data segments
+-- the end by the first element segment that is out, else by the data segments (4.5.4)
 abbrev pub elems_checked : (globals : List Value) → (memory : List ℕ) → (table : List (Option ℕ)) → List (Piece (Option ℕ)) → List (Piece ℕ) → Option ℕ → Opening
 elems_checked globals memory table elems bytes (Some i) = fails_as (ElementsOut i)
 elems_checked globals memory table elems bytes None = bytes_checked globals memory table elems bytes (first_out (length memory) 0 bytes)

@@ -25,7 +25,7 @@ pub data Next : Type 0 where
   -- no reduction; no configuration of a valid module comes here
   stuck : Next
 
--- the lowest h operands
+-- the lowest h operands, those below a construct (4.4.5.6)
 abbrev pub keep : ℕ → List Value → List Value
 keep h ops = drop (length ops - h) ops
 

@@ -28,7 +28,7 @@ pub record Store : Type 0 where
 abbrev pub with_memory : Store → List ℕ → Store
 with_memory s memory = record { globals = s.globals; memory = memory; table = s.table }
 
--- the value at a place; valid code asks for none past the end
+-- the value at a place; valid code asks for none past the end (4.4.3)
 abbrev pub value_at : List Value → ℕ → Value
 value_at values x = slice_index_or values x (V.I32 0)
 
@@ -132,7 +132,7 @@ act most memory_size s [] = works s (V.I32 (pages_of s.memory) ∷ [])
 act most memory_grow s (V.I32 n ∷ []) = grew s (grown (record { bytes = s.memory; max = most }) n)
 act most _ s _ = lacks
 
--- The bytes that a load or store touches: the first, and how many.
+-- The bytes that a load or store touches (4.4.4.1, 4.4.4.2): the first, and how many.
 pub record Access : Type 0 where
   pub stores : Bool
   pub at : ℕ

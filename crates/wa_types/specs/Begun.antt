@@ -278,7 +278,7 @@ start = map exact preamble ++ sections 0 0 ∷ []
 abbrev pub Begun : List ℕ → Type 0
 Begun bytes = BegunFrom 0 start bytes
 
--- The bytes are a whole file: they lead to where sections may stand, and no function is without a body.
+-- The bytes are a whole file (5.5.15): they lead to where sections may stand, and no function is without a body.
 abbrev pub IsWhole : List ℕ → Type 0
 IsWhole bytes = (last : ℕ) × Leads 0 start bytes (sections last 0 ∷ [])
 

@@ -31,7 +31,7 @@ abbrev pub above : ℕ → Result ℕ LebFault → Result ℕ LebFault
 above b (Ok high) = Ok (b - 128 + 128 * high)
 above b (Err e) = Err e
 
--- What reading an unsigned number of so many bits answers, and the place behind the last byte looked at,
+-- What reading an unsigned number of so many bits (5.2.2) answers, and the place behind the last byte looked at,
 -- for bytes that begin at this place.
 unfoldable pub unsigned_at : ℕ → List ℕ → ℕ → Result ℕ LebFault × ℕ
 unsigned_at bits [] at = (Err Short, at)
@@ -41,7 +41,7 @@ unsigned_at bits (b ∷ bs) at =
     then (above b (unsigned_at (bits - 7) bs (at + 1)).0, (unsigned_at (bits - 7) bs (at + 1)).1)
     else (Err Long, at + 1))
 
--- The same of a signed number, as so many bits of two's complement.
+-- The same of a signed number (5.2.2), as so many bits of two's complement.
 unfoldable pub signed_at : ℕ → List ℕ → ℕ → Result ℕ LebFault × ℕ
 signed_at bits [] at = (Err Short, at)
 signed_at bits (b ∷ bs) at =
@@ -60,7 +60,7 @@ unfoldable pub spelled : ℕ → ℕ → List ℕ
 spelled zero n = []
 spelled (suc k) n = if nat_lt n 128 then n ∷ [] else (n % 128 + 128) ∷ spelled k (n / 128)
 
--- the shortest spelling of an unsigned number; ten bytes hold 64 bits
+-- the shortest spelling of an unsigned number (5.2.2); ten bytes hold 64 bits
 abbrev pub shortest : ℕ → List ℕ
 shortest n = spelled 10 n
 
@@ -73,7 +73,7 @@ signed_spelled (suc k) bits n =
     else (if nat_le (2 ^ bits) (n + 64) then (n + 128 - 2 ^ bits) ∷ []
     else (n % 128 + 128) ∷ signed_spelled k (bits - 7) (n / 128))
 
--- the shortest spelling of a signed number, as so many bits of two's complement
+-- the shortest spelling of a signed number (5.2.2), as so many bits of two's complement
 abbrev pub shortest_signed : ℕ → ℕ → List ℕ
 shortest_signed bits n = signed_spelled 10 bits n
 

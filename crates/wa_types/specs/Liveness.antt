@@ -37,12 +37,12 @@ target (goes_behind rest ∷ ls) zero = Some (position rest ls)
 target (goes_again body rest ∷ ls) zero = Some (position body (goes_again body rest ∷ ls))
 target (x ∷ ls) (suc l) = target ls l
 
--- a branch to one of these labels may go there
+-- a branch to one of these labels may go there (4.4.5.8)
 abbrev pub SomeTarget : List Label → List ℕ → Position → Type 0
 SomeTarget ls [] there = ⊥
 SomeTarget ls (l ∷ labels) there = (target ls l ≡ Some there) ⊎ SomeTarget ls labels there
 
--- a reduction may lead from an instruction to this place
+-- a reduction may lead from an instruction to this place (4.4.5)
 abbrev pub PlainLeads : Plain → Code → List Label → Position → Type 0
 PlainLeads (br l) rest ls there = target ls l ≡ Some there
 PlainLeads (br_if l) rest ls there = (target ls l ≡ Some there) ⊎ (there ≡ position rest ls)
@@ -64,7 +64,7 @@ Leads (nest s r body rest) ls there = there ≡ position body (label_of s body r
 Leads (branch r a b rest) ls there =
     (there ≡ position a (goes_behind rest ∷ ls)) ⊎ (there ≡ position b (goes_behind rest ∷ ls))
 
--- a `local.get` of x stands here
+-- a `local.get` of x stands here (4.4.3.1)
 abbrev pub Reads : ℕ → Code → Type 0
 Reads x (plain (local_get y) rest) = x ≡ y
 Reads x _ = ⊥
@@ -75,7 +75,7 @@ writes_plain x (local_set y) = nat_eq x y
 writes_plain x (local_tee y) = nat_eq x y
 writes_plain x _ = false
 
--- a `local.set` or `local.tee` of x stands here
+-- a `local.set` or `local.tee` of x stands here (4.4.3.2, 4.4.3.3)
 abbrev pub writes : ℕ → Code → Bool
 writes x (plain p rest) = writes_plain x p
 writes x _ = false

@@ -14,7 +14,7 @@ use Rattle.wa_types.specs.Syntax.{const, num, global_get, global_set, load, basi
 abbrev pub func_space : Module → ℕ
 func_space m = length (func_sorts m)
 
--- how many globals, imports included
+-- how many globals, imports included (2.5.1)
 abbrev pub global_space : Module → ℕ
 global_space m = length (all_globals m)
 
