@@ -1,3 +1,5 @@
+//! The runtime's parts, appended behind a module's own: types, globals, functions and exports, and a memory where there is none.
+
 ghost use Rattle.std.specs.Prelude.{◌≡◌, ◌<◌, ◌^◌, ◌+◌, ◌++◌, ◌↔◌, length, map, count_by, is_some, IfOk, OnOk, IsErrOf, Some};
 ghost use Rattle.wa_types.specs.View.{code, onto, module_of, func_of, global_of, func_type_of};
 ghost use Rattle.std.specs.List.{filter_map, list_any};

@@ -1,4 +1,5 @@
-// A `transform`: its settings and its two files.
+//! A `transform`: its settings and its two files.
+
 ghost use Rattle.std.specs.Prelude.{◌≡◌, None, Some, false, IfOk};
 ghost use Rattle.std.specs.Option.{option_map};
 ghost use Rattle.clap.specs.Words.{found_of, rows_of};

@@ -23,6 +23,7 @@ Loud first (plain (local_get x) rest) = x < first
 Loud first (plain (local_set x) rest) = x < first
 Loud first _ = Unit {0}
 
+-- how many parameters and declared locals a function has that is there
 abbrev pub first_in : Module → Option Func → ℕ
 first_in m None = 0
 first_in m (Some f) = length (locals_of m f)
@@ -148,10 +149,12 @@ abbrev pub AtCallOrSame : Bool → Module → (a a' : Activation) → Type 0
 AtCallOrSame true m a a' = AtCall m a a'
 AtCallOrSame false m a a' = a' ≡ a
 
+-- So is each that waits.
 abbrev pub AllAtCalls : Module → List Bool → (under under' : List Activation) → Type 0
 AllAtCalls m which [] [] = Unit {0}
 AllAtCalls m which (a ∷ under) (a' ∷ under') = AtCallOrSame (is_told (slice_get which a.func)) m a a' × AllAtCalls m which under under'
 AllAtCalls m which _ _ = ⊥
 
+-- So are all callers.
 abbrev pub CallersAreAtCalls : Type 0
 CallersAreAtCalls = (m : Module) (which : List Bool) (g : ℕ) (under under' : List Activation) → Callers m which g under under' → AllAtCalls m which under under'

@@ -27,12 +27,15 @@ is_top h t (ty ∷ rest) = same_at h t (length rest) ty
 abbrev pub Covers : List Seen → List ValType → Type 0
 Covers seen ops = (h : ℕ) (t : ValType) → stands_at h t ops ≡ true → is_marked seen h t ≡ true
 
+-- an operand of this type stands at this height at some point
 abbrev pub any_point : ℕ → ValType → Walk → Code → Bool
 any_point h t w k = list_any (stands_at h t) (points w.around w.labels k w.under w.own)
 
+-- a result of this type stands at this depth
 abbrev pub any_result : ℕ → ValType → Walk → Code → Bool
 any_result d t w k = list_any (same_pair d t) (results_in (length w.labels) (pruned k))
 
+-- how many pairs were found
 abbrev pub found_count : Found → ℕ
 found_count f = length (pairs_in 0 f.slots.items) + length (pairs_in 0 f.results.items)
 
@@ -58,6 +61,7 @@ pub record SurveyedOne (v w : Walk) (i : Instr) (a b : Found) : Type 0 where
 abbrev pub points_at : Walk → Code → List (List ValType)
 points_at w k = points w.around w.labels (pruned k) w.under w.own
 
+-- the results of a body, its own in front
 abbrev pub results_at : Option ValType → Code → List Pair
 results_at given k = pair_of 0 given ++ results_in 1 (pruned k)
 

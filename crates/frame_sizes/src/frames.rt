@@ -1,3 +1,5 @@
+//! The locals that the frame of a call saves, and the bytes of a suspended stack.
+
 ghost use Rattle.std.specs.Prelude.{◌≡◌, ◌++◌, ◌+◌, ◌*◌, ◌<◌, ◌≤◌, ◌^◌, [], ℕ, Some, None, MatchOption, IfOk, OnOk, length, map, slice_get};
 ghost use Rattle.std.specs.List.{sum_by};
 ghost use Rattle.wa_types.specs.Frames.{frame_of, named_places, place_onto, slot_places, width, FrameSize, Place as PlainPlace, Room, Saved};

@@ -1,3 +1,5 @@
+//! The body of a written function: the code that restores its frame, its guarded pieces, the code that saves its frame.
+
 ghost use Rattle.std.specs.Prelude.{◌≡◌, ◌≤◌, ◌<◌, ◌^◌, ◌-◌, length, IfOk, OnOk};
 ghost use Rattle.wa_types.specs.Syntax.{Code, Func as PlainFunc, Module as PlainModule, done};
 ghost use Rattle.wa_types.specs.View.{code, onto};

@@ -84,6 +84,7 @@ pub data BehindPiece (w : Sides) : Role → (by : ℕ) → (tail : Code) → (ou
       → BehindPiece w (with_guards f) 0 done (flat_labels f xs) (written_labels w.state f xs)
   func_end : {r : Role} → BehindPiece w r 0 done [] []
 
+-- what stands behind code inside so many constructs of a piece: behind the piece itself its tail
 abbrev pub tail_at : (depth : ℕ) → Code → Code
 tail_at zero tail = tail
 tail_at (suc d) tail = done
@@ -205,9 +206,11 @@ ProperPlain w s ls ops (call x) = (x < w.funcs) × (param_count (func_type_at w.
 ProperPlain w s ls ops (call_indirect t) = (t < w.sorts) × (suc (param_count (type_at w.flat t)) ≤ length ops)
 ProperPlain w s ls ops _ = Unit {0}
 
+-- so does the instruction that stands next
 abbrev pub ProperCode : Sides → (s : Store) → (ls ops : List Value) → Code → Type 0
 ProperCode w s ls ops (plain p rest) = ProperPlain w s ls ops p
 ProperCode w s ls ops _ = Unit {0}
 
+-- so does a configuration
 abbrev pub Proper : Sides → Configuration → Type 0
 Proper w c = ProperCode w c.store c.here.locals c.here.operands c.here.code

@@ -1,3 +1,5 @@
+//! The tests of an answer: its value, its pokes, and whether it may pause there.
+
 ghost use Rattle.std.specs.Prelude.{◌≡◌, ◌<◌, ◌^◌, ◌+◌, ◌&&◌, List, All, Bool, not, length, map};
 ghost use Rattle.std.specs.Option.{option_copied, option_to_list};
 ghost use Rattle.std.specs.List.{find};

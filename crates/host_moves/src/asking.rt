@@ -1,3 +1,5 @@
+//! What a new call of an import meets: its device's answer, or the next answer line.
+
 ghost use Rattle.std.specs.Prelude.{◌≡◌, IfOk, None, Some, slice_get};
 ghost use Rattle.std.specs.Option.{option_map, unwrap_or};
 ghost use Rattle.wa_model.specs.View.{call_of};

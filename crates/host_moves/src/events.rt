@@ -1,3 +1,5 @@
+//! The next event of a program, by the stage where it stands.
+
 ghost use Rattle.std.specs.Prelude.{◌≡◌, ◌<◌, ◌≤◌, ◌+◌, ◌-◌, ◌^◌, All, IfOk, None};
 ghost use Rattle.wa_model.specs.Protocol.{exports_of};
 ghost use Rattle.wa_model.specs.World.{Program};

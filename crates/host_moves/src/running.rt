@@ -1,3 +1,5 @@
+//! What comes of each stage but the pauses: the start function, entries, and calls of imports with their answers.
+
 ghost use Rattle.std.specs.Prelude.{◌≡◌, ◌<◌, ◌≤◌, ◌+◌, ◌-◌, ◌^◌, ℕ, List, [], ◌∷◌, All, IfOk, OnOk, None, map, slice_get};
 ghost use Rattle.std.specs.Option.{option_map, option_to_list};
 ghost use Rattle.wa_types.specs.Modules.{func_imports};

@@ -1,3 +1,5 @@
+//! A pause rewound: from `asyncify_start_rewind` over the entry's call to the suspended import's answer.
+
 ghost use Rattle.std.specs.Prelude.{◌≡◌, ◌<◌, ◌≤◌, ◌+◌, ◌-◌, ◌^◌, List, [], ◌∷◌, IfOk, map, slice_get};
 ghost use Rattle.std.specs.Option.{option_to_list};
 ghost use Rattle.wa_types.specs.declared.values.Value.TheVariants as V;

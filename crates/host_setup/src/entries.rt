@@ -1,4 +1,5 @@
-// A program's set-up.
+//! A program's set-up over a prepared module: the area, the five exports, and the functions of the entries.
+
 ghost use Rattle.std.specs.Prelude.{◌≡◌, ◌<◌, ◌^◌, ◌++◌, [], ◌∷◌, IfOk, IfSome, OnOk, None, length, map, position, slice_get};
 ghost use Rattle.std.specs.Option.{is_none, unwrap_or};
 ghost use Rattle.wa_types.specs.Modules.{func_imports, func_sorts};

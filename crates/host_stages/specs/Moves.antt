@@ -80,6 +80,7 @@ abbrev pub ComesFrom : Program → Place → (left used : ℕ) → Moved → (su
 ComesFrom w from left used m supply supply' l s waits =
     Moves w from left supply m.event s used supply' (place_in (exports_of w.source) w.plan.area l s waits m.stage)
 
+-- The same from a state of the machine.
 abbrev pub Comes : Program → Held → (left used : ℕ) → Moved → (supply supply' : Supply) → B.Left → Store → Waits → Type 0
 Comes w h left used m supply supply' l s waits = ComesFrom w (stands [] h) left used m supply supply' l s waits
 

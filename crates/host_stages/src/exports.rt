@@ -1,3 +1,5 @@
+//! Calls of the five exports through which a host unwinds and rewinds a stack.
+
 ghost use Rattle.std.specs.Prelude.{◌≡◌, ◌<◌, ◌≤◌, ◌+◌, ◌-◌, ◌^◌, IfOk};
 ghost use Rattle.std.specs.Option.{option_to_list};
 ghost use Rattle.wa_model.specs.Fitting.{StoreFits, types_of};

@@ -1,3 +1,5 @@
+//! From reductions to turns: a stack that goes on, and a call from outside on a fresh stack.
+
 ghost use Rattle.std.specs.Prelude.{◌≡◌, ◌<◌, ◌≤◌, ◌+◌, ◌-◌, ◌^◌, List, IfOk, IfErr};
 ghost use Rattle.wa_types.specs.declared.values.ValType.{ValType};
 ghost use Rattle.wa_types.specs.Modules.{func_type_at};

@@ -1,3 +1,5 @@
+//! Instances of valid modules: made, called, resumed, and their memory and globals shown (standard, sections 4.5.4 and 4.5.5).
+
 ghost use Rattle.std.specs.Prelude.{◌≡◌, ◌<◌, ◌≤◌, ◌+◌, ◌-◌, ◌^◌, ◌++◌, List, All, IfOk, IfErr, OnErr, nat_lt, vec_capacity, length, drop, reverse};
 ghost use Rattle.std.specs.Bool.{OnTrue, OnFalse};
 ghost use Rattle.std.specs.Coded.{codes};

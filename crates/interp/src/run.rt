@@ -1,3 +1,5 @@
+//! Runs of reductions, each paid by its cost.
+
 ghost use Rattle.std.specs.Prelude.{◌≡◌, ◌<◌, ◌≤◌, ◌+◌, ◌-◌, ◌^◌, List, IfOk, IfErr, OnOk};
 ghost use Rattle.wa_types.specs.declared.values.ValType.{ValType};
 ghost use Rattle.wa_types.specs.Validity.{Valid};

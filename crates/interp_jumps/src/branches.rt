@@ -1,3 +1,5 @@
+//! Conditional branches, and constructs entered: `br_if`, `br_table`, `block`, `loop` and `if` (standard, section 4.4.5).
+
 ghost use Rattle.std.specs.Prelude.{◌≡◌, ◌<◌, ◌≤◌, List, vec_capacity, vec_len, OnErr, IfErr, ◌∷◌, ℕ, IfOk, MatchOption, reverse, slice_get, unwrap_or};
 ghost use Rattle.wa_types.specs.Syntax.{Module, a_block, a_loop, nest, branch, br_if, br_table, done};
 ghost use Rattle.wa_types.specs.declared.values.Value.TheVariants as V;

@@ -1,3 +1,5 @@
+//! Branches to a label, ends of sequences, and returns (standard, sections 4.4.5.6, 4.4.6.2 and 4.4.7.2).
+
 ghost use Rattle.std.specs.Prelude.{◌≡◌, ◌<◌, ◌≤◌, List, vec_capacity, OnErr, IfErr, ◌++◌, ℕ, [], IfOk, length, reverse, take, drop};
 ghost use Rattle.wa_types.specs.View.{module_of};
 ghost use Rattle.wa_model.specs.Store.{Store};

@@ -1,3 +1,5 @@
+//! The store of a new instance: its globals, table and memory, with the segments written (standard, section 4.5.4).
+
 ghost use Rattle.std.specs.Prelude.{◌≡◌, ◌≤◌, ◌<◌, ◌*◌, ◌^◌, ◌++◌, IfOk, IfErr, None, Some, length, map, replicate};
 ghost use Rattle.wa_types.specs.Memory.{page_size};
 ghost use Rattle.wa_types.specs.Modules.{all_memories, all_tables};

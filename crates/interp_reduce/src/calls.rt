@@ -1,3 +1,5 @@
+//! Calls: `call`, `call_indirect`, and the invocation of a function (standard, sections 4.4.5.10, 4.4.5.11 and 4.4.7.1).
+
 ghost use Rattle.std.specs.Prelude.{◌≡◌, OnOk, ◌<◌, ◌+◌, ◌^◌, ◌++◌, ℕ, Some, IfErr, IfOk, MatchOption, map, slice_get, reverse, take, drop};
 ghost use Rattle.wa_types.specs.Modules.{declared_locals, defined_at};
 ghost use Rattle.wa_types.specs.Syntax.{call, call_indirect};

@@ -1,3 +1,5 @@
+//! One reduction, by the instruction that stands next (standard, section 4.4).
+
 ghost use Rattle.std.specs.Prelude.{List, OnOk, OnErr, IfErr, ◌≡◌, ◌<◌, IfOk, ◌∷◌};
 ghost use Rattle.wa_types.specs.View.{code, in_front, module_of};
 ghost use Rattle.wa_model.specs.Step.{memory_max, step};

@@ -1,3 +1,5 @@
+//! Memory instructions, and accesses of globals (standard, sections 4.4.4, 4.4.3.4 and 4.4.3.5).
+
 ghost use Rattle.std.specs.Prelude.{◌≡◌, ◌<◌, ◌≤◌, vec_capacity, vec_len, IsOk, OnErr, ◌^◌, ◌⊎◌, ℕ, List, Option, IfOk, reverse};
 ghost use Rattle.wa_types.specs.Syntax.{load, store as store_instr, memory_size, memory_grow, global_get, global_set};
 ghost use Rattle.interp_state.specs.Effects.{effect, Shows, Unmoved};

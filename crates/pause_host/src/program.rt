@@ -1,3 +1,5 @@
+//! `Program`: a plan over a prepared module, advanced from event to event.
+
 ghost use Rattle.std.specs.Prelude.{◌≡◌, ◌<◌, ◌≤◌, ◌+◌, ◌++◌, ◌^◌, [], ◌∷◌, ℕ, List, IfOk, IfErr, None, Some, length, map};
 ghost use Rattle.std.specs.Option.{option_copied};
 ghost use Rattle.wa_model.specs.World.{bytes_shown};

@@ -20,6 +20,7 @@ Callable m x params = ((f : Func) × (defined_at m x ≡ Some f)) × ((func_type
 abbrev pub EntryTyped : Module → Entry → Type 0
 EntryTyped m e = ((f : Func) × (defined_at m e.func ≡ Some f)) × (types_of e.args ≡ (func_type_at m e.func).params)
 
+-- so is each entry that is left
 abbrev pub LeftTyped : Module → Left → Type 0
 LeftTyped m l = All (EntryTyped m) l.entries
 
@@ -41,6 +42,7 @@ StateFits m (halts s) = Unit {0}
 
 -- ---- under the protocol
 
+-- an entry that the host has called is typed
 abbrev pub TaskTyped : Module → Task → Type 0
 TaskTyped p the_start = Unit {0}
 TaskTyped p (an_entry e) = EntryTyped p e
@@ -49,6 +51,7 @@ TaskTyped p (an_entry e) = EntryTyped p e
 abbrev pub AnswerTyped : Module → ℕ → Answer → Type 0
 AnswerTyped p import a = types_of (option_to_list a.value) ≡ results_of p import
 
+-- the entry, and what waits in a phase of a pause
 abbrev pub PhaseTyped : Module → Phase → Type 0
 PhaseTyped p (is_running task) = TaskTyped p task
 PhaseTyped p (unwinds e i a) = EntryTyped p e × AnswerTyped p i a

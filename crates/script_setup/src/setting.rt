@@ -1,4 +1,5 @@
-// A program, set up.
+//! A program, set up over its module: what it is given, or the line and the rule of its first fault.
+
 ghost use Rattle.std.specs.Prelude.{◌≡◌, ◌<◌, ◌^◌, IfOk, Ok, length, map, position};
 ghost use Rattle.std.specs.Option.{option_map};
 ghost use Rattle.wa_types.specs.View.{module_of};

@@ -25,6 +25,7 @@ pub record Held (X : Type 0) : Type 0 where
   pub shows : List Show
   pub begun : ℕ
 
+-- what is held
 abbrev pub held_of : {X : Type 0} → Turns X → Held X
 held_of h = record { programs = h.programs.items; dues = h.dues.items; detaches = h.detaches.items; shows = h.shows.items; begun = h.begun }
 
@@ -96,6 +97,7 @@ stage_behind turn _ = Telling turn
 
 -- ---- numbers in range
 
+-- where the host stands, the program is one of so many
 abbrev pub PlaceFits : (count : ℕ) → Stage → Type 0
 PlaceFits count Between = Unit {0}
 PlaceFits count (Telling turn) = turn.program < count

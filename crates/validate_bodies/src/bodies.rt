@@ -1,3 +1,5 @@
+//! A body, checked from front to back: typed, or its first fault (standard, section 3.3).
+
 ghost use Rattle.std.specs.Prelude.{◌≡◌, [], ◌∷◌, false, ◌+◌, ◌<◌, ◌^◌, reverse, List, IfOk};
 ghost use Rattle.wa_types.specs.declared.values.ValType.{ValType as ValTypeValue};
 ghost use Rattle.wa_types.specs.FirstFault.{size, mid};

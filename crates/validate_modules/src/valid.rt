@@ -1,3 +1,5 @@
+//! `Valid` modules, and the first fault of a module that isn't (standard, section 3.4).
+
 ghost use Rattle.std.specs.Prelude.{◌≡◌, ◌+◌, ◌<◌, true, Some, length, slice_get};
 ghost use Rattle.wa_types.specs.FirstFault.{FirstFault};
 ghost use Rattle.wa_types.specs.Modules.{around, defined_at, func_imports};

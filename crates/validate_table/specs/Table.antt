@@ -34,6 +34,7 @@ plain_of (Load op align offset) = Some (basic (load op align offset))
 plain_of (Store op align offset) = Some (basic (store op align offset))
 plain_of _ = None
 
+-- what is said of an instruction that holds no other, where it is one
 abbrev pub Says : Option Plain → (Plain → Type 0) → Type 0
 Says None P = Unit {0}
 Says (Some p) P = P p

@@ -1,3 +1,5 @@
+//! What each instruction that holds no other takes off the operands and puts on (standard, sections 3.3.1 to 3.3.5).
+
 ghost use Rattle.std.specs.Prelude.{◌≡◌, ℕ, [], ◌∷◌, Some, reverse, slice_get, true};
 ghost use Rattle.wa_types.specs.Accesses.{load_row, store_row};
 ghost use Rattle.wa_types.specs.declared.values.ValType.TheVariants.{I32};

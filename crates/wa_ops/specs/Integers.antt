@@ -151,7 +151,7 @@ ige_u i j = of_bool (nat_le j i)
 abbrev pub ige_s : ℕ → ℕ → ℕ → ℕ
 ige_s N i j = of_bool (int_le (signed N j) (signed N i))
 
--- ---- conversions (4.3.3)
+-- ---- conversions (4.3.4)
 
 -- to the low N bits (wrap)
 abbrev pub wrap : ℕ → ℕ → ℕ

@@ -53,21 +53,27 @@ onto (i ∷ is) rest = in_front i (onto is rest)
 unfoldable pub code : List Instr → Code
 code is = onto is done
 
+-- a function type
 abbrev pub func_type_of : FuncTypeValue → FuncType
 func_type_of t = record { params = t.params.items; results = t.results.items }
 
+-- a defined function
 abbrev pub func_of : FuncValue → Func
 func_of f = record { sort = f.sort; locals = f.locals.items; body = code f.body.items }
 
+-- a defined global
 abbrev pub global_of : GlobalDefValue → GlobalDef
 global_of g = record { ty = g.ty; mutable = g.mutable; init = code g.init.items }
 
+-- an element segment
 abbrev pub elem_of : ElemValue → Elem
 elem_of e = record { table = e.table; offset = code e.offset.items; funcs = e.funcs.items }
 
+-- a data segment
 abbrev pub segment_of : SegmentValue → Segment
 segment_of s = record { memory = s.memory; offset = code s.offset.items; bytes = s.bytes.items }
 
+-- a custom section
 abbrev pub custom_of : CustomValue → Custom
 custom_of c = record { after = c.after; name = c.name; bytes = c.bytes.items }
 

@@ -23,9 +23,11 @@ use Rattle.wasm_build.specs.Builds.{Between, SpelledAs, IsResult}
 abbrev pub SpelledCode : (first_arm : Bool) → (body else_arm : Code) → ℕ → List ℕ → Type 0
 SpelledCode first_arm body else_arm = SpelledAs (CodeOf first_arm) (λ raw c. IsCode raw c else_arm) body
 
+-- an expression (5.4.6)
 abbrev pub SpelledExpression : Code → ℕ → List ℕ → Type 0
 SpelledExpression c = SpelledCode false c done
 
+-- the result of a construct (5.3.2)
 abbrev pub SpelledResult : Option ValType → ℕ → List ℕ → Type 0
 SpelledResult = SpelledAs BlockType IsResult
 
@@ -33,6 +35,7 @@ SpelledResult = SpelledAs BlockType IsResult
 abbrev pub SpelledConstruct : Option ValType × Code → ℕ → List ℕ → Type 0
 SpelledConstruct x = SpelledResult x.0 ▸ SpelledExpression x.1
 
+-- the same of a value of the program
 abbrev pub view_construct : Option ValType × Vec Instr Global → Option ValType × Code
 view_construct p = (p.0, code p.1.items)
 
@@ -40,6 +43,7 @@ view_construct p = (p.0, code p.1.items)
 abbrev pub SpelledArms : Option ValType × Code × Code → ℕ → List ℕ → Type 0
 SpelledArms x = SpelledResult x.0 ▸ SpelledCode true x.1 x.2
 
+-- the same of a value of the program
 abbrev pub view_arms : Option ValType × Vec Instr Global × Vec Instr Global → Option ValType × Code × Code
 view_arms p = (p.0, code p.1.items, code p.2.items)
 
@@ -52,6 +56,7 @@ GivesNext (Ok an_else) first_arm body else_arm new end =
     (body ≡ done) × (first_arm ≡ true) × Between (SpelledExpression else_arm) new end
 GivesNext (Err e) first_arm body else_arm new end = e ≡ Memory
 
+-- For whatever sequence the front spells, the answer is what comes next of it.
 pub record BuildsNext (result : Result Next BuildFault) (old new : Place) : Type 0 where
   pub built : (first_arm : Bool) (body else_arm : Code) (end : Place) → Between (SpelledCode first_arm body else_arm) old end → GivesNext result first_arm body else_arm new end
 
@@ -60,19 +65,22 @@ abbrev pub Ended : Mark → (first_arm : Bool) → (else_arm : Code) → (new en
 Ended End first_arm else_arm new end = (else_arm ≡ done) × (new ≡ end)
 Ended Else first_arm else_arm new end = (first_arm ≡ true) × Between (SpelledExpression else_arm) new end
 
+-- the instructions of a sequence, and what ends it
 abbrev pub GivesSequence : Result (Vec Instr Global × Mark) BuildFault → (first_arm : Bool) → (body else_arm : Code) → (new end : Place) → Type 0
 GivesSequence (Ok p) first_arm body else_arm new end = (code p.0.items ≡ body) × Ended p.1 first_arm else_arm new end
 GivesSequence (Err e) first_arm body else_arm new end = e ≡ Memory
 
+-- For whatever sequence the front spells, the answer is that.
 pub record BuildsSequence (result : Result (Vec Instr Global × Mark) BuildFault) (old new : Place) : Type 0 where
   pub built : (first_arm : Bool) (body else_arm : Code) (end : Place) → Between (SpelledCode first_arm body else_arm) old end → GivesSequence result first_arm body else_arm new end
 
--- an instruction of this opcode that holds no other, by what follows the opcode
+-- an instruction that holds no other has this opcode
 pub record IsOfOpcode (op : ℕ) (p : Plain) : Type 0 where
   pub opcode : op ≡ plain_opcode p
   pub operands : follows op ≡ Some (shape (plain_operands p))
   pub kind : HasKind p
 
+-- an instruction of this opcode, by what follows the opcode
 abbrev pub SpelledPlain : (op : ℕ) → Code → ℕ → List ℕ → Type 0
 SpelledPlain op c at bytes = (p : Plain) × (c ≡ plain p done) × IsOfOpcode op p × OperandsOf (plain_operands p) at bytes
 
@@ -80,6 +88,7 @@ SpelledPlain op c at bytes = (p : Plain) × (c ≡ plain p done) × IsOfOpcode o
 abbrev pub alone : Instr → Code
 alone i = in_front i done
 
+-- an instruction that is there is this one
 abbrev pub IsNamed : Option Instr → Plain → Type 0
 IsNamed (Some i) p = alone i ≡ plain p done
 IsNamed None p = ⊥

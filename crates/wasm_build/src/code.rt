@@ -1,3 +1,5 @@
+//! Instructions and expressions from bytes (standard, sections 5.4.1 and 5.4.6).
+
 ghost use Rattle.std.specs.Prelude.{◌≡◌, ◌<◌, ◌≤◌, length, IfOk, map};
 ghost use Rattle.wa_types.specs.Syntax.{done};
 ghost use Rattle.wa_types.specs.View.{code, in_front};

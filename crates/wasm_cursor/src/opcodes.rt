@@ -1,3 +1,5 @@
+//! What follows an opcode, and which opcodes and types are floats (standard, sections 5.3.1 and 5.4).
+
 ghost use Rattle.std.specs.Prelude.{◌≡◌};
 ghost use Rattle.wa_types.specs.Opcodes.{follows, within, is_float_op, is_float_type};
 ghost use Rattle.wasm_cursor.specs.Shapes.{follows_of};

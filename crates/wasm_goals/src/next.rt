@@ -1,3 +1,5 @@
+//! What comes in the place of a goal behind its item (standard, sections 5.3 to 5.5).
+
 ghost use Rattle.std.specs.Prelude.{◌≡◌, ℕ, ◌<◌, ◌^◌, Some, [], ◌∷◌};
 ghost use Rattle.wa_types.specs.Begun.{next, may_follow, name_of, some_of, others, and_then, entry, where_true, content, behind_flag, behind_kind, behind_opcode, operands_of, size as size_of};
 ghost use Rattle.wa_types.specs.Opcodes.{within, follows, is_value_type};

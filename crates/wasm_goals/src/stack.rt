@@ -1,3 +1,5 @@
+//! `Goals`: the stack of the goals that are owed at a place.
+
 ghost use Rattle.std.specs.Prelude.{◌≡◌, ◌<◌, ◌^◌, [], ◌∷◌, ◌++◌, drop, IfNone, IfSome, OnOk, OnErr, IfOk, Some, None, MatchBool};
 ghost use Rattle.std.specs.Bool.{OnTrue, OnFalse};
 ghost use Rattle.wa_types.specs.Begun.{settled, start, Steps};

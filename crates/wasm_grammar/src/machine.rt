@@ -1,3 +1,5 @@
+//! The machine of the grammar: it takes the items of a file one behind another, and keeps what may come next (standard, section 5.5.15).
+
 ghost use Rattle.std.specs.Prelude.{◌≡◌, ℕ, Bool, List, ◌∷◌, ◌<◌, ◌≤◌, ◌-◌, ◌++◌, length, take, drop, OnOk, IfOk, IfErr, MatchBool};
 ghost use Rattle.std.specs.Bool.{OnTrue};
 ghost use Rattle.wa_types.specs.Begun.{Begun, IsWhole, wants, Inside, code, entries, some_runs, Goal as Wanted};

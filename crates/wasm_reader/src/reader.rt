@@ -1,3 +1,5 @@
+//! A module from the bytes of a whole file, or why it is refused (standard, section 5).
+
 ghost use Rattle.std.specs.Prelude.{◌≡◌, ◌≤◌, ◌⊎◌, ℕ, List, length, IfOk};
 ghost use Rattle.std.specs.Result.{IfErr};
 ghost use Rattle.wa_types.specs.Begun.{IsWhole};
