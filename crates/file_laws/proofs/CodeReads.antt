@@ -5,7 +5,7 @@ use Rattle.wa_types.specs.Binary.{Placed, Operands, nothing, zero_byte, index, i
 use Rattle.wa_types.specs.Begun.{Goal, code, exact, number, count, block_type, entries, some_indices, next, where_true, operands, operands_of, behind_opcode, an_unsigned}
 use Rattle.wa_types.specs.Spells.{◌▸◌, Exactly, Number, SignedNumber, Vector, Byte, BlockType, OperandsOf, CodeOf}
 use Rattle.file_laws.proofs.Runs.{some_same, not_none}
-use Rattle.file_laws.proofs.Going.{Any, Reads, reads_none, reads_then, reads_as, Begins, reads_first, Goes, takes_one, gives_one, to_right, on_right}
+use Rattle.file_laws.proofs.GoalReads.{Any, Reads, reads_none, reads_then, reads_as, Begins, reads_first, Goes, takes_one, gives_one, to_right, on_right}
 use Rattle.file_laws.proofs.Leaves.{reads_number, reads_signed, reads_exact, reads_float, reads_block_type, tested, alone, with_nothing}
 use Rattle.file_laws.proofs.Vectors.{reads_count}
 

@@ -4,7 +4,7 @@ use Rattle.wa_types.specs.Opcodes.{is_value_type}
 use Rattle.wa_types.specs.Binary.{RawGlobal}
 use Rattle.wa_types.specs.Begun.{Goal, code, number, name, value_type, mutable, import_kind, space, limits, count, entries, until, name_of, some_types, some_imports, some_functions, some_tables, some_memories, some_globals, some_exports, some_elements, some_bodies, some_segments, some_value_types, some_runs, some_indices, some_bytes, a_byte, an_unsigned, next, and_then, where_true, behind_flag}
 use Rattle.wa_types.specs.Spells.{◌▸◌, Exactly, Number, Items, Vector, Text, ValueType, FunctionType, LimitsOf, TableType, CodeOf, ImportKindOf, ImportOf, GlobalOf, ExportOf, ElementOf, RunOf, BodyOf, SegmentOf}
-use Rattle.file_laws.proofs.Going.{Any, Reads, ReadsNext, reads_none, reads_then, reads_as, Begins, reads_first, next_where, Ends, reads_until, to_left, to_right}
+use Rattle.file_laws.proofs.GoalReads.{Any, Reads, ReadsNext, reads_none, reads_then, reads_as, Begins, reads_first, next_where, Ends, reads_until, to_left, to_right}
 use Rattle.file_laws.proofs.Leaves.{reads_number, reads_value_type, reads_mutable, Mutability, SpaceOf, reads_space, reads_limits, reads_name, reads_import_kind, alone, with_nothing, NameOf, reads_name_of, text_from, text_to, Flagged, next_flag, limits_from, limits_to}
 use Rattle.file_laws.proofs.Vectors.{reads_count, reads_append, reads_alone}
 use Rattle.file_laws.proofs.CodeReads.{reads_code, reads_index}

@@ -7,7 +7,7 @@ use Rattle.wa_types.specs.Binary.{Section, custom, types, imports, functions, ta
 use Rattle.wa_types.specs.Begun.{Goal, exact, sections, size, head, until, rest, entries, Kind, some_types, some_imports, some_functions, some_tables, some_memories, some_globals, some_exports, some_elements, some_bodies, some_segments, next, Inside, settled, where_true, some_of, name_of, may_follow, content, Leads, arrived, IsWhole, Begun, part, start as start_goals}
 use Rattle.wa_types.specs.Spells.{◌▸◌, Exactly, Number, Items, Vector, Sized, Text, FunctionType, LimitsOf, TableType, ImportOf, GlobalOf, ExportOf, ElementOf, BodyOf, SegmentOf, SectionOf, Rising, Spells, sorts_in, bodies_in}
 use Rattle.file_laws.proofs.Runs.{some_same, leads_on, begun_front}
-use Rattle.file_laws.proofs.Going.{Any, Reads, Goes, gives_one, reads_until, reads_none, reads_then, reads_as}
+use Rattle.file_laws.proofs.GoalReads.{Any, Reads, Goes, gives_one, reads_until, reads_none, reads_then, reads_as}
 use Rattle.file_laws.proofs.Leaves.{reads_name_of, text_to, reads_exact}
 use Rattle.file_laws.proofs.Vectors.{reads_some}
 use Rattle.file_laws.proofs.EntryReads.{reads_type, reads_import, reads_function, reads_table, reads_memory, reads_global, reads_export, reads_element, reads_body, reads_segment}

@@ -9,7 +9,7 @@ use Rattle.wa_types.specs.Opcodes.{is_value_type, is_block_type}
 use Rattle.wa_types.specs.Binary.{RawKind, raw_func, raw_table, raw_memory, raw_global}
 use Rattle.wa_types.specs.Begun.{Goal, exact, number, name, value_type, block_type, mutable, import_kind, space, limits, signed, name_bytes, float_bytes, Item, a_byte, an_unsigned, a_signed, a_name, a_constant_of, IsItem, wants, next, behind_flag, behind_kind, name_of}
 use Rattle.wa_types.specs.Spells.{◌▸◌, Exactly, Number, SignedNumber, Text, ValueType, BlockType, Maximum, LimitsOf, TableType, GlobalType, ImportKindOf}
-use Rattle.file_laws.proofs.Going.{Any, Reads, ReadsNext, reads_none, reads_then, reads_as, Begins, reads_first, next_where}
+use Rattle.file_laws.proofs.GoalReads.{Any, Reads, ReadsNext, reads_none, reads_then, reads_as, Begins, reads_first, next_where}
 
 -- an item and nothing behind it
 pub alone : (i : Item) (at : ℕ) (bytes : List ℕ) → Begins i (λ v k. Exactly []) at bytes → (v : ℕ) × IsItem i bytes v

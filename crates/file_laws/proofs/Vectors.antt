@@ -4,7 +4,7 @@ use Rattle.wa_types.specs.Leb.{IsUnsigned}
 use Rattle.wa_types.specs.Begun.{Goal, count, entries, Kind, an_unsigned, next, entry, others, and_then, some_of}
 use Rattle.wa_types.specs.Spells.{◌▸◌, Exactly, Items, Vector}
 use Rattle.file_laws.proofs.Runs.{some_same, not_none}
-use Rattle.file_laws.proofs.Going.{Any, Reads, reads_none, reads_then, reads_as, Begins, reads_first, Goes, takes_one, gives_one, to_left, to_right, on_right}
+use Rattle.file_laws.proofs.GoalReads.{Any, Reads, reads_none, reads_then, reads_as, Begins, reads_first, Goes, takes_one, gives_one, to_left, to_right, on_right}
 
 pub reads_append : (gs hs : List Goal) (F G : ℕ → List ℕ → Type 0) → Reads gs F → Reads hs G → Reads (gs ++ hs) (F ▸ G)
 reads_append gs hs F G r s = record {

@@ -1,3 +1,3 @@
 pub mod Faults
 pub mod ShortItems
-pub mod Waiting
+pub mod PieceEnds

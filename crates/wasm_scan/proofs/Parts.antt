@@ -4,7 +4,7 @@ use Rattle.std.specs.List.{flat_map}
 use Rattle.wa_types.specs.declared.syntax.Limits.{Limits}
 use Rattle.wa_types.specs.Binary.{Placed, RawType, RawKind, raw_func, raw_table, raw_memory, raw_global, RawImport, RawBody}
 use Rattle.wa_types.specs.Spells.{◌▸◌, Exactly, Number, Items, Vector, ValueType, FunctionType, LimitsOf, TableType, GlobalType, ImportKindOf, ImportOf, Text, Expression, RunOf, BodyOf, Filling}
-use Rattle.file_laws.proofs.Going.{to_right, on_left, on_right}
+use Rattle.file_laws.proofs.GoalReads.{to_right, on_left, on_right}
 use Rattle.wa_types.specs.ModuleBounds.{ModuleBounds}
 use Rattle.wasm_scan.specs.declared.marks.Marks.{Marks}
 use Rattle.wasm_cursor.specs.declared.front.NotSpelled.{NotSpelled}

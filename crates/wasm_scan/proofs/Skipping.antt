@@ -3,7 +3,7 @@ use Rattle.std.proofs.Common.{◌≡◌, ℕ, ◌+◌, ◌<◌, List, [], ◌∷
 use Rattle.wa_types.specs.Leb.{IsUnsigned}
 use Rattle.wa_types.specs.declared.syntax.Limits.{Limits}
 use Rattle.wa_types.specs.Spells.{◌▸◌, Exactly, Number, Items, Text, TextBytes, Maximum, LimitsOf}
-use Rattle.file_laws.proofs.Going.{on_right}
+use Rattle.file_laws.proofs.GoalReads.{on_right}
 use Rattle.wasm_cursor.specs.declared.front.NotSpelled.{NotSpelled}
 use Rattle.wasm_cursor.specs.Places.{Place, Onward, ReadsNumber}
 use Rattle.wasm_scan.specs.Scanning.{Filled, Skips}

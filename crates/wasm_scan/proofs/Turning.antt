@@ -5,7 +5,7 @@ use Rattle.wa_types.specs.Opcodes.{Follows, no_operand, a_zero, an_index, an_ind
 use Rattle.wa_types.specs.Spells.{◌▸◌, Exactly, Number, SignedNumber, Vector, Items, Byte, BlockType, OperandsOf, CodeOf, Expression}
 use Rattle.wa_types.specs.Marks.{place_if, float_type, code_floats, code_opens}
 use Rattle.file_laws.proofs.CodeReads.{nest_range}
-use Rattle.file_laws.proofs.Going.{to_right, on_left, on_right}
+use Rattle.file_laws.proofs.GoalReads.{to_right, on_left, on_right}
 use Rattle.wa_types.specs.ModuleBounds.{ModuleBounds}
 use Rattle.wasm_scan.specs.declared.marks.Marks.{Marks}
 use Rattle.wasm_cursor.specs.declared.front.NotSpelled.{NotSpelled}

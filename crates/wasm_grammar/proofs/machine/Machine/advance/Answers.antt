@@ -3,7 +3,7 @@ use Rattle.wa_types.specs.Begun.{Inside}
 use Rattle.wasm_goals.specs.Goals.{goal_of}
 use Rattle.wasm_grammar.specs.Machine.{StopsAt}
 use Rattle.wasm_grammar.proofs.Faults.{ready, on_from, end_room, ended_there, stop_there, fault_end, fault_wrong, fault_step, goes_on, on_true, on_false}
-use Rattle.wasm_grammar.proofs.Waiting.{fault_none}
+use Rattle.wasm_grammar.proofs.PieceEnds.{fault_none}
 use Rattle.wasm_grammar.proofs.machine.Machine.advance.Goals as goal
 
 pub returns-in_default-clause-err : goal.returns-in_default-clause-err

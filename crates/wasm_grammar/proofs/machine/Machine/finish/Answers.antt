@@ -1,5 +1,5 @@
 use Rattle.std.proofs.Common.{sym, ◌∙◌}
-use Rattle.wasm_grammar.proofs.Waiting.{fault_more, fault_wanting, whole_there}
+use Rattle.wasm_grammar.proofs.PieceEnds.{fault_more, fault_wanting, whole_there}
 use Rattle.wasm_grammar.proofs.machine.Machine.finish.Goals as goal
 
 pub returns-then-self-bytes-clause-err : goal.returns-then-self-bytes-clause-err

@@ -1,5 +1,5 @@
 use Rattle.std.proofs.Common.{refl}
-use Rattle.wasm_grammar.proofs.Waiting.{first_stands}
+use Rattle.wasm_grammar.proofs.PieceEnds.{first_stands}
 use Rattle.wasm_grammar.proofs.machine.Machine.new.Goals as goal
 
 pub returns : goal.returns
