@@ -8,8 +8,8 @@
 # of a crate passes 60 seconds that isn't among those that are known to. The bars hold for a run of all crates.
 . "$(dirname "$0")/common.sh"
 known="asyncify_app asyncify_cli asyncify_runtime call_graph interp vault_port wa_model wa_types
-    wasm_build wasm_entries wasm_goals wasm_scan wasm_validate"
-old="wa_types wa_ops page_memory wa_model wasm_tree wasm_cursor wasm_goals wasm_grammar wasm_scan wasm_build wasm_reader wasm_validate wasm_entries wasm_encode call_graph asyncify_runtime
+    wasm_build wasm_entries wasm_goals wasm_validate"
+old="wa_types wa_ops page_memory wa_model wasm_tree wasm_cursor wasm_goals wasm_grammar wasm_marks wasm_build wasm_reader wasm_validate wasm_entries wasm_encode call_graph asyncify_runtime
     vault_port interp asyncify_app asyncify_cli command_words printing source_modules round_trip
     definition_check"
 mkdir -p "$bench/out"

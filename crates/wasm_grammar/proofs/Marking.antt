@@ -1,5 +1,5 @@
 -- What an item's notes mark.
-use Rattle.std.proofs.Common.{◌≡◌, ℕ, ◌+◌, List, [], ◌∷◌, ◌++◌, Option, Some, None, IfNone, IfSome, drop, refl, ap, sym, ◌∙◌, subst, append-nil, Bool, true, false, cond, nat_le, nat_eq, ◌&&◌}
+use Rattle.std.proofs.Common.{◌≡◌, ℕ, List, [], ◌∷◌, Option, Some, None, IfNone, IfSome, drop, ap, sym, subst, append-nil, Bool, true, false, cond, nat_le, ◌&&◌}
 use Rattle.wa_types.specs.Begun.{Goal, some_value_types}
 use Rattle.wa_types.specs.Marks.{place_if}
 use Rattle.wa_types.specs.ModuleBounds.{ModuleBounds}
@@ -7,7 +7,7 @@ use Rattle.wa_types.specs.Opcodes.{is_float_op}
 use Rattle.wasm_goals.specs.declared.goals.Goal.{Goal as Wanted}
 use Rattle.wasm_goals.specs.Goals.{goal_of, list_of}
 use Rattle.wasm_marks.specs.declared.marks.Marks.{Marks}
-use Rattle.wasm_marks.specs.Showing.{nothing_seen, floats_seen, opens_seen, parameters_seen, functions_seen, both, opens_level, await_results, op_shown, count_shown, Noted}
+use Rattle.wasm_marks.specs.Showing.{nothing_seen, floats_seen, opens_seen, parameters_seen, both, opens_level, await_results, op_shown, count_shown, Noted}
 use Rattle.wasm_marks.proofs.Noting.{noted_none, noted_both}
 
 pub code_noted : (b : ModuleBounds) (op at level : ℕ) (l m n : Marks) (opens : Bool) → Noted b (floats_seen (place_if (is_float_op op) at)) l m → opens ≡ opens_level op

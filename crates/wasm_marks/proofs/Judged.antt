@@ -1,5 +1,5 @@
 -- What the marks of a file are, by its sections.
-use Rattle.std.proofs.Common.{◌≡◌, ℕ, ◌+◌, ◌*◌, ◌<◌, ◌≤◌, ◌^◌, List, [], ◌∷◌, ◌++◌, map, Option, None, refl, ap, sym, ◌∙◌, subst, arith, append_assoc, length, length-append}
+use Rattle.std.proofs.Common.{◌≡◌, ℕ, ◌+◌, ◌<◌, ◌≤◌, ◌^◌, List, [], ◌∷◌, ◌++◌, map, Option, None, refl, ap, sym, ◌∙◌, subst, arith, append_assoc, length, length-append}
 use Rattle.std.specs.List.{All, flat_map}
 use Rattle.std.proofs.lemmas.List.Concat.{flat_map_single}
 use Rattle.std.proofs.lemmas.List.Elements.{All-nil, All-cons}
@@ -10,7 +10,7 @@ use Rattle.wa_types.specs.Reading.{types_in, imports_in}
 use Rattle.wa_types.specs.Marks.{float_type, code_floats, type_floats, kind_floats, body_floats, kind_sorts, code_opens, section_floats, section_opens, floats, opens, imported_sorts, function_count, parameter_counts, body_sizes, first_above}
 use Rattle.wa_types.specs.ModuleBounds.{ModuleBounds}
 use Rattle.wasm_marks.specs.declared.marks.Marks.{Marks}
-use Rattle.wasm_marks.specs.Showing.{Seen, nothing_seen, both, first_of, above_of, total, Noted, no_marks, MarksAlong}
+use Rattle.wasm_marks.specs.Showing.{Seen, nothing_seen, both, first_of, total, Noted, no_marks, MarksAlong}
 use Rattle.wasm_marks.specs.Found.{IsFirst, MarksOf}
 use Rattle.wasm_marks.proofs.Noting.{total_both}
 use Rattle.wasm_marks.proofs.Showings.{Within, held_along, one_showing}

@@ -1,7 +1,7 @@
 -- Items that show something: one more, that bytes show one thing, and that offsets rise.
-use Rattle.std.proofs.Common.{◌≡◌, ℕ, ◌+◌, ◌*◌, ◌-◌, ◌^◌, ◌<◌, ◌≤◌, List, [], ◌∷◌, ◌++◌, Option, Some, None, Bool, true, false, cond, ◌&&◌, nat_le, nat_eq, refl, ap, sym, ◌∙◌, subst, arith, add-zero, append_assoc, append-nil, length, length-append}
+use Rattle.std.proofs.Common.{◌≡◌, ℕ, ◌+◌, ◌*◌, ◌^◌, ◌<◌, ◌≤◌, List, [], ◌∷◌, ◌++◌, Bool, true, false, cond, ◌&&◌, nat_le, nat_eq, refl, ap, sym, ◌∙◌, subst, arith, add-zero, append_assoc, append-nil, length, length-append}
 use Rattle.wa_types.specs.Opcodes.{is_float_type, is_float_op}
-use Rattle.wa_types.specs.Begun.{Goal, exact, sections, size, head, until, rest, entries, count, number, name, value_type, block_type, mutable, import_kind, space, limits, signed, name_bytes, float_bytes, code, Kind, some_types, some_imports, some_functions, some_tables, some_memories, some_globals, some_exports, some_elements, some_bodies, some_segments, some_value_types, some_runs, some_indices, some_bytes, IsItem, wants, Steps}
+use Rattle.wa_types.specs.Begun.{Goal, head, entries, count, value_type, block_type, import_kind, code, Kind, some_globals, some_bodies, some_value_types, IsItem, wants, Steps}
 use Rattle.wa_types.specs.Marks.{place_if}
 use Rattle.wa_types.specs.ModuleBounds.{ModuleBounds}
 use Rattle.file_laws.proofs.Items.{item_some, one_item, same_cut, place_of}

@@ -1,14 +1,14 @@
 -- What code shows.
-use Rattle.std.proofs.Common.{◌≡◌, ℕ, suc, zero, ◌+◌, ◌<◌, ◌≤◌, ◌⊎◌, List, [], ◌∷◌, ◌++◌, Option, Some, None, refl, ap, sym, ◌∙◌, subst, arith, append_assoc, length, Bool, true, false, inl, inr, cond, nat_eq, nat_le, IsTrue, ◌||◌, ◌&&◌}
+use Rattle.std.proofs.Common.{◌≡◌, ℕ, ◌+◌, ◌<◌, List, [], ◌∷◌, ◌++◌, Option, Some, None, refl, ap, sym, ◌∙◌, subst, arith, append_assoc, length, Bool, true, false, inl, inr, cond, nat_eq, nat_le, IsTrue, ◌&&◌}
 use Rattle.wa_types.specs.Opcodes.{Follows, no_operand, a_zero, an_index, an_index_and_zero, an_access, some_labels, a_constant, a_float, follows, shape, within, is_nest, is_float_op}
 use Rattle.wa_types.specs.Binary.{Placed, Operands, nothing, zero_byte, index, index_and_zero, access, labels, constant, float, RawCode, ended, otherwise, instr, nested, branched}
-use Rattle.wa_types.specs.Begun.{Goal, code, exact, number, block_type, signed, count, some_indices, float_bytes, next, where_true, operands, operands_of, behind_opcode}
+use Rattle.wa_types.specs.Begun.{Goal, code, exact, number, block_type, count, some_indices, float_bytes, next, where_true, operands, behind_opcode}
 use Rattle.wa_types.specs.Marks.{place_if, float_type, code_floats, code_opens}
 use Rattle.wa_types.specs.ModuleBounds.{ModuleBounds}
-use Rattle.wa_types.specs.Spells.{◌▸◌, Exactly, Number, SignedNumber, Vector, Byte, BlockType, OperandsOf, CodeOf}
+use Rattle.wa_types.specs.Spells.{◌▸◌, Exactly, Number, Vector, Byte, BlockType, OperandsOf, CodeOf}
 use Rattle.file_laws.proofs.CodeReads.{nest_range, refuted, none_nest}
-use Rattle.wasm_marks.specs.Showing.{Seen, nothing_seen, floats_seen, opens_seen, both, shown, levels, opens_level}
-use Rattle.wasm_marks.proofs.Telling.{Tells, Gives, give, give_byte, gives_none, gives_then, gives_as, gives_same, gives_from, gives_number, gives_numbers, gives_signed, gives_exact, gives_block_type, seen_placed}
+use Rattle.wasm_marks.specs.Showing.{Seen, nothing_seen, opens_seen, both, shown, levels, opens_level}
+use Rattle.wasm_marks.proofs.Telling.{Tells, Gives, give, give_byte, gives_none, gives_then, gives_as, gives_same, gives_number, gives_numbers, gives_signed, gives_exact, gives_block_type, seen_placed}
 
 -- the table's floats have bytes
 HasBytes : Follows → Type 0

@@ -1,6 +1,6 @@
 -- What the items of a file show of that which it is judged by besides its spelling.
 use Rattle.std.specs.Prelude.{◌≡◌, ℕ, ◌+◌, ◌<◌, ◌^◌, List, [], ◌∷◌, ◌++◌, length, Option, Some, None, Bool, true, false, nat_le, ◌==◌, ◌&&◌, ◌||◌, if◌then◌else◌}
-use Rattle.wa_types.specs.Begun.{Goal, head, entries, count, value_type, block_type, import_kind, code, Kind, some_types, some_imports, some_functions, some_tables, some_memories, some_globals, some_exports, some_elements, some_bodies, some_segments, some_value_types, some_runs, some_indices, some_bytes, wants, IsItem, Steps}
+use Rattle.wa_types.specs.Begun.{Goal, head, entries, count, value_type, block_type, import_kind, code, Kind, some_globals, some_bodies, some_value_types, wants, IsItem, Steps}
 use Rattle.wa_types.specs.Marks.{place_if, first_above}
 use Rattle.wa_types.specs.ModuleBounds.{ModuleBounds}
 use Rattle.wa_types.specs.Opcodes.{is_float_type, is_float_op, is_nest}

@@ -1,4 +1,4 @@
-use Rattle.std.proofs.Common.{◌∙◌, ap}
+use Rattle.std.proofs.Common.{ap}
 use Rattle.wasm_goals.specs.Goals.{stack_of}
 use Rattle.wasm_goals.proofs.GoalStacks.{no_goals, levels_none}
 use Rattle.wasm_goals.proofs.stack.Goals.none.Goals as goal

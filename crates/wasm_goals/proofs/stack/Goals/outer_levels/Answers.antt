@@ -1,4 +1,4 @@
-use Rattle.std.proofs.Common.{◌∙◌, sym, ap, drop}
+use Rattle.std.proofs.Common.{◌∙◌, ap, drop}
 use Rattle.wasm_goals.specs.Goals.{goal_of}
 use Rattle.wasm_marks.specs.Showing.{levels}
 use Rattle.wasm_goals.proofs.GoalStacks.{level_popped, levels_behind_none}

@@ -1,4 +1,4 @@
-use Rattle.std.proofs.Common.{◌≡◌, ◌∷◌, ◌∙◌, sym, ap, Some, None}
+use Rattle.std.proofs.Common.{◌∙◌, sym, ap}
 use Rattle.wa_types.specs.Begun.{end_of}
 use Rattle.wasm_goals.specs.Goals.{goal_of, stack_of}
 use Rattle.wasm_goals.specs.Ends.{least_ends}

@@ -1,4 +1,4 @@
-use Rattle.std.proofs.Common.{◌≡◌, ◌+◌, ◌<◌, ◌^◌, ◌∙◌, sym, ap, Some, reverse, [], ◌∷◌, length, length-append, arith}
+use Rattle.std.proofs.Common.{◌∙◌, sym, ap, Some, reverse, [], ◌∷◌, length, length-append, arith}
 use Rattle.wasm_goals.specs.Goals.{goal_of, stack_of}
 use Rattle.wasm_goals.specs.Ends.{least_ends, lowered}
 use Rattle.wasm_marks.specs.Showing.{levels}
