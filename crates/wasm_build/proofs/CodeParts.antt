@@ -12,11 +12,9 @@ use Rattle.wa_types.specs.Reading.{IsCode}
 use Rattle.wa_types.proofs.ViewLemmas.{in_block, in_loop, in_if, onto_done, is_block, is_loop, is_if, is_plain, kind}
 use Rattle.wasm_build.specs.declared.BuildFault.{BuildFault}
 use Rattle.wasm_build.specs.declared.BuildFault.TheVariants.{Memory}
-use Rattle.wasm_build.specs.declared.code.Next.{Next}
-use Rattle.wasm_build.specs.declared.code.Next.TheVariants.{Instr as an_instr, Block as open_block, Loop as open_loop, If as open_if, End as an_end, Else as an_else}
 use Rattle.wasm_cursor.specs.Places.{Place}
 use Rattle.wasm_build.specs.Builds.{Between, Builds}
-use Rattle.wasm_build.specs.BuildsCode.{SpelledCode, SpelledExpression, SpelledResult, SpelledConstruct, SpelledArms, GivesNext, GivesNest, BuildsNext, IsOfOpcode, SpelledPlain, alone}
+use Rattle.wasm_build.specs.BuildsCode.{Next, an_instr, open_block, open_loop, open_if, an_else, an_end, SpelledCode, SpelledExpression, SpelledResult, SpelledConstruct, SpelledArms, GivesNext, GivesNest, BuildsNext, IsOfOpcode, SpelledPlain, alone}
 use Rattle.wasm_build.proofs.Betweens.{Parts, parts, behind_first, nothing_between}
 
 -- What code begins with, by its first byte, and what stands behind that byte.

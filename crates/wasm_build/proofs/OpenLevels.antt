@@ -11,14 +11,12 @@ use Rattle.wa_types.specs.View.{code, onto}
 use Rattle.wa_types.proofs.ViewLemmas.{onto_append, onto_done, onto_none}
 use Rattle.wasm_build.specs.declared.BuildFault.{BuildFault}
 use Rattle.wasm_build.specs.declared.BuildFault.TheVariants.{Memory, NotSpelled}
-use Rattle.wasm_build.specs.declared.code.Next.{Next}
-use Rattle.wasm_build.specs.declared.code.Next.TheVariants.{Instr as an_instr, Block as open_block, Loop as open_loop, If as open_if, End as an_end, Else as an_else}
 use Rattle.wasm_build.specs.declared.levels.Opened.{Opened}
 use Rattle.wasm_build.specs.declared.levels.Opened.TheVariants.{Block, Loop, Then, Else}
 use Rattle.wasm_build.specs.declared.levels.Level.{Level}
 use Rattle.wasm_cursor.specs.Places.{Place}
 use Rattle.wasm_build.specs.Builds.{Between, Builds}
-use Rattle.wasm_build.specs.BuildsCode.{SpelledCode, SpelledExpression, BuildsNext}
+use Rattle.wasm_build.specs.BuildsCode.{Next, an_instr, open_block, open_loop, open_if, an_else, an_end, SpelledCode, SpelledExpression, BuildsNext}
 use Rattle.wasm_build.specs.BuildsLevels.{Inside, Ahead, Running, Turned, Turns, closed, IsTurned, IsLost}
 use Rattle.wasm_build.proofs.Betweens.{fails}
 use Rattle.wasm_build.proofs.CodeParts.{whole_is}
@@ -274,3 +272,7 @@ turn_close q levels low l body new_body e on there err = λ old here new r n.
 -- an exit with the fault of a turn
 pub turn_fails : {old last : Place} {d y : BuildFault} {q : Result (Vec Instr Global) BuildFault} → q ≡ Err y → y ≡ d → Builds view SpelledExpression (Err d) old last → Builds view SpelledExpression q old last
 turn_fails e f n = record { built = λ c end b. fails view _ c _ end _ _ e f (n.built c end b) }
+
+-- a fault of what stands next
+pub turned_stop : {old here new : Place} {levels : List Level} {got : List Instr} (new_levels : List Level) (body : Vec Instr Global) (q : Result Bool BuildFault) (y : BuildFault) → q ≡ Err y → BuildsNext (Err y) here new → Running old levels got here → Turned q old new_levels body new
+turned_stop {old = old} {new = new} new_levels body q y e n r = subst (λ z. Turned z old new_levels body new) (sym e) (next_stop r n refl refl)

@@ -10,8 +10,6 @@ use Rattle.wa_types.specs.Spells.{◌▸◌, BlockType, OperandsOf, CodeOf}
 use Rattle.wa_types.specs.Reading.{plain_opcode, plain_operands, HasKind, IsCode}
 use Rattle.wasm_build.specs.declared.BuildFault.{BuildFault}
 use Rattle.wasm_build.specs.declared.BuildFault.TheVariants.{Memory, NotSpelled}
-use Rattle.wasm_build.specs.declared.code.Next.{Next}
-use Rattle.wasm_build.specs.declared.code.Next.TheVariants.{Instr as an_instr, Block as open_block, Loop as open_loop, If as open_if, End as an_end, Else as an_else}
 use Rattle.wasm_cursor.specs.Places.{Place}
 use Rattle.wasm_build.specs.Builds.{Between, SpelledAs, IsResult}
 
@@ -32,6 +30,12 @@ SpelledConstruct x = SpelledResult x.0 ▸ SpelledExpression x.1
 -- the result and the arms of an if
 abbrev pub SpelledArms : Option ValType × Code × Code → ℕ → List ℕ → Type 0
 SpelledArms x = SpelledResult x.0 ▸ SpelledCode true x.1 x.2
+
+-- What stands next in a sequence: an instruction that holds no other, the head of a construct with its result, an else or an end.
+pub data Next : Type 0 where
+  an_instr : Instr → Next
+  open_block open_loop open_if : (ty : Option ValType) → Next
+  an_else an_end : Next
 
 -- a block or a loop before the rest: its body is spelled from here to a place, and from there on the rest
 abbrev pub GivesNest : Shape → Option ValType → (first_arm : Bool) → (body else_arm : Code) → (new end : Place) → Type 0

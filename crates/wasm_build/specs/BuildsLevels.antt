@@ -11,10 +11,9 @@ use Rattle.wasm_build.specs.declared.BuildFault.TheVariants.{Memory, NotSpelled}
 use Rattle.wasm_build.specs.declared.levels.Opened.{Opened}
 use Rattle.wasm_build.specs.declared.levels.Opened.TheVariants.{Block, Loop, Then, Else}
 use Rattle.wasm_build.specs.declared.levels.Level.{Level}
-use Rattle.wasm_build.specs.declared.code.Next.{Next}
 use Rattle.wasm_cursor.specs.Places.{Place}
 use Rattle.wasm_build.specs.Builds.{Between, Builds}
-use Rattle.wasm_build.specs.BuildsCode.{SpelledCode, SpelledExpression, BuildsNext}
+use Rattle.wasm_build.specs.BuildsCode.{Next, SpelledCode, SpelledExpression, BuildsNext}
 
 -- the construct before the rest, where this is its body
 abbrev pub closed : Opened → Option ValType → (body rest : Code) → Code

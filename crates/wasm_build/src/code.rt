@@ -1,27 +1,17 @@
 ghost use Rattle.std.specs.Prelude.{◌<◌, ◌≤◌, length, IfOk};
 ghost use Rattle.wa_types.specs.View.{code};
+ghost use Rattle.wasm_cursor.specs.Places.{Place};
 ghost use Rattle.wasm_build.specs.Builds.{Builds};
-ghost use Rattle.wasm_build.specs.BuildsCode.{BuildsNext, SpelledExpression};
+ghost use Rattle.wasm_build.specs.BuildsCode.{SpelledExpression};
+ghost use Rattle.wasm_build.specs.BuildsLevels.{Running, Turned};
 
 use crate::BuildFault;
-use crate::levels::{Level, go_on};
+use crate::levels::{Level, Opened, end, open, turn};
 use crate::plain::plain;
 use crate::types::block_type;
 use std::alloc::Global;
-use wa_types::{Instr, ValType};
+use wa_types::Instr;
 use wasm_cursor::Cursor;
-
-/// What stands next in a sequence of instructions.
-#[derive(Drop)]
-pub(crate) enum Next {
-    /// An instruction that holds no other.
-    Instr(Instr),
-    Block(Option<ValType>),
-    Loop(Option<ValType>),
-    If(Option<ValType>),
-    Else,
-    End,
-}
 
 /// An expression (standard, section 5.4.6): the instructions up to their end. Constructs that are open wait on a stack.
 pub(crate) fn expression(alloc: Global, input: &mut Cursor<'_>) -> Result<Vec<Instr>, BuildFault>
@@ -32,34 +22,44 @@ pub(crate) fn expression(alloc: Global, input: &mut Cursor<'_>) -> Result<Vec<In
     // A level of one instruction takes room for no more.
     let mut body = Vec::with_capacity(alloc, 1)?;
     loop {
-        let next = next_of(alloc, input)?;
-        if go_on(alloc, &mut levels, &mut body, next)? {
+        if go_on(alloc, input, &mut levels, &mut body)? {
             return Ok(body);
         }
     }
 }
 
-// The next instruction, the head of a construct, or the end or the else that stands in its place (standard, section 5.4).
-fn next_of(alloc: Global, input: &mut Cursor<'_>) -> Result<Next, BuildFault>
-    ensures built { BuildsNext result input.old input.new }
+// Takes what stands next (standard, section 5.4) in a body inside these constructs: an instruction that holds no other, the head of
+// a construct, an else or an end. True where that ends the expression, which the body then is.
+#[inline(always)]
+fn go_on(
+    alloc: Global,
+    input: &mut Cursor<'_>,
+    levels: &mut Vec<Level>,
+    body: &mut Vec<Instr>,
+) -> Result<bool, BuildFault>
+    ensures on { (old : Place) → Running old levels.old.items body.old.items input.old → Turned result old levels.new.items body.new input.new }
     ensures left { length input.new.left ≤ length input.old.left }
     ensures falls { IfOk result (λ _. length input.new.left < length input.old.left) }
 {
     match input.byte()? {
-        0x0B => Ok(Next::End),
-        0x05 => Ok(Next::Else),
+        0x0B => end(alloc, levels, body),
+        0x05 => turn(alloc, levels, body),
         0x02 => {
-            let result = block_type(input)?;
-            Ok(Next::Block(result))
+            let ty = block_type(input)?;
+            open(alloc, levels, body, ty, Opened::Block)
         }
         0x03 => {
-            let result = block_type(input)?;
-            Ok(Next::Loop(result))
+            let ty = block_type(input)?;
+            open(alloc, levels, body, ty, Opened::Loop)
         }
         0x04 => {
-            let result = block_type(input)?;
-            Ok(Next::If(result))
+            let ty = block_type(input)?;
+            open(alloc, levels, body, ty, Opened::Then)
         }
-        op => Ok(Next::Instr(plain(alloc, input, op)?)),
+        op => {
+            let instr = plain(alloc, input, op)?;
+            body.push(instr)?;
+            Ok(false)
+        }
     }
 }

@@ -4,11 +4,10 @@ ghost use Rattle.std.specs.Result.{IfErr};
 ghost use Rattle.wa_types.specs.Syntax.{Code};
 ghost use Rattle.wa_types.specs.View.{code, in_front, onto};
 ghost use Rattle.wasm_build.specs.declared.BuildFault.TheVariants.{Memory};
-ghost use Rattle.wasm_build.specs.declared.code.Next.TheVariants.{Else as an_else, End as an_end};
+ghost use Rattle.wasm_build.specs.BuildsCode.{an_else, an_end};
 ghost use Rattle.wasm_build.specs.BuildsLevels.{IsTurned, IsLost, Turns, closed};
 
 use crate::BuildFault;
-use crate::code::Next;
 use std::alloc::Global;
 use std::mem;
 use wa_types::{Instr, ValType};
@@ -34,30 +33,8 @@ pub(crate) struct Level {
     pub(crate) opened: Opened,
 }
 
-/// Takes what stands next in a body inside these constructs; true where that ends the expression, which the body then is.
-pub(crate) fn go_on(
-    alloc: Global,
-    levels: &mut Vec<Level>,
-    body: &mut Vec<Instr>,
-    next: Next,
-) -> Result<bool, BuildFault>
-    ensures { Turns next levels.old.items body.old result levels.new.items body.new }
-{
-    match next {
-        Next::Instr(instr) => {
-            body.push(instr)?;
-            Ok(false)
-        }
-        Next::Block(ty) => open(alloc, levels, body, ty, Opened::Block),
-        Next::Loop(ty) => open(alloc, levels, body, ty, Opened::Loop),
-        Next::If(ty) => open(alloc, levels, body, ty, Opened::Then),
-        Next::Else => turn(alloc, levels, body),
-        Next::End => end(alloc, levels, body),
-    }
-}
-
-// Opens a construct of this kind and result behind the instructions of a body, and begins its own.
-fn open(
+/// Opens a construct of this kind and result behind the instructions of a body, and begins its own.
+pub(crate) fn open(
     alloc: Global,
     levels: &mut Vec<Level>,
     body: &mut Vec<Instr>,
@@ -79,8 +56,12 @@ fn open(
     Ok(false)
 }
 
-// An else: the body is the first arm of the innermost construct.
-fn turn(alloc: Global, levels: &mut Vec<Level>, body: &mut Vec<Instr>) -> Result<bool, BuildFault>
+/// An else: the body is the first arm of the innermost construct.
+pub(crate) fn turn(
+    alloc: Global,
+    levels: &mut Vec<Level>,
+    body: &mut Vec<Instr>,
+) -> Result<bool, BuildFault>
     ensures { Turns an_else levels.old.items body.old result levels.new.items body.new }
 {
     match levels.pop() {
@@ -117,8 +98,12 @@ fn turn_level(
     }
 }
 
-// An end: that of the innermost construct, or of the expression.
-fn end(alloc: Global, levels: &mut Vec<Level>, body: &mut Vec<Instr>) -> Result<bool, BuildFault>
+/// An end: that of the innermost construct, or of the expression, which the body then is.
+pub(crate) fn end(
+    alloc: Global,
+    levels: &mut Vec<Level>,
+    body: &mut Vec<Instr>,
+) -> Result<bool, BuildFault>
     ensures { Turns an_end levels.old.items body.old result levels.new.items body.new }
 {
     match levels.pop() {
