@@ -1,14 +1,15 @@
 -- The stack of goals, whose top is the last of a list, and the least ends beside it.
 use Rattle.std.proofs.Common.{◌≡◌, ℕ, ◌+◌, ◌-◌, ◌<◌, ◌≤◌, List, [], ◌∷◌, ◌++◌, Option, Some, None, refl, ap, sym, ◌∙◌, subst, arith, length, length-take-le, take, drop, reverse, map, get_or, min, Bool, true, false, nat_lt, MatchBool}
-use Rattle.std.proofs.lemmas.List.{reverse-append, take_more, take_all, drop-map, drop-drop, get_or-take}
+use Rattle.std.proofs.lemmas.List.{length-map, length-reverse, reverse-append, take_more, take_all, drop-map, drop-drop, get_or-take}
 use Rattle.std.proofs.lemmas.Bool.{ltb-true, ltb-false}
 use Rattle.std.specs.Option.{is_some}
-use Rattle.wa_types.specs.Begun.{Goal, end_of, Inside, IsBefore, settled, closing, passed, next, Steps}
+use Rattle.wa_types.specs.Begun.{Goal, code, end_of, Inside, IsBefore, settled, closing, passed, next, Steps}
 use Rattle.file_laws.proofs.Runs.{some_same}
 use Rattle.wasm_goals.specs.declared.goals.Goal.{Goal as Wanted}
 use Rattle.wasm_goals.specs.Goals.{goal_of, stack_of}
 use Rattle.wasm_goals.specs.declared.ends.Closing.{Closing}
 use Rattle.wasm_goals.specs.Ends.{lowered, least_ends, by_closing, NoStep}
+use Rattle.wasm_marks.specs.Showing.{level_of, levels}
 
 pub stack_push : (xs : List Wanted) (x : Wanted) → stack_of (xs ++ x ∷ []) ≡ goal_of x ∷ stack_of xs
 stack_push xs x = ap (map goal_of) (reverse-append xs (x ∷ []))
@@ -156,3 +157,55 @@ step_by_end g gs new put left v at end pushed e settles least = by_test (nat_lt 
   by_test : (t : Bool) → nat_lt at end ≡ t → MatchBool t (Steps g gs v at left) (NoStep g gs v at)
   by_test true h = record { new = new; pushed = sym pushed; settles = settled_so; inside = least.0 (ltb-true at end h) }
   by_test false h = λ hs s. least.1 (ltb-false at end h) (subst (Inside at) (left_so hs s) s.inside)
+
+-- the levels of code
+end_flat : (g : Goal) (e : ℕ) → end_of g ≡ Some e → level_of g ≡ 0
+end_flat (code first_arm) e h = absurd (cc)
+end_flat _ e h = refl
+
+level_small : (g : Goal) → level_of g ≤ 1
+level_small (code first_arm) = omega arith
+level_small _ = omega arith
+
+levels_few : (gs : List Goal) → levels gs ≤ length gs
+unfolding levels
+levels_few [] = omega arith
+levels_few (g ∷ gs) = omega (arith, level_small g, levels_few gs)
+
+long_stack : (xs : List Wanted) → length (stack_of xs) ≡ length xs
+long_stack xs = length-map (reverse xs) goal_of ∙ length-reverse xs
+
+-- there is room for one more
+pub levels_fit : (xs : List Wanted) (codes : ℕ) → codes ≡ levels (stack_of xs) → codes ≤ length xs
+levels_fit xs codes e = omega (arith, e, levels_few (stack_of xs), long_stack xs)
+
+pub level_one : (g : Goal) → level_of g ≤ 1
+level_one g = level_small g
+
+pub level_pushed : (g : Goal) (gs : List Goal) (codes level : ℕ) → codes ≡ levels gs → level ≡ level_of g → codes + level ≡ levels (g ∷ gs)
+unfolding levels
+level_pushed g gs codes level e f = omega (arith, e, f)
+
+pub end_pushed_flat : (g : Goal) (gs : List Goal) (codes e : ℕ) → codes ≡ levels gs → end_of g ≡ Some e → codes ≡ levels (g ∷ gs)
+unfolding levels
+end_pushed_flat g gs codes e h f = omega (arith, h, end_flat g e f)
+
+pub level_popped : (g : Goal) (gs : List Goal) (codes level : ℕ) → codes ≡ levels (g ∷ gs) → level ≡ level_of g → (level ≤ codes) × (codes - level ≡ levels gs)
+unfolding levels
+level_popped g gs codes level e f = (omega (arith, e, f), omega (arith, e, f))
+
+pub levels_none : (gs : List Goal) → gs ≡ [] → 0 ≡ levels gs
+unfolding levels
+levels_none gs e = sym (ap levels e)
+
+pub levels_behind_none : (gs : List Goal) → gs ≡ [] → 0 ≡ levels (drop 1 gs)
+unfolding levels
+levels_behind_none gs e = sym (ap (λ z. levels (drop 1 z)) e)
+
+one_left : (gs : List Goal) → length gs < 2 → drop 1 gs ≡ []
+one_left [] h = refl
+one_left (g ∷ []) h = refl
+one_left (g ∷ k ∷ gs) h = absurd (omega arith)
+
+pub none_second : (xs : List Wanted) → length xs < 2 → drop 1 (stack_of xs) ≡ []
+none_second xs h = one_left (stack_of xs) (omega (arith, h, long_stack xs))

@@ -97,3 +97,6 @@ too_many b bytes m n found s l e = same_above b.locals s.sections m s.is_module 
 pub few_bytes : (b : ModuleBounds) (bytes : List ℕ) → (b ≡ source_bounds) ⊎ (b ≡ prepared_bounds) → length bytes ≤ b.file → length bytes < 2 ^ 31
 few_bytes b bytes (inl e) l = omega (arith, l, ap (λ (z : ModuleBounds). z.file) e)
 few_bytes b bytes (inr e) l = omega (arith, l, ap (λ (z : ModuleBounds). z.file) e)
+
+pub short_file : (b : ModuleBounds) (bytes : List ℕ) → (b ≡ source_bounds) ⊎ (b ≡ prepared_bounds) → length bytes ≤ b.file → length bytes < 2 ^ 32
+short_file b bytes columns few = omega (arith, few_bytes b bytes columns few)
