@@ -7,7 +7,8 @@ use Rattle.wa_types.specs.declared.operators.NumOp.TheVariants.{I32Add, I32Sub, 
 use Rattle.wa_types.specs.declared.syntax.Run.{Run}
 use Rattle.wa_types.specs.declared.syntax.Import.{Import}
 use Rattle.wa_types.specs.declared.syntax.ImportKind.TheVariants.{Func as a_func_import}
-use Rattle.wa_types.specs.Syntax.{drop, const, num, load, store, memory_grow, Plain, basic, local_get, local_set, local_tee, br_if, br_table, call, call_indirect, a_block, a_loop, Code, done, plain, nest, branch, FuncType, Func, Module}
+use Rattle.wa_types.specs.Syntax.{drop, const, num, load, store, memory_grow, Plain, basic, local_get, local_set, local_tee, br_if, br_table, call, call_indirect, a_block, a_loop, Code}
+use Rattle.wa_types.specs.Syntax.{done, plain, nest, branch, FuncType, Func, Module}
 use Rattle.wa_types.specs.Pausing.{save_all, save_live, every, Numbered}
 use Rattle.wa_types.specs.Frames.{Place, Saved, Suspended, Room, Fit, Count}
 use Rattle.wa_types.specs.Bounds.{Weight}

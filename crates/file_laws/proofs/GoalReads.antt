@@ -1,5 +1,6 @@
 -- From goals on, bytes lead to the end of a file. A goal reads what a spelling says where these are the same.
-use Rattle.std.proofs.Common.{◌≡◌, ℕ, ◌+◌, List, [], ◌∷◌, ◌++◌, Option, Some, None, refl, ap, sym, ◌∙◌, subst, arith, add-zero, append_assoc, length, length-append, Bool, true, false, cond, nat_eq, eqb-true, IsTrue}
+use Rattle.std.proofs.Common.{◌≡◌, ℕ, ◌+◌, List, [], ◌∷◌, ◌++◌, Option, Some, None, refl, ap, sym, ◌∙◌, subst, arith, add-zero, append_assoc, length, length-append, Bool, true, false, cond}
+use Rattle.std.proofs.Common.{nat_eq, eqb-true, IsTrue}
 use Rattle.wa_types.specs.Begun.{Goal, sections, until, Item, IsItem, wants, Steps, Leads, arrived, item, Inside, open_ended, closing, settled, next, where_true}
 use Rattle.wa_types.specs.Spells.{◌▸◌, Exactly}
 use Rattle.file_laws.proofs.Items.{item_some, place_of}
@@ -145,7 +146,8 @@ pub record Begins (i : Item) (F : (v at : ℕ) → ℕ → List ℕ → Type 0) 
   pub follows : F value (at + length front) (at + length front) back
 
 -- A goal reads its item, and then what comes in its place.
-pub reads_first : (g : Goal) (F : (v at : ℕ) → ℕ → List ℕ → Type 0) → closing g ≡ open_ended → is_sections g ≡ false → ((v at : ℕ) → ReadsNext (next g v at) (F v at)) → Reads (g ∷ []) (Begins (wants g) F)
+pub reads_first : (g : Goal) (F : (v at : ℕ) → ℕ → List ℕ → Type 0) → closing g ≡ open_ended → is_sections g ≡ false → ((v at : ℕ) → ReadsNext (next g v at) (F v at))
+    → Reads (g ∷ []) (Begins (wants g) F)
 reads_first g F c o r = record {
   sound = λ more last at bytes h.
       let f = takes_one g more last at bytes c o h in

@@ -44,7 +44,8 @@ entry_next : (k : Kind) (n v at : ℕ) → next (entries k n) v at ≡ and_then 
 unfolding next
 entry_next k n v at = refl
 
-pushed_one : (k : Kind) (n v at : ℕ) (new : List Goal) → next (entries k (suc (suc n))) v at ≡ Some new → (e : List Goal) × (next (entries k 1) v at ≡ Some (e ++ [])) × (new ≡ e ++ entries k (suc n) ∷ [])
+pushed_one : (k : Kind) (n v at : ℕ) (new : List Goal) → next (entries k (suc (suc n))) v at ≡ Some new
+    → (e : List Goal) × (next (entries k 1) v at ≡ Some (e ++ [])) × (new ≡ e ++ entries k (suc n) ∷ [])
 pushed_one k n v at new p =
     let t = and_then_some (entry k v at) (others k (suc (suc n))) new (sym (entry_next k (suc (suc n)) v at) ∙ p) in
     (t.0, entry_next k 1 v at ∙ ap (λ o. and_then o []) t.1, t.2 ∙ ap (λ z. t.0 ++ z) (others_more k n))

@@ -123,7 +123,8 @@ pub record CallAt (n : Names) (v : Walk) (i : Instr) (taken : ℕ) (given : Bool
   pub goes_on : is_last call ≡ false
   pub there : taken ≤ length (all_of v)
   pub changed : (mids : List ValType) → Takes (sig v.around v.labels call) v.own mids → Changed taken (bit given) (all_of v) (mids ++ v.under)
-  pub flat_is : (behind : List ValType) (rest : Stmts) → flat_plain n v.around v.labels (all_of v) behind call rest ≡ calls (plain call done) (reverse (slots n (all_of v))) taken (top_of n (bit given) behind) rest
+  pub flat_is : (behind : List ValType) (rest : Stmts) → flat_plain n v.around v.labels (all_of v) behind call rest
+      ≡ calls (plain call done) (reverse (slots n (all_of v))) taken (top_of n (bit given) behind) rest
 
 -- ---- constructs
 
@@ -145,7 +146,8 @@ pub record Closed (n : Names) (given : Option ValType) (p q : Position) (old new
 -- a block is put, and what goes behind it
 pub record PutBlock (n : Names) (given : Option ValType) (inner : List Stmt) (p q : Position) (old new : List Stmt) : Type 0 where
   pub now : HeldToo n p q
-  pub puts : (rest : List ValType) (k : Stmts) → all_of p.typing ≡ listed given ++ rest → onto_stmts new k ≡ onto_stmts old (nests a_block (stmts inner) (arrive n (length p.labels.items) given rest k))
+  pub puts : (rest : List ValType) (k : Stmts) → all_of p.typing ≡ listed given ++ rest
+      → onto_stmts new k ≡ onto_stmts old (nests a_block (stmts inner) (arrive n (length p.labels.items) given rest k))
 
 -- a loop is put
 pub record PutLoop (n : Names) (inner : List Stmt) (p q : Position) (old new : List Stmt) : Type 0 where
@@ -155,4 +157,5 @@ pub record PutLoop (n : Names) (inner : List Stmt) (p q : Position) (old new : L
 -- an if is put, and what goes behind it
 pub record PutIf (n : Names) (given : Option ValType) (condition : ℕ) (then_arm else_arm : List Stmt) (p q : Position) (old new : List Stmt) : Type 0 where
   pub now : HeldToo n p q
-  pub puts : (rest : List ValType) (k : Stmts) → all_of p.typing ≡ listed given ++ rest → onto_stmts new k ≡ onto_stmts old (decides (Local condition) (stmts then_arm) (stmts else_arm) (arrive n (length p.labels.items) given rest k))
+  pub puts : (rest : List ValType) (k : Stmts) → all_of p.typing ≡ listed given ++ rest
+      → onto_stmts new k ≡ onto_stmts old (decides (Local condition) (stmts then_arm) (stmts else_arm) (arrive n (length p.labels.items) given rest k))

@@ -51,7 +51,8 @@ pub record SurveyedOne (v w : Walk) (i : Instr) (a b : Found) : Type 0 where
   pub stays : Stays v w
   pub typed : Types v.around v.labels (in_front i done) w.own v.own
   pub covers : Covers a.slots.items (all_of v) → Covers b.slots.items (all_of w)
-  pub slots : Covers a.slots.items (all_of v) → (rest : Code) (h : ℕ) (t : ValType) → (is_marked b.slots.items h t || any_point h t w rest) ≡ (is_marked a.slots.items h t || any_point h t v (in_front i rest))
+  pub slots : Covers a.slots.items (all_of v) → (rest : Code) (h : ℕ) (t : ValType) → (is_marked b.slots.items h t || any_point h t w rest)
+      ≡ (is_marked a.slots.items h t || any_point h t v (in_front i rest))
   pub results : (rest : Code) (d : ℕ) (t : ValType) → (is_marked b.results.items d t || any_result d t w rest) ≡ (is_marked a.results.items d t || any_result d t v (in_front i rest))
   pub few : found_count b ≤ found_count a + code_items (in_front i done)
 

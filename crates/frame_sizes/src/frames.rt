@@ -260,7 +260,8 @@ pub fn room(
     policy: Policy,
     stack: &[Suspended],
 ) -> Result<Option<u64>, AllocError>
-    ensures { IfOk result (λ o. MatchOption o (2 ^ 64 ≤ Room (module_of valid.now) (policy_of policy) (map suspended_of stack.now)) (λ n. n ≡ Room (module_of valid.now) (policy_of policy) (map suspended_of stack.now))) }
+    ensures { IfOk result (λ o. MatchOption o (2 ^ 64 ≤ Room (module_of valid.now) (policy_of policy) (map suspended_of stack.now))
+        (λ n. n ≡ Room (module_of valid.now) (policy_of policy) (map suspended_of stack.now))) }
 {
     let mut size = 8;
     for activation in stack {

@@ -78,7 +78,8 @@ pub data BehindPiece (w : Sides) : Role → (by : ℕ) → (tail : Code) → (ou
       → BodyPlace w.state f k (if_unit c fa a fb b behind rest) xs
       → BehindPiece w (with_guards f) 1 (branch None (followed_by fa (flat_units a)) (followed_by fb (flat_units b)) (followed_by behind (flat_units rest))) (flat_labels f xs)
       (block_label h 1 (branch None (arm a fa (front (indices_of w.state f) (exit_inside (exit_at f xs) a_block (any_unit rest)) (suc (length xs)) k fa a))
-      (arm b fb (front (indices_of w.state f) (exit_inside (exit_at f xs) a_block (any_unit rest)) (suc (length xs)) (k + numbers_in a) fb b)) (front (indices_of w.state f) (exit_at f xs) (length xs) (k + numbers_in a + numbers_in b) behind rest))
+      (arm b fb (front (indices_of w.state f) (exit_inside (exit_at f xs) a_block (any_unit rest)) (suc (length xs)) (k + numbers_in a) fb b))
+      (front (indices_of w.state f) (exit_at f xs) (length xs) (k + numbers_in a + numbers_in b) behind rest))
       done ∷ written_labels w.state f xs)
   sequence_end : {f : GuardedFunc} {k : ℕ} {xs : List Enclosing} → BodyPlace w.state f k no_unit xs
       → BehindPiece w (with_guards f) 0 done (flat_labels f xs) (written_labels w.state f xs)
@@ -122,7 +123,8 @@ pub data SamePoint (w : Sides) : Role → (ops : List Value) → (code : Code) �
   at_choice : {ops : List Value} {f : GuardedFunc} {k : ℕ} {c : Option Operand} {fa : Code} {a : Units} {fb : Code} {b : Units} {behind : Code} {rest : Units} {xs : List Enclosing}
       → BodyPlace w.state f k (if_unit c fa a fb b behind rest) xs
       → SamePoint w (with_guards f) ops (branch None (followed_by fa (flat_units a)) (followed_by fb (flat_units b)) (followed_by behind (flat_units rest))) (flat_labels f xs)
-      (branch None (arm a fa (front (indices_of w.state f) (exit_inside (exit_at f xs) a_block (any_unit rest)) (suc (length xs)) k fa a)) (arm b fb (front (indices_of w.state f) (exit_inside (exit_at f xs) a_block (any_unit rest)) (suc (length xs)) (k + numbers_in a) fb b))
+      (branch None (arm a fa (front (indices_of w.state f) (exit_inside (exit_at f xs) a_block (any_unit rest)) (suc (length xs)) k fa a))
+      (arm b fb (front (indices_of w.state f) (exit_inside (exit_at f xs) a_block (any_unit rest)) (suc (length xs)) (k + numbers_in a) fb b))
       (front (indices_of w.state f) (exit_at f xs) (length xs) (k + numbers_in a + numbers_in b) behind rest)) (written_labels w.state f xs)
   at_end : {ops : List Value} {f : GuardedFunc} {k : ℕ} {xs : List Enclosing} → BodyPlace w.state f k no_unit xs
       → SamePoint w (with_guards f) ops done (flat_labels f xs) done (written_labels w.state f xs)

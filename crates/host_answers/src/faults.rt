@@ -22,7 +22,8 @@ pub fn answer_fault(
     import: u32,
     answer: &Answer,
 ) -> Option<End>
-    ensures { (plan : Plan) → plan.area ≡ area → plan.listed ≡ listed_of listed.entry → All IsShort (map poke_of answer.now.pokes.items) → result ≡ fault_of (option_to_list result_type) size plan in_start import (answer_of answer.now) }
+    ensures { (plan : Plan) → plan.area ≡ area → plan.listed ≡ listed_of listed.entry → All IsShort (map poke_of answer.now.pokes.items)
+        → result ≡ fault_of (option_to_list result_type) size plan in_start import (answer_of answer.now) }
 {
     if !is_result(result_type, answer.value) {
         return Some(End::BadAnswer {

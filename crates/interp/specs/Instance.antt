@@ -30,7 +30,8 @@ waits_of WV.Nothing = nothing
 waits_of WV.Outermost = outermost
 waits_of (WV.Inside k taken) =
     inside
-    (waiting k.here.func k.here.locals.items (drop taken (reverse k.here.operands.items)) (take taken (reverse k.here.operands.items)) (code k.here.code.now) (map label_of (reverse k.here.labels.items)))
+    (waiting k.here.func k.here.locals.items (drop taken (reverse k.here.operands.items)) (take taken (reverse k.here.operands.items)) (code k.here.code.now)
+    (map label_of (reverse k.here.labels.items)))
     (map waiting_of (reverse k.under.items))
 
 -- the run came to stand at a configuration with this store

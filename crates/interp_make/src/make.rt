@@ -99,9 +99,11 @@ fn fill(
     requires pages { pages ≤ 1024 }
     requires elems { length source.now.elems.items < 2 ^ 32 }
     requires segments { length source.now.segments.items < 2 ^ 32 }
-    ensures ok { IfOk result (λ s. filled globals.items (replicate (pages * page_size) 0) (replicate entries None) (map (elem_piece globals.items) (map elem_of source.now.elems.items)) (map (byte_piece globals.items) (map segment_of source.now.segments.items)) ≡ opens (store_of s)) }
+    ensures ok { IfOk result (λ s. filled globals.items (replicate (pages * page_size) 0) (replicate entries None) (map (elem_piece globals.items) (map elem_of source.now.elems.items))
+        (map (byte_piece globals.items) (map segment_of source.now.segments.items)) ≡ opens (store_of s)) }
     ensures max { IfOk result (λ s. s.memory.max ≡ most) }
-    ensures err { IfErr result (FailsAs (filled globals.items (replicate (pages * page_size) 0) (replicate entries None) (map (elem_piece globals.items) (map elem_of source.now.elems.items)) (map (byte_piece globals.items) (map segment_of source.now.segments.items)))) }
+    ensures err { IfErr result (FailsAs (filled globals.items (replicate (pages * page_size) 0) (replicate entries None)
+        (map (elem_piece globals.items) (map elem_of source.now.elems.items)) (map (byte_piece globals.items) (map segment_of source.now.segments.items)))) }
 {
     let mut table = make_table(alloc, entries)?;
     let mut memory = Pages::new(alloc, pages, most)?;

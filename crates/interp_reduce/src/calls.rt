@@ -158,7 +158,8 @@ pub fn call_indirect<'m>(
     sort: u32,
     left: u64,
 ) -> Result<Flow, AllocError>
-    ensures tells { IfOk result (λ f. (s : Store) → s.table ≡ table.now.items → Tells s (plain_of (module_of program.now.source.now) s stack.old (call_indirect sort)) left f (running_of s stack.new)) }
+    ensures tells { IfOk result (λ f. (s : Store) → s.table ≡ table.now.items → Tells s (plain_of (module_of program.now.source.now) s stack.old (call_indirect sort)) left f
+        (running_of s stack.new)) }
     ensures holds { OnOk result (StackRoom (module_of program.now.source.now) stack.old → StackRoom (module_of program.now.source.now) stack.new) }
     ensures lacks { IfErr result (λ _. (s : Store) → s.table ≡ table.now.items → paid_for (plain_of (module_of program.now.source.now) s stack.old (call_indirect sort)) ≡ 0) }
 {

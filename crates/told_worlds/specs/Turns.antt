@@ -46,7 +46,8 @@ having_told t turn met answers =
 
 -- Event number `number`: the detaches with its number come first, then the unfinished program with the least pair of due tick and
 -- number tells a turn.
-pub record TellsTurn (programs : List Program) (detaches : List Detach) (number : ℕ) (tellers : List Teller) (ds : List Device) (lines : List Line) (tellers' : List Teller) (ds' : List Device) : Type 0 where
+pub record TellsTurn (programs : List Program) (detaches : List Detach) (number : ℕ) (tellers : List Teller) (ds : List Device) (lines : List Line) (tellers' : List Teller)
+    (ds' : List Device) : Type 0 where
   pub i : ℕ
   pub w : Program
   pub t : Teller

@@ -75,7 +75,8 @@ module _ {X : Type 0} (follows : X → Program → List Note → List Outcome �
     abbrev held_now : (due : Option ℕ) → Held X
     held_now due = record { programs = slice_set h.programs i x'; dues = slice_set h.dues i due; detaches = h.detaches; shows = h.shows; begun = h.begun }
 
-    each : (j : ℕ) (w : Program) (t : Teller) (y : X) → slice_get programs j ≡ Some w → slice_get after j ≡ Some t → slice_get (slice_set h.programs i x') j ≡ Some y → IsHeld follows over h.shows j w t y
+    each : (j : ℕ) (w : Program) (t : Teller) (y : X) → slice_get programs j ≡ Some w → slice_get after j ≡ Some t → slice_get (slice_set h.programs i x') j ≡ Some y
+        → IsHeld follows over h.shows j w t y
     each j w t y ew et ey = by (cases_eq j i) where
       by : (j ≡ i) ⊎ (j ≡ i → ⊥) → IsHeld follows over h.shows j w t y
       by (inr other) = s.each j w t y ew (sym (set_there s.tellers i j next other) ∙ et) (sym (set_there h.programs i j x' other) ∙ ey)

@@ -18,7 +18,8 @@ takes_meets q selects ins outs h = inr (outs, h)
 takes_meets q (lacks r) ins outs h = absurd h
 takes_meets q (late r ps rs) ins outs h = absurd h
 
-by_test : (o : Option ValType) (t : ValType) (os : List (Option ValType)) (free e : Bool) (ts : List ValType) (b : Bool) → b ≡ may_be o t → (if b then e else false) ≡ true → (e ≡ true → Fits os free ts) → Is o t × Fits os free ts
+by_test : (o : Option ValType) (t : ValType) (os : List (Option ValType)) (free e : Bool) (ts : List ValType) (b : Bool) → b ≡ may_be o t → (if b then e else false) ≡ true
+    → (e ≡ true → Fits os free ts) → Is o t × Fits os free ts
 by_test o t os free e ts true is h go = (may_is o t (sym is), go h)
 by_test o t os free e ts false is h go = cc
 
@@ -69,7 +70,8 @@ module _ (c : Around) (ls : List (Option ValType)) (outs : List ValType) (os : L
     },
   )
 
-  right_plain : (p : Plain) (rest : Code) (n : Next) (go : List (Option ValType) → Bool → Verdict) → Exact (sig c ls p) os free n → ((os' : List (Option ValType)) (free' : Bool) → Right c ls rest outs os' free' (suc k) (go os' free')) → Right c ls (plain p rest) outs os free k (onward n k go)
+  right_plain : (p : Plain) (rest : Code) (n : Next) (go : List (Option ValType) → Bool → Verdict) → Exact (sig c ls p) os free n
+      → ((os' : List (Option ValType)) (free' : Bool) → Right c ls rest outs os' free' (suc k) (go os' free')) → Right c ls (plain p rest) outs os free k (onward n k go)
   unfolding UpTo Types size
   right_plain p rest (stops r) go x ih = (
     0,
@@ -102,7 +104,8 @@ module _ (c : Around) (ls : List (Option ValType)) (outs : List ValType) (os : L
         },
       )
 
-  right_nest : (s : Shape) (r : Option ValType) (body rest : Code) (v w : Verdict) → Right c (label s r ∷ ls) body (listed r) [] false (suc k) v → Right c ls rest outs (knows (listed r) ++ os) free (suc k + (size body + 1)) w → Right c ls (nest s r body rest) outs os free k (both v w)
+  right_nest : (s : Shape) (r : Option ValType) (body rest : Code) (v w : Verdict) → Right c (label s r ∷ ls) body (listed r) [] false (suc k) v
+      → Right c ls rest outs (knows (listed r) ++ os) free (suc k + (size body + 1)) w → Right c ls (nest s r body rest) outs os free k (both v w)
   unfolding UpTo Types size Fits
   right_nest s r body rest (fault q at) w x y = (
     suc x.0,
@@ -135,7 +138,8 @@ module _ (c : Around) (ls : List (Option ValType)) (outs : List ValType) (os : L
         z.2,
         (
           typed_upto q c (label s r ∷ ls) body (listed r) [] _ (subst (Types c (label s r ∷ ls) body (listed r)) x.1 x.2),
-          at_upto q c ls rest outs (listed r ++ z.0) (suc y.0) (suc (size body + 1 + y.0) - (size body + 1)) (omega arith) (subst (λ (i : List ValType). UpTo q c ls rest outs i (suc y.0)) z.1 y.2.before.2),
+          at_upto q c ls rest outs (listed r ++ z.0) (suc y.0) (suc (size body + 1 + y.0) - (size body + 1)) (omega arith)
+              (subst (λ (i : List ValType). UpTo q c ls rest outs i (suc y.0)) z.1 y.2.before.2),
         ),
       ));
       fails = λ ins h u.
@@ -158,8 +162,10 @@ module _ (q : ℕ) (c : Around) (ls : List (Option ValType)) (outs : List ValTyp
   else_waits (nest s r body rest) n j h l = at_upto q c ls (nest s r body rest) outs [] 0 (suc j - (n + 1)) (omega arith) (upto_zero q c ls (nest s r body rest) outs [])
   else_waits (branch r a b rest) n j h l = at_upto q c ls (branch r a b rest) outs [] 0 (suc j - (n + 1)) (omega arith) (upto_zero q c ls (branch r a b rest) outs [])
 
-module _ (c : Around) (ls : List (Option ValType)) (outs : List ValType) (os : List (Option ValType)) (free : Bool) (k : ℕ) (r : Option ValType) (a b rest : Code) (os' : List (Option ValType)) (free' : Bool) (x : Exact (moves (I32 ∷ []) []) os free (goes os' free')) where
-  right_arms : (u v w : Verdict) → Right c (r ∷ ls) a (listed r) [] false (suc k) u → Right c (r ∷ ls) b (listed r) [] false (suc k + (size a + mid b)) v → Right c ls rest outs (knows (listed r) ++ os') free' (suc k + (size a + mid b + size b + 1)) w → Right c ls (branch r a b rest) outs os free k (both u (both v w))
+module _ (c : Around) (ls : List (Option ValType)) (outs : List ValType) (os : List (Option ValType)) (free : Bool) (k : ℕ) (r : Option ValType) (a b rest : Code)
+    (os' : List (Option ValType)) (free' : Bool) (x : Exact (moves (I32 ∷ []) []) os free (goes os' free')) where
+  right_arms : (u v w : Verdict) → Right c (r ∷ ls) a (listed r) [] false (suc k) u → Right c (r ∷ ls) b (listed r) [] false (suc k + (size a + mid b)) v
+      → Right c ls rest outs (knows (listed r) ++ os') free' (suc k + (size a + mid b + size b + 1)) w → Right c ls (branch r a b rest) outs os free k (both u (both v w))
   unfolding UpTo Types size Fits
   right_arms (fault q at) v w e f g = (
     suc e.0,
@@ -194,8 +200,10 @@ module _ (c : Around) (ls : List (Option ValType)) (outs : List ValType) (os : L
           y.2.0,
           y.2.1,
           typed_upto q c (r ∷ ls) a (listed r) [] _ (subst (Types c (r ∷ ls) a (listed r)) e.1 e.2),
-          at_upto q c (r ∷ ls) b (listed r) [] (suc f.0) (suc (size a + mid b + f.0) - (size a + mid b)) (omega arith) (subst (λ (i : List ValType). UpTo q c (r ∷ ls) b (listed r) i (suc f.0)) f.2.before.1 f.2.before.2),
-          at_upto q c ls rest outs (listed r ++ y.2.0) 0 (suc (size a + mid b + f.0) - (size a + mid b + size b + 1)) (let h = f.2.inside in omega arith) (upto_zero q c ls rest outs (listed r ++ y.2.0)),
+          at_upto q c (r ∷ ls) b (listed r) [] (suc f.0) (suc (size a + mid b + f.0) - (size a + mid b)) (omega arith)
+              (subst (λ (i : List ValType). UpTo q c (r ∷ ls) b (listed r) i (suc f.0)) f.2.before.1 f.2.before.2),
+          at_upto q c ls rest outs (listed r ++ y.2.0) 0 (suc (size a + mid b + f.0) - (size a + mid b + size b + 1)) (let h = f.2.inside in omega arith)
+              (upto_zero q c ls rest outs (listed r ++ y.2.0)),
         ),
       ));
       fails = λ ins h t. elim t [
@@ -244,8 +252,10 @@ module _ (c : Around) (ls : List (Option ValType)) (outs : List ValType) (os : L
     },
   )
 
-module _ (c : Around) (ls : List (Option ValType)) (outs : List ValType) (os : List (Option ValType)) (free : Bool) (k : ℕ) (r : Option ValType) (a b rest : Code) (arms : List (Option ValType) → Bool → Verdict) where
-  right_branch : (n : Next) → Exact (moves (I32 ∷ []) []) os free n → ((os' : List (Option ValType)) (free' : Bool) → Exact (moves (I32 ∷ []) []) os free (goes os' free') → Right c ls (branch r a b rest) outs os free k (arms os' free')) → Right c ls (branch r a b rest) outs os free k (onward n k arms)
+module _ (c : Around) (ls : List (Option ValType)) (outs : List ValType) (os : List (Option ValType)) (free : Bool) (k : ℕ) (r : Option ValType) (a b rest : Code)
+    (arms : List (Option ValType) → Bool → Verdict) where
+  right_branch : (n : Next) → Exact (moves (I32 ∷ []) []) os free n → ((os' : List (Option ValType)) (free' : Bool) → Exact (moves (I32 ∷ []) []) os free (goes os' free')
+      → Right c ls (branch r a b rest) outs os free k (arms os' free')) → Right c ls (branch r a b rest) outs os free k (onward n k arms)
   unfolding UpTo size
   right_branch (goes os' free') x ih = ih os' free' x
   right_branch (stops q) x ih = (
@@ -263,13 +273,16 @@ module _ (c : Around) (ls : List (Option ValType)) (outs : List ValType) (os : L
   )
 
 -- The validator's verdict on code is its typing, or its first fault.
-pub checks_right : (c : Around) (ls : List (Option ValType)) (code : Code) (outs : List ValType) (os : List (Option ValType)) (free : Bool) (k : ℕ) → Right c ls code outs os free k (checks c ls code outs os free k)
+pub checks_right : (c : Around) (ls : List (Option ValType)) (code : Code) (outs : List ValType) (os : List (Option ValType)) (free : Bool) (k : ℕ)
+    → Right c ls code outs os free k (checks c ls code outs os free k)
 unfolding checks
 checks_right c ls done outs os free k = right_done c ls outs os free k (ended outs os free) refl
 checks_right c ls (plain p rest) outs os free k =
-    right_plain c ls outs os free k p rest (next (sig c ls p) os free) (λ os' free'. checks c ls rest outs os' free' (suc k)) (exact (sig c ls p) os free (lawful c ls p)) (λ os' free'. checks_right c ls rest outs os' free' (suc k))
+    right_plain c ls outs os free k p rest (next (sig c ls p) os free) (λ os' free'. checks c ls rest outs os' free' (suc k)) (exact (sig c ls p) os free (lawful c ls p))
+    (λ os' free'. checks_right c ls rest outs os' free' (suc k))
 checks_right c ls (nest s r body rest) outs os free k =
-    right_nest c ls outs os free k s r body rest _ _ (checks_right c (label s r ∷ ls) body (listed r) [] false (suc k)) (checks_right c ls rest outs (knows (listed r) ++ os) free (suc k + (size body + 1)))
+    right_nest c ls outs os free k s r body rest _ _ (checks_right c (label s r ∷ ls) body (listed r) [] false (suc k))
+    (checks_right c ls rest outs (knows (listed r) ++ os) free (suc k + (size body + 1)))
 checks_right c ls (branch r a b rest) outs os free k =
     right_branch c ls outs os free k r a b rest
     (λ os' free'. both (checks c (r ∷ ls) a (listed r) [] false (suc k))
@@ -290,7 +303,8 @@ unfolding Fits
 to_fault c body r at h =
     let e : h.0 ≡ at = omega (arith, h.1) in
     record {
-      before = subst (λ (n : ℕ). UpTo r c (c.result ∷ []) body (listed c.result) [] (suc n)) e (subst (λ (i : List ValType). UpTo r c (c.result ∷ []) body (listed c.result) i (suc h.0)) h.2.before.1 h.2.before.2);
+      before = subst (λ (n : ℕ). UpTo r c (c.result ∷ []) body (listed c.result) [] (suc n)) e
+          (subst (λ (i : List ValType). UpTo r c (c.result ∷ []) body (listed c.result) i (suc h.0)) h.2.before.1 h.2.before.2);
       fails = λ u. h.2.fails [] refl (subst (λ (n : ℕ). UpTo (suc r) c (c.result ∷ []) body (listed c.result) [] (suc n)) (sym e) u);
     }
 

@@ -47,7 +47,8 @@ funcs_say m [] n x e before rest = λ i f found. elim (less_on i n) [
       absurd (none_here f (sym (rest (i - n)) ∙ ap (slice_get m.funcs) at ∙ found))
 ]
 funcs_say m (f ∷ fs) n x e before rest =
-    by_verdict (body_verdict (around m f) f.body) refl (λ typed. funcs_say m fs (suc n) (suc x) (omega (arith, e)) (one_more m n f before here typed) (λ j. ap (slice_get m.funcs) (moved j) ∙ rest (suc j)))
+    by_verdict (body_verdict (around m f) f.body) refl (λ typed. funcs_say m fs (suc n) (suc x) (omega (arith, e)) (one_more m n f before here typed) (λ j. ap (slice_get m.funcs) (moved j)
+    ∙ rest (suc j)))
   where
     here : slice_get m.funcs n ≡ Some f
     here = let z : n ≡ n + 0 = omega arith in ap (slice_get m.funcs) z ∙ rest 0

@@ -118,7 +118,8 @@ pub record BehavesOn (m : Module) (s : Settings) (p : Module) (plan : Plan) (os 
   -- each of its notes has an expected one beside it: stores, images and what is kept of the area are right at each event
   pub notes : (i : ℕ) (y : Note) → slice_get (protocol_notes p plan os n) i ≡ Some y → (x : Note) × (slice_get expected i ≡ Some x) × SameNote m s which plan.area x y
   -- between events too the store is one that the original has at a moment with the same events
-  pub moments : (events : List Event) × (at : Store) × IsMoment m plan os n events at × (events ≡ without_pauses (events_of (protocol_notes p plan os n))) × SameEnd (global_space m) plan.area at (store_held (Protocol p plan os n).last)
+  pub moments : (events : List Event) × (at : Store) × IsMoment m plan os n events at × (events ≡ without_pauses (events_of (protocol_notes p plan os n)))
+      × SameEnd (global_space m) plan.area at (store_held (Protocol p plan os n).last)
 
 -- For every plan, list of outcomes and cost at which each pause finds its activations at numbered calls, the rewritten module
 -- behaves like its original. The original's numbers lie in the ranges of their types: else what passes through a frame

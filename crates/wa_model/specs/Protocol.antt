@@ -21,7 +21,8 @@ use Rattle.wa_model.specs.Configuration.{Configuration}
 use Rattle.wa_model.specs.Step.{Next, steps, asks, returns, traps, stuck, zero_of, entered, step}
 use Rattle.wa_model.specs.Plan.{Entry, Plan, Outcome, given, refused}
 use Rattle.wa_model.specs.Instantiation.{Opening, fails_as, opens, opening}
-use Rattle.wa_model.specs.Blocking.{Note, note, call_note, fault_of, pause_of, poked, resumed, Task, the_start, an_entry, Left, with_outcomes, Asker, inside, outermost, store_at, stack_at, in_start, done_notes, value_of_results, next_entry, no_store, all_left}
+use Rattle.wa_model.specs.Blocking.{Note, note, call_note, fault_of, pause_of, poked, resumed, Task, the_start, an_entry, Left, with_outcomes, Asker, inside, outermost, store_at, stack_at}
+use Rattle.wa_model.specs.Blocking.{in_start, done_notes, value_of_results, next_entry, no_store, all_left}
 
 -- The five exports, by the indices of their functions.
 pub record Exports : Type 0 where

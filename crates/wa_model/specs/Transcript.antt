@@ -9,7 +9,8 @@ use Rattle.wa_types.specs.declared.values.Value.TheVariants as V
 use Rattle.wa_types.specs.declared.values.Trap.{Trap}
 use Rattle.wa_types.specs.declared.values.Trap.TheVariants.{DivideByZero, IntegerOverflow, OutOfBounds, Unreachable, UndefinedElement, UninitializedElement, TypeMismatch, StackExhausted}
 use Rattle.wa_model.specs.declared.events.End.{End}
-use Rattle.wa_model.specs.declared.events.End.TheVariants.{Done, Trapped, UnwindTrap, RewindTrap, ElementsOut, BytesOut, HostLimit, NoAnswer, OtherImport, BadAnswer, BadPoke, UnlistedPause, PauseInStart, DeviceFault, NoDevice, StepsSpent, Broken}
+use Rattle.wa_model.specs.declared.events.End.TheVariants.{Done, Trapped, UnwindTrap, RewindTrap, ElementsOut, BytesOut, HostLimit, NoAnswer, OtherImport, BadAnswer, BadPoke, UnlistedPause}
+use Rattle.wa_model.specs.declared.events.End.TheVariants.{PauseInStart, DeviceFault, NoDevice, StepsSpent, Broken}
 use Rattle.wa_model.specs.Outside.{Event, called, answered, paused, returned, ended, shown, Line}
 
 -- ---- names, bytes and values

@@ -1,5 +1,6 @@
 -- Several programs over one list of devices. A program's turn goes from one of its pauses to the next, or to its end.
-use Rattle.std.specs.Prelude.{◌≡◌, ℕ, suc, ◌+◌, ◌≤◌, ◌<◌, ◌^◌, ◌⊎◌, nat_lt, nat_le, nat_eq, ◌&&◌, if◌then◌else◌, List, [], ◌∷◌, ◌++◌, length, map, take, Option, Some, None, Bool, true, false, All, MatchBool, slice_get, slice_set}
+use Rattle.std.specs.Prelude.{◌≡◌, ℕ, suc, ◌+◌, ◌≤◌, ◌<◌, ◌^◌, ◌⊎◌, nat_lt, nat_le, nat_eq, ◌&&◌, if◌then◌else◌, List, [], ◌∷◌, ◌++◌, length, map, take, Option, Some, None, Bool, true}
+use Rattle.std.specs.Prelude.{false, All, MatchBool, slice_get, slice_set}
 use Rattle.std.specs.List.{filter_map, list_any, AllZip}
 use Rattle.std.specs.Option.{unwrap_or}
 use Rattle.wa_types.specs.declared.values.Value.{Value}
@@ -110,7 +111,8 @@ pub record Actor : Type 0 where
 abbrev pub MeetsDevice : (import : ℕ) → (base name : List ℕ) → List Value → List Device → Outcome → List Device → Type 0
 MeetsDevice import base name args ds o ds' =
     MatchBool (list_any (is_named name) ds)
-    (((r : Reply) × ValueFits r.value × (r.ticks < 2 ^ 32) × (o ≡ given (record { value = r.value; pokes = []; ticks = r.ticks })) × (ds' ≡ journaled name (record { base = base; args = args; reply = r }) ds))
+    (((r : Reply) × ValueFits r.value × (r.ticks < 2 ^ 32) × (o ≡ given (record { value = r.value; pokes = []; ticks = r.ticks }))
+    × (ds' ≡ journaled name (record { base = base; args = args; reply = r }) ds))
     ⊎ ((o ≡ refused (DeviceFault import)) × (ds' ≡ ds)))
     ((o ≡ refused (NoDevice import)) × (ds' ≡ ds))
 
@@ -228,7 +230,8 @@ pub record Plays (programs : List Program) (detaches : List Detach) (number : �
 -- Events in a row, numbered from `number` on, with the lines that they make.
 pub data Events (programs : List Program) (detaches : List Detach) : (number : ℕ) → List Actor → List Device → List Line → List Actor → List Device → Type 0 where
   no_event : {number : ℕ} {actors : List Actor} {ds : List Device} → Events programs detaches number actors ds [] actors ds
-  an_event : {number : ℕ} {actors actors' last : List Actor} {ds ds' end : List Device} {lines more all : List Line} → Plays programs detaches number actors ds lines actors' ds' → Events programs detaches (suc number) actors' ds' more last end → all ≡ lines ++ more → Events programs detaches number actors ds all last end
+  an_event : {number : ℕ} {actors actors' last : List Actor} {ds ds' end : List Device} {lines more all : List Line} → Plays programs detaches number actors ds lines actors' ds'
+      → Events programs detaches (suc number) actors' ds' more last end → all ≡ lines ++ more → Events programs detaches number actors ds all last end
 
 -- ---- what a program's notes are
 
@@ -256,7 +259,8 @@ IsCertain s w os j =
 -- ends as StepsSpent before one that isn't certain, and shows its memory at a moment of its run.
 pub data BlockingStory (s : Settings) (w : Program) (os : List Outcome) : List Note → Type 0 where
   whole : (x : Note) (before notes : List Note) → notes ≡ expected_notes w.source s w.plan os w.steps → notes ≡ before ++ x ∷ [] → is_end x.event ≡ true → BlockingStory s w os notes
-  spent : (j : ℕ) (before notes : List Note) (at : Store) → before ≡ take j (expected_notes w.source s w.plan os w.steps) → j ≤ length (expected_notes w.source s w.plan os w.steps) → All (λ (x : Note). is_end x.event ≡ false) before
+  spent : (j : ℕ) (before notes : List Note) (at : Store) → before ≡ take j (expected_notes w.source s w.plan os w.steps) → j ≤ length (expected_notes w.source s w.plan os w.steps)
+      → All (λ (x : Note). is_end x.event ≡ false) before
       → (IsCertain s w os j → ⊥) → IsMoment w.source w.plan os w.steps (without_pauses (events_of before)) at → notes ≡ before ++ note (ended (StepsSpent w.steps)) at ∷ [] → BlockingStory s w os notes
 
 -- ---- worlds

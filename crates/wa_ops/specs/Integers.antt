@@ -1,6 +1,7 @@
 -- The operations on integers (standard, section 4.3), over the width N in bits. An integer is its unsigned
 -- number, below 2 ^ N.
-use Rattle.std.specs.Prelude.{ℕ, zero, suc, ◌+◌, ◌-◌, ◌*◌, ◌/◌, ◌%◌, ◌^◌, Bool, not, ◌==◌, nat_lt, nat_le, if◌then◌else◌, ℤ, pos, negsuc, ◌-ℤ◌, int_lt, int_le, int_div, int_rem, List, [], ◌∷◌, sum, Result, Ok, Err, bit_and, bit_or, bit_xor}
+use Rattle.std.specs.Prelude.{ℕ, zero, suc, ◌+◌, ◌-◌, ◌*◌, ◌/◌, ◌%◌, ◌^◌, Bool, not, ◌==◌, nat_lt, nat_le, if◌then◌else◌, ℤ, pos, negsuc, ◌-ℤ◌, int_lt, int_le, int_div, int_rem, List, []}
+use Rattle.std.specs.Prelude.{◌∷◌, sum, Result, Ok, Err, bit_and, bit_or, bit_xor}
 use Rattle.std.specs.List.{prefix_len, suffix_len}
 use Rattle.std.specs.Ordering.{int_eq}
 use Rattle.wa_types.specs.declared.values.Trap.{Trap}

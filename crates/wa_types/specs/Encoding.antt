@@ -17,7 +17,9 @@ use Rattle.wa_types.specs.declared.syntax.Space.TheVariants.{Func as a_func, Tab
 use Rattle.wa_types.specs.declared.syntax.Export.{Export}
 use Rattle.wa_types.specs.Operators.{opcode_of}
 use Rattle.wa_types.specs.Leb.{shortest, shortest_signed}
-use Rattle.wa_types.specs.Syntax.{Basic, nop, drop, select, const, num, global_get, global_set, load, store, memory_size, memory_grow, Plain, basic, local_get, local_set, local_tee, br, br_if, br_table, return, unreachable, call, call_indirect, Shape, a_block, a_loop, Code, done, plain, nest, branch, FuncType, Func, GlobalDef, Elem, Segment, Custom, Module}
+use Rattle.wa_types.specs.Syntax.{Basic, nop, drop, select, const, num, global_get, global_set, load, store, memory_size, memory_grow, Plain, basic, local_get, local_set, local_tee, br}
+use Rattle.wa_types.specs.Syntax.{br_if, br_table, return, unreachable, call, call_indirect, Shape, a_block, a_loop, Code, done, plain, nest, branch, FuncType, Func, GlobalDef, Elem}
+use Rattle.wa_types.specs.Syntax.{Segment, Custom, Module}
 
 -- a list of items, with their number (5.1.3)
 abbrev pub vector : {X : Type 0} → (X → List ℕ) → List X → List ℕ

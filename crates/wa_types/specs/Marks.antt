@@ -1,7 +1,8 @@
 -- What a file's sections are judged by besides their spelling: where a float stands, where an instruction opens a
 -- level, and the numbers that limits bound.
 use Rattle.std.specs.Prelude.{ℕ, ◌+◌, ◌≤◌, List, [], ◌∷◌, ◌++◌, map, length, flat_map, sum_by, Option, Some, None, Bool, if◌then◌else◌, nat_le, nat_lt, All, Contains}
-use Rattle.wa_types.specs.Binary.{Placed, RawCode, ended, otherwise, instr, nested, branched, RawType, RawKind, raw_func, raw_global, RawImport, RawGlobal, RawElem, RawRun, RawBody, RawSegment, Section, types, imports, globals, elements, bodies, segments}
+use Rattle.wa_types.specs.Binary.{Placed, RawCode, ended, otherwise, instr, nested, branched, RawType, RawKind, raw_func, raw_global, RawImport, RawGlobal, RawElem, RawRun, RawBody}
+use Rattle.wa_types.specs.Binary.{RawSegment, Section, types, imports, globals, elements, bodies, segments}
 use Rattle.wa_types.specs.Opcodes.{is_float_type, is_float_op}
 use Rattle.wa_types.specs.Spells.{sorts_in, bodies_in}
 use Rattle.wa_types.specs.Reading.{types_in, imports_in}

@@ -8,7 +8,8 @@ use Rattle.wa_types.specs.declared.syntax.ImportKind.TheVariants.{Func as a_func
 use Rattle.wa_types.specs.declared.syntax.Import.{Import}
 use Rattle.wa_types.specs.declared.syntax.Limits.{Limits}
 use Rattle.wa_types.specs.declared.syntax.Export.{Export}
-use Rattle.wa_types.specs.Syntax.{Basic, const, global_get, global_set, load, store, Plain, basic, local_get, local_set, local_tee, br, br_if, br_table, return, unreachable, call, call_indirect, Code, done, plain, nest, branch, FuncType, Func, GlobalDef, Elem, Segment, Custom, Module}
+use Rattle.wa_types.specs.Syntax.{Basic, const, global_get, global_set, load, store, Plain, basic, local_get, local_set, local_tee, br, br_if, br_table, return, unreachable, call}
+use Rattle.wa_types.specs.Syntax.{call_indirect, Code, done, plain, nest, branch, FuncType, Func, GlobalDef, Elem, Segment, Custom, Module}
 use Rattle.wa_types.specs.Opcodes.{is_load_op, is_store_op}
 
 -- the parameters of the type with this index (2.5.2); none where there is no such type

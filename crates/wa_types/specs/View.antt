@@ -1,7 +1,8 @@
 -- What the values of the program are, as plain data: the vectors' memory is left out.
 use Rattle.std.specs.Prelude.{List, [], ◌∷◌, map}
 use Rattle.wa_types.specs.declared.instrs.Instr.{Instr, Row_of-Instr, end_of-Instr, more_of-Instr}
-use Rattle.wa_types.specs.declared.instrs.Instr.TheVariants.{Unreachable, Nop, Drop, Select, Return, MemorySize, MemoryGrow, Const, Num, Br, BrIf, BrTable, Call, CallIndirect, LocalGet, LocalSet, LocalTee, GlobalGet, GlobalSet, Load, Store, Block', Loop', If'}
+use Rattle.wa_types.specs.declared.instrs.Instr.TheVariants.{Unreachable, Nop, Drop, Select, Return, MemorySize, MemoryGrow, Const, Num, Br, BrIf, BrTable, Call, CallIndirect, LocalGet}
+use Rattle.wa_types.specs.declared.instrs.Instr.TheVariants.{LocalSet, LocalTee, GlobalGet, GlobalSet, Load, Store, Block', Loop', If'}
 use Rattle.wa_types.specs.declared.syntax.FuncType.{FuncType as FuncTypeValue}
 use Rattle.wa_types.specs.declared.syntax.Func.{Func as FuncValue}
 use Rattle.wa_types.specs.declared.syntax.GlobalDef.{GlobalDef as GlobalDefValue}
@@ -9,7 +10,8 @@ use Rattle.wa_types.specs.declared.syntax.Elem.{Elem as ElemValue}
 use Rattle.wa_types.specs.declared.syntax.Segment.{Segment as SegmentValue}
 use Rattle.wa_types.specs.declared.syntax.Custom.{Custom as CustomValue}
 use Rattle.wa_types.specs.declared.syntax.Module.{Module as ModuleValue}
-use Rattle.wa_types.specs.Syntax.{nop, drop, select, const, num, global_get, global_set, load, store, memory_size, memory_grow, basic, local_get, local_set, local_tee, br, br_if, br_table, return, unreachable, call, call_indirect, a_block, a_loop, Code, done, plain, nest, branch, FuncType, Func, GlobalDef, Elem, Segment, Custom, Module}
+use Rattle.wa_types.specs.Syntax.{nop, drop, select, const, num, global_get, global_set, load, store, memory_size, memory_grow, basic, local_get, local_set, local_tee, br, br_if, br_table}
+use Rattle.wa_types.specs.Syntax.{return, unreachable, call, call_indirect, a_block, a_loop, Code, done, plain, nest, branch, FuncType, Func, GlobalDef, Elem, Segment, Custom, Module}
 
 unfoldable mutual
   -- an instruction in front of the rest of its sequence

@@ -14,16 +14,20 @@ use Rattle.wasm_build.specs.declared.BuildFault.{BuildFault}
 use Rattle.wasm_build.specs.declared.BuildFault.TheVariants.{Memory}
 use Rattle.wasm_cursor.specs.Places.{Place}
 use Rattle.wasm_build.specs.Builds.{Between, Builds}
-use Rattle.wasm_build.specs.BuildsCode.{Next, an_instr, open_block, open_loop, open_if, an_else, an_end, SpelledCode, SpelledExpression, SpelledResult, SpelledConstruct, SpelledArms, GivesNext, GivesNest, BuildsNext, IsOfOpcode, SpelledPlain, alone}
+use Rattle.wasm_build.specs.BuildsCode.{Next, an_instr, open_block, open_loop, open_if, an_else, an_end, SpelledCode, SpelledExpression, SpelledResult, SpelledConstruct, SpelledArms}
+use Rattle.wasm_build.specs.BuildsCode.{GivesNext, GivesNest, BuildsNext, IsOfOpcode, SpelledPlain, alone}
 use Rattle.wasm_build.proofs.Betweens.{Parts, parts, behind_first, nothing_between}
 
 -- What code begins with, by its first byte, and what stands behind that byte.
 pub data Opens (first_arm : Bool) (v : ℕ) (body else_arm : Code) : ℕ → List ℕ → Type 0 where
   opens_end : {at : ℕ} {back : List ℕ} → v ≡ 0x0B → body ≡ done → else_arm ≡ done → back ≡ [] → Opens first_arm v body else_arm at back
   opens_else : {at : ℕ} {back : List ℕ} → v ≡ 0x05 → body ≡ done → first_arm ≡ true → SpelledExpression else_arm at back → Opens first_arm v body else_arm at back
-  opens_plain : {at : ℕ} {back : List ℕ} (p : Plain) (rest : Code) → body ≡ plain p rest → IsOfOpcode v p → (SpelledPlain v (plain p done) ▸ SpelledCode first_arm rest else_arm) at back → Opens first_arm v body else_arm at back
-  opens_nest : {at : ℕ} {back : List ℕ} (s : Shape) (r : Option ValType) (inner rest : Code) → v ≡ shape_byte s → body ≡ nest s r inner rest → (SpelledConstruct (r, inner) ▸ SpelledCode first_arm rest else_arm) at back → Opens first_arm v body else_arm at back
-  opens_if : {at : ℕ} {back : List ℕ} (r : Option ValType) (a b rest : Code) → v ≡ 0x04 → body ≡ branch r a b rest → (SpelledArms (r, a, b) ▸ SpelledCode first_arm rest else_arm) at back → Opens first_arm v body else_arm at back
+  opens_plain : {at : ℕ} {back : List ℕ} (p : Plain) (rest : Code) → body ≡ plain p rest → IsOfOpcode v p → (SpelledPlain v (plain p done) ▸ SpelledCode first_arm rest else_arm) at back
+      → Opens first_arm v body else_arm at back
+  opens_nest : {at : ℕ} {back : List ℕ} (s : Shape) (r : Option ValType) (inner rest : Code) → v ≡ shape_byte s → body ≡ nest s r inner rest
+      → (SpelledConstruct (r, inner) ▸ SpelledCode first_arm rest else_arm) at back → Opens first_arm v body else_arm at back
+  opens_if : {at : ℕ} {back : List ℕ} (r : Option ValType) (a b rest : Code) → v ≡ 0x04 → body ≡ branch r a b rest → (SpelledArms (r, a, b) ▸ SpelledCode first_arm rest else_arm) at back
+      → Opens first_arm v body else_arm at back
 
 -- the first byte of code
 record Opened (first_arm : Bool) (body else_arm : Code) (at : ℕ) (bytes : List ℕ) : Type 0 where
@@ -105,7 +109,8 @@ pub record Onto (first_arm : Bool) (v : ℕ) (body else_arm : Code) (here end : 
 cons_same : (v w : ℕ) (xs ys : List ℕ) → v ∷ xs ≡ w ∷ ys → (v ≡ w) × (xs ≡ ys)
 cons_same v w xs ys e = ((let p : v ≡ w = cc in p), (let p : xs ≡ ys = cc in p))
 
-opens_here : (first_arm : Bool) (v : ℕ) (body else_arm : Code) (old here end : Place) → old.left ≡ v ∷ here.left → here.at ≡ old.at + 1 → Between (SpelledCode first_arm body else_arm) old end → Onto first_arm v body else_arm here end
+opens_here : (first_arm : Bool) (v : ℕ) (body else_arm : Code) (old here end : Place) → old.left ≡ v ∷ here.left → here.at ≡ old.at + 1
+    → Between (SpelledCode first_arm body else_arm) old end → Onto first_arm v body else_arm here end
 opens_here first_arm v body else_arm old here end e f b =
     let (raw, is, h) = b.spelled in
     let o = opened first_arm raw body else_arm old.at b.front is h in
@@ -139,7 +144,8 @@ end_of e (opens_plain p rest f is k) = absurd (no_plain _ 0x0B p refl e is)
 end_of e (opens_nest s r inner rest f g k) = absurd (omega (arith, e, f, (shape_range s).1))
 end_of e (opens_if r a b rest f g k) = absurd (omega (arith, e, f))
 
-else_of : {first_arm : Bool} {v : ℕ} {body else_arm : Code} {at : ℕ} {back : List ℕ} → v ≡ 0x05 → Opens first_arm v body else_arm at back → (body ≡ done) × (first_arm ≡ true) × SpelledExpression else_arm at back
+else_of : {first_arm : Bool} {v : ℕ} {body else_arm : Code} {at : ℕ} {back : List ℕ} → v ≡ 0x05 → Opens first_arm v body else_arm at back
+    → (body ≡ done) × (first_arm ≡ true) × SpelledExpression else_arm at back
 unfolding follows
 else_of e (opens_end f g h k) = absurd (omega (arith, e, f))
 else_of e (opens_else f g h k) = (g, h, k)
@@ -282,14 +288,25 @@ next_fails : (q : Result Next BuildFault) (first_arm : Bool) (body else_arm : Co
 next_fails q first_arm body else_arm new end d y e f g = let P : Result _ BuildFault → Type 0 = λ z. GivesNext z first_arm body else_arm new end in subst P (sym e) (f ∙ g)
 
 -- the head of a construct, whose result was read or not
-head_parts : (s : Shape) (v : ℕ) (old here end : Place) (first_arm : Bool) (body else_arm : Code) → ByteRead v old here → v ≡ shape_byte s → Between (SpelledCode first_arm body else_arm) old end → NestHead s first_arm body else_arm here end
+head_parts : (s : Shape) (v : ℕ) (old here end : Place) (first_arm : Bool) (body else_arm : Code) → ByteRead v old here → v ≡ shape_byte s
+    → Between (SpelledCode first_arm body else_arm) old end → NestHead s first_arm body else_arm here end
 head_parts s v old here end first_arm body else_arm r e b =
     let o = opens_here first_arm v body else_arm old here end r.left r.at b in
     let k = nest_of s e o.opens in
     let w = onto_parts (SpelledConstruct (k.result, k.inner)) (SpelledCode first_arm k.rest else_arm) here end o.back k.spelled o.left o.place in
-    record { result = k.result; inner = k.inner; rest = k.rest; whole = k.whole; middle = w.middle; head = parts (SpelledResult k.result) (SpelledExpression k.inner) here w.middle w.first; second = w.second }
+    record {
+      result = k.result;
+      inner = k.inner;
+      rest = k.rest;
+      whole = k.whole;
+      middle = w.middle;
+      head =
+          parts (SpelledResult k.result) (SpelledExpression k.inner) here w.middle w.first;
+      second = w.second;
+    }
 
-branch_parts : (v : ℕ) (old here end : Place) (first_arm : Bool) (body else_arm : Code) → ByteRead v old here → v ≡ 0x04 → Between (SpelledCode first_arm body else_arm) old end → BranchHead first_arm body else_arm here end
+branch_parts : (v : ℕ) (old here end : Place) (first_arm : Bool) (body else_arm : Code) → ByteRead v old here → v ≡ 0x04 → Between (SpelledCode first_arm body else_arm) old end
+    → BranchHead first_arm body else_arm here end
 branch_parts v old here end first_arm body else_arm r e b =
     let o = opens_here first_arm v body else_arm old here end r.left r.at b in
     let k = if_of e o.opens in
@@ -305,34 +322,40 @@ branch_parts v old here end first_arm body else_arm r e b =
       second = w.second;
     }
 
-pub nest_stop : (s : Shape) (v : ℕ) (old here new : Place) (d y : BuildFault) (q : Result Next BuildFault) → ByteRead v old here → v ≡ shape_byte s → q ≡ Err y → y ≡ d → Builds (λ (r : Option ValType). r) SpelledResult (Err d) here new → BuildsNext q old new
+pub nest_stop : (s : Shape) (v : ℕ) (old here new : Place) (d y : BuildFault) (q : Result Next BuildFault) → ByteRead v old here → v ≡ shape_byte s → q ≡ Err y → y ≡ d
+    → Builds (λ (r : Option ValType). r) SpelledResult (Err d) here new → BuildsNext q old new
 nest_stop s v old here new d y q r e f g n = record {
   built = λ first_arm body else_arm end b.
       let k = head_parts s v old here end first_arm body else_arm r e b in
       next_fails q first_arm body else_arm new end d y f g (n.built k.result k.head.middle k.head.first);
 }
 
-pub if_stop : (v : ℕ) (old here new : Place) (d y : BuildFault) (q : Result Next BuildFault) → ByteRead v old here → v ≡ 0x04 → q ≡ Err y → y ≡ d → Builds (λ (r : Option ValType). r) SpelledResult (Err d) here new → BuildsNext q old new
+pub if_stop : (v : ℕ) (old here new : Place) (d y : BuildFault) (q : Result Next BuildFault) → ByteRead v old here → v ≡ 0x04 → q ≡ Err y → y ≡ d
+    → Builds (λ (r : Option ValType). r) SpelledResult (Err d) here new → BuildsNext q old new
 if_stop v old here new d y q r e f g n = record {
   built = λ first_arm body else_arm end b.
       let k = branch_parts v old here end first_arm body else_arm r e b in
       next_fails q first_arm body else_arm new end d y f g (n.built k.result k.head.middle k.head.first);
 }
 
-nest_given : (s : Shape) (v : ℕ) (old here new end : Place) (r : Option ValType) (first_arm : Bool) (body else_arm : Code) → ByteRead v old here → v ≡ shape_byte s → Builds (λ (r : Option ValType). r) SpelledResult (Ok r) here new
+nest_given : (s : Shape) (v : ℕ) (old here new end : Place) (r : Option ValType) (first_arm : Bool) (body else_arm : Code) → ByteRead v old here → v ≡ shape_byte s
+    → Builds (λ (r : Option ValType). r) SpelledResult (Ok r) here new
     → Between (SpelledCode first_arm body else_arm) old end → GivesNest s r first_arm body else_arm new end
 nest_given s v old here new end r first_arm body else_arm w e n b =
     let k = head_parts s v old here end first_arm body else_arm w e b in
     let g = n.built k.result k.head.middle k.head.first in
     (k.inner, k.rest, k.middle, k.whole ∙ ap (λ z. nest s z k.inner k.rest) (sym g.0), behind_first _ _ here k.middle new k.head g.1, k.second)
 
-pub next_block : (v : ℕ) (old here new : Place) (r : Option ValType) → ByteRead v old here → v ≡ 0x02 → Builds (λ (r : Option ValType). r) SpelledResult (Ok r) here new → BuildsNext (Ok (open_block r)) old new
+pub next_block : (v : ℕ) (old here new : Place) (r : Option ValType) → ByteRead v old here → v ≡ 0x02 → Builds (λ (r : Option ValType). r) SpelledResult (Ok r) here new
+    → BuildsNext (Ok (open_block r)) old new
 next_block v old here new r w e n = record { built = λ first_arm body else_arm end b. nest_given a_block v old here new end r first_arm body else_arm w e n b }
 
-pub next_loop : (v : ℕ) (old here new : Place) (r : Option ValType) → ByteRead v old here → v ≡ 0x03 → Builds (λ (r : Option ValType). r) SpelledResult (Ok r) here new → BuildsNext (Ok (open_loop r)) old new
+pub next_loop : (v : ℕ) (old here new : Place) (r : Option ValType) → ByteRead v old here → v ≡ 0x03 → Builds (λ (r : Option ValType). r) SpelledResult (Ok r) here new
+    → BuildsNext (Ok (open_loop r)) old new
 next_loop v old here new r w e n = record { built = λ first_arm body else_arm end b. nest_given a_loop v old here new end r first_arm body else_arm w e n b }
 
-pub next_if : (v : ℕ) (old here new : Place) (r : Option ValType) → ByteRead v old here → v ≡ 0x04 → Builds (λ (r : Option ValType). r) SpelledResult (Ok r) here new → BuildsNext (Ok (open_if r)) old new
+pub next_if : (v : ℕ) (old here new : Place) (r : Option ValType) → ByteRead v old here → v ≡ 0x04 → Builds (λ (r : Option ValType). r) SpelledResult (Ok r) here new
+    → BuildsNext (Ok (open_if r)) old new
 next_if v old here new r w e n = record {
   built = λ first_arm body else_arm end b.
       let k = branch_parts v old here end first_arm body else_arm w e b in
@@ -340,7 +363,8 @@ next_if v old here new r w e n = record {
       (k.arm, k.other, k.rest, k.middle, k.whole ∙ ap (λ z. branch z k.arm k.other k.rest) (sym g.0), behind_first _ _ here k.middle new k.head g.1, k.second);
 }
 
-pub plain_stop : (v : ℕ) (old here new : Place) (d y : BuildFault) (q : Result Next BuildFault) → ByteRead v old here → IsOther v → q ≡ Err y → y ≡ d → Builds alone (SpelledPlain v) (Err d) here new → BuildsNext q old new
+pub plain_stop : (v : ℕ) (old here new : Place) (d y : BuildFault) (q : Result Next BuildFault) → ByteRead v old here → IsOther v → q ≡ Err y → y ≡ d
+    → Builds alone (SpelledPlain v) (Err d) here new → BuildsNext q old new
 plain_stop v old here new d y q r e f g n = record {
   built = λ first_arm body else_arm end b.
       let o = opens_here first_arm v body else_arm old here end r.left r.at b in

@@ -31,7 +31,8 @@ pub record Focus (A : (Code → Code) → Place → Type 0) (f : Code → Code) 
   pub spelled : Between (SpelledCode first_arm rest else_arm) here middle
   pub back : (g : Code → Code) (more : Code) (new : Place) → g more ≡ f rest → Between (SpelledCode first_arm more else_arm) new middle → A g new
 
-focus_in : (o : Opened) (ty : Option ValType) (before : List Instr) (Outside : (Code → Code) → Place → Type 0) (f : Code → Code) (here : Place) → Inside o ty before Outside f here → Focus (Inside o ty before Outside) f here
+focus_in : (o : Opened) (ty : Option ValType) (before : List Instr) (Outside : (Code → Code) → Place → Type 0) (f : Code → Code) (here : Place) → Inside o ty before Outside f here
+    → Focus (Inside o ty before Outside) f here
 focus_in Then ty before Outside f here a = record {
   first_arm = true;
   rest = a.0;
@@ -74,7 +75,8 @@ run_start old levels got e f = record {
   going = λ c end b. subst (λ z. Ahead (reverse z) c end (onto got) old) (sym e) (c, ap (λ z. onto z c) f ∙ onto_none c, b);
 }
 
-pub run_instr : (old here new : Place) (levels : List Level) (got more : List Instr) (i : Instr) → Running old levels got here → BuildsNext (Ok (an_instr i)) here new → more ≡ got ++ i ∷ [] → Running old levels more new
+pub run_instr : (old here new : Place) (levels : List Level) (got more : List Instr) (i : Instr) → Running old levels got here → BuildsNext (Ok (an_instr i)) here new → more ≡ got ++ i ∷ []
+    → Running old levels more new
 run_instr old here new levels got more i r n e = record {
   going = λ c end b.
       let f = focus (reverse levels) c end (onto got) here (r.going c end b) in
@@ -83,7 +85,8 @@ run_instr old here new levels got more i r n e = record {
 }
 
 -- a construct is opened
-deeper : (levels new_levels : List Level) (l : Level) (c : Code) (end : Place) (got : List Instr) (here : Place) → new_levels ≡ levels ++ l ∷ [] → got ≡ [] → Ahead (l ∷ reverse levels) c end (onto []) here → Ahead (reverse new_levels) c end (onto got) here
+deeper : (levels new_levels : List Level) (l : Level) (c : Code) (end : Place) (got : List Instr) (here : Place) → new_levels ≡ levels ++ l ∷ [] → got ≡ []
+    → Ahead (l ∷ reverse levels) c end (onto []) here → Ahead (reverse new_levels) c end (onto got) here
 deeper levels new_levels l c end got here e f a =
     subst (λ z. Ahead z c end (onto got) here) (sym (ap reverse e ∙ reverse-append levels (l ∷ []))) (subst (λ z. Ahead (l ∷ reverse levels) c end (onto z) here) (sym f) a)
 
@@ -93,7 +96,8 @@ module _ (old here new : Place) (levels new_levels : List Level) (body : Vec Ins
     going = λ c end b.
         let f = focus (reverse levels) c end (onto body.items) here (r.going c end b) in
         let g = n.built f.first_arm f.rest f.else_arm f.middle f.spelled in
-        let back = f.back (λ more. onto body.items (nest a_block ty (onto [] g.0) more)) g.1 g.2 (ap (λ z. onto body.items (nest a_block ty z g.1)) (onto_none g.0) ∙ ap (onto body.items) (sym g.3)) g.5 in
+        let back = f.back (λ more. onto body.items (nest a_block ty (onto [] g.0) more)) g.1 g.2 (ap (λ z. onto body.items (nest a_block ty z g.1)) (onto_none g.0)
+        ∙ ap (onto body.items) (sym g.3)) g.5 in
         deeper levels new_levels (record { before = body; ty = ty; opened = Block }) c end got new e none (g.0, g.2, g.4, back);
   }
 
@@ -102,7 +106,8 @@ module _ (old here new : Place) (levels new_levels : List Level) (body : Vec Ins
     going = λ c end b.
         let f = focus (reverse levels) c end (onto body.items) here (r.going c end b) in
         let g = n.built f.first_arm f.rest f.else_arm f.middle f.spelled in
-        let back = f.back (λ more. onto body.items (nest a_loop ty (onto [] g.0) more)) g.1 g.2 (ap (λ z. onto body.items (nest a_loop ty z g.1)) (onto_none g.0) ∙ ap (onto body.items) (sym g.3)) g.5 in
+        let back = f.back (λ more. onto body.items (nest a_loop ty (onto [] g.0) more)) g.1 g.2 (ap (λ z. onto body.items (nest a_loop ty z g.1)) (onto_none g.0)
+        ∙ ap (onto body.items) (sym g.3)) g.5 in
         deeper levels new_levels (record { before = body; ty = ty; opened = Loop }) c end got new e none (g.0, g.2, g.4, back);
   }
 
@@ -116,17 +121,25 @@ module _ (old here new : Place) (levels new_levels : List Level) (body : Vec Ins
   }
 
 -- the innermost construct is the last of the stack
-shown_last : (levels low : List Level) (l : Level) (c : Code) (end : Place) (f : Code → Code) (here : Place) → levels ≡ low ++ l ∷ [] → Ahead (reverse levels) c end f here → Inside l.opened l.ty l.before.items (Ahead (reverse low) c end) f here
+shown_last : (levels low : List Level) (l : Level) (c : Code) (end : Place) (f : Code → Code) (here : Place) → levels ≡ low ++ l ∷ [] → Ahead (reverse levels) c end f here
+    → Inside l.opened l.ty l.before.items (Ahead (reverse low) c end) f here
 shown_last levels low l c end f here e a = subst (λ z. Ahead z c end f here) (ap reverse e ∙ reverse-append low (l ∷ [])) a
 
 -- an else
-turned_in : (ty : Option ValType) (before : List Instr) (Outside : (Code → Code) → Place → Type 0) (body : Vec Instr Global) (here new : Place) → BuildsNext (Ok an_else) here new → Inside Then ty before Outside (onto body.items) here → Inside (Else body) ty before Outside (onto []) new
+turned_in : (ty : Option ValType) (before : List Instr) (Outside : (Code → Code) → Place → Type 0) (body : Vec Instr Global) (here new : Place) → BuildsNext (Ok an_else) here new
+    → Inside Then ty before Outside (onto body.items) here → Inside (Else body) ty before Outside (onto []) new
 turned_in ty before Outside body here new n a =
     let g = n.built true a.0 a.1 a.2 a.3 in
-    let p : onto body.items a.0 ≡ code body.items = ap (onto body.items) g.0 ∙ onto_done body.items in
-    (a.1, a.2, g.2, subst (λ z. Outside (λ more. onto before (branch ty (code body.items) z more)) a.2) (sym (onto_none a.1)) (subst (λ z. Outside (λ more. onto before (branch ty z a.1 more)) a.2) p a.4))
+    let p : onto body.items a.0 ≡ code body.items = ap (onto body.items) g.0 ∙ onto_done body.items in (
+      a.1,
+      a.2,
+      g.2,
+      subst (λ z. Outside (λ more. onto before (branch ty (code body.items) z more)) a.2) (sym (onto_none a.1))
+          (subst (λ z. Outside (λ more. onto before (branch ty z a.1 more)) a.2) p a.4),
+    )
 
-pub run_else : (old here new : Place) (levels low new_levels : List Level) (l : Level) (body : Vec Instr Global) (got : List Instr) → Running old levels body.items here → BuildsNext (Ok an_else) here new → levels ≡ low ++ l ∷ [] → IsTurned l low body new_levels → got ≡ [] → Running old new_levels got new
+pub run_else : (old here new : Place) (levels low new_levels : List Level) (l : Level) (body : Vec Instr Global) (got : List Instr) → Running old levels body.items here
+    → BuildsNext (Ok an_else) here new → levels ≡ low ++ l ∷ [] → IsTurned l low body new_levels → got ≡ [] → Running old new_levels got new
 run_else old here new levels low new_levels l body got r n e t none = record {
   going = λ c end b.
       let a = shown_last levels low l c end (onto body.items) here e (r.going c end b) in
@@ -137,29 +150,34 @@ run_else old here new levels low new_levels l body got r n e t none = record {
 no_arm : false ≡ true → ⊥
 no_arm e = cc
 
-else_in : (o : Opened) (ty : Option ValType) (before : List Instr) (Outside : (Code → Code) → Place → Type 0) (f : Code → Code) (here new : Place) → (o ≡ Then → ⊥) → BuildsNext (Ok an_else) here new → Inside o ty before Outside f here → ⊥
+else_in : (o : Opened) (ty : Option ValType) (before : List Instr) (Outside : (Code → Code) → Place → Type 0) (f : Code → Code) (here new : Place) → (o ≡ Then → ⊥)
+    → BuildsNext (Ok an_else) here new → Inside o ty before Outside f here → ⊥
 else_in Then ty before Outside f here new none n a = none refl
 else_in Block ty before Outside f here new none n a = no_arm (n.built false a.0 done a.1 a.2).1
 else_in Loop ty before Outside f here new none n a = no_arm (n.built false a.0 done a.1 a.2).1
 else_in (Else arm) ty before Outside f here new none n a = no_arm (n.built false a.0 done a.1 a.2).1
 
-pub else_alone : {old here new last : Place} {levels : List Level} {got : List Instr} {q : Result (Vec Instr Global) BuildFault} → Running old levels got here → levels ≡ [] → BuildsNext (Ok an_else) here new → Builds (λ (v : Vec Instr Global). code v.items) SpelledExpression q old last
+pub else_alone : {old here new last : Place} {levels : List Level} {got : List Instr} {q : Result (Vec Instr Global) BuildFault} → Running old levels got here → levels ≡ []
+    → BuildsNext (Ok an_else) here new → Builds (λ (v : Vec Instr Global). code v.items) SpelledExpression q old last
 else_alone {here = here} {got = got} r e n = never (λ c end b.
     let a = subst (λ z. Ahead (reverse z) c end (onto got) here) e (r.going c end b) in
     no_arm (n.built false a.0 done end a.2).1)
 
 -- want of memory
-pub memory_stop : {old last : Place} {d y : BuildFault} {q : Result (Vec Instr Global) BuildFault} → q ≡ Err y → y ≡ d → d ≡ Memory → Builds (λ (v : Vec Instr Global). code v.items) SpelledExpression q old last
+pub memory_stop : {old last : Place} {d y : BuildFault} {q : Result (Vec Instr Global) BuildFault} → q ≡ Err y → y ≡ d → d ≡ Memory
+    → Builds (λ (v : Vec Instr Global). code v.items) SpelledExpression q old last
 memory_stop e f g = record { built = λ c end b. fails (λ (v : Vec Instr Global). code v.items) _ c _ end _ _ e f g }
 
 -- an else that isn't taken
-pub turn_stop : {old here new last : Place} {levels : List Level} {got : List Instr} {y : BuildFault} {q : Result (Vec Instr Global) BuildFault} (low : List Level) (l : Level) (d : BuildFault) → Running old levels got here → BuildsNext (Ok an_else) here new → levels ≡ low ++ l ∷ [] → IsLost l d → q ≡ Err y → y ≡ d
+pub turn_stop : {old here new last : Place} {levels : List Level} {got : List Instr} {y : BuildFault} {q : Result (Vec Instr Global) BuildFault} (low : List Level) (l : Level)
+    (d : BuildFault) → Running old levels got here → BuildsNext (Ok an_else) here new → levels ≡ low ++ l ∷ [] → IsLost l d → q ≡ Err y → y ≡ d
     → Builds (λ (v : Vec Instr Global). code v.items) SpelledExpression q old last
 turn_stop low l Memory r n e h f g = memory_stop f g refl
 turn_stop {here = here} {new = new} {levels = levels} {got = got} low l NotSpelled r n e h f g = never (λ c end b.
     else_in l.opened l.ty l.before.items (Ahead (reverse low) c end) (onto got) here new h n (shown_last levels low l c end (onto got) here e (r.going c end b)))
 
-pub next_stop : {old here new last : Place} {levels : List Level} {got : List Instr} {d y : BuildFault} {q : Result (Vec Instr Global) BuildFault} → Running old levels got here → BuildsNext (Err d) here new → q ≡ Err y → y ≡ d → Builds (λ (v : Vec Instr Global). code v.items) SpelledExpression q old last
+pub next_stop : {old here new last : Place} {levels : List Level} {got : List Instr} {d y : BuildFault} {q : Result (Vec Instr Global) BuildFault} → Running old levels got here
+    → BuildsNext (Err d) here new → q ≡ Err y → y ≡ d → Builds (λ (v : Vec Instr Global). code v.items) SpelledExpression q old last
 next_stop {here = here} {levels = levels} {got = got} r n e f = record {
   built = λ c end b.
       let k = focus (reverse levels) c end (onto got) here (r.going c end b) in
@@ -167,7 +185,8 @@ next_stop {here = here} {levels = levels} {got = got} r n e f = record {
 }
 
 -- an end
-pub run_last : {old here new : Place} {levels : List Level} (v : Vec Instr Global) → Running old levels v.items here → levels ≡ [] → BuildsNext (Ok an_end) here new → Builds (λ (v : Vec Instr Global). code v.items) SpelledExpression (Ok v) old new
+pub run_last : {old here new : Place} {levels : List Level} (v : Vec Instr Global) → Running old levels v.items here → levels ≡ [] → BuildsNext (Ok an_end) here new
+    → Builds (λ (v : Vec Instr Global). code v.items) SpelledExpression (Ok v) old new
 run_last {here = here} v r e n = record {
   built = λ c end b.
       let a = subst (λ z. Ahead (reverse z) c end (onto v.items) here) e (r.going c end b) in
@@ -179,7 +198,8 @@ run_last {here = here} v r e n = record {
 outside : (Outside : (Code → Code) → Place → Type 0) (f g : Code → Code) (middle new : Place) → ((more : Code) → g more ≡ f more) → new ≡ middle → Outside f middle → Outside g new
 outside Outside f g middle new h e a = subst (λ p. Outside g p) (sym e) (subst (λ k. Outside k middle) (λ i more. sym (h more) i) a)
 
-closed_in : (o : Opened) (ty : Option ValType) (before : List Instr) (Outside : (Code → Code) → Place → Type 0) (got more : List Instr) (here new : Place) → BuildsNext (Ok an_end) here new → ((rest : Code) → onto more rest ≡ onto before (closed o ty (code got) rest))
+closed_in : (o : Opened) (ty : Option ValType) (before : List Instr) (Outside : (Code → Code) → Place → Type 0) (got more : List Instr) (here new : Place) → BuildsNext (Ok an_end) here new
+    → ((rest : Code) → onto more rest ≡ onto before (closed o ty (code got) rest))
     → Inside o ty before Outside (onto got) here → Outside (onto more) new
 closed_in Then ty before Outside got more here new n h a =
     let g = n.built true a.0 a.1 a.2 a.3 in
@@ -199,7 +219,8 @@ closed_in (Else arm) ty before Outside got more here new n h a =
     let p : onto got a.0 ≡ code got = ap (onto got) g.0 ∙ onto_done got in
     outside Outside (λ k. onto before (branch ty (code arm.items) (onto got a.0) k)) (onto more) a.1 new (λ k. h k ∙ ap (λ z. onto before (branch ty (code arm.items) z k)) (sym p)) g.2 a.3
 
-pub run_close : (old here new : Place) (levels low : List Level) (l : Level) (got more : List Instr) → Running old levels got here → BuildsNext (Ok an_end) here new → levels ≡ low ++ l ∷ [] → ((rest : Code) → onto more rest ≡ onto l.before.items (closed l.opened l.ty (code got) rest)) → Running old low more new
+pub run_close : (old here new : Place) (levels low : List Level) (l : Level) (got more : List Instr) → Running old levels got here → BuildsNext (Ok an_end) here new → levels ≡ low ++ l ∷ []
+    → ((rest : Code) → onto more rest ≡ onto l.before.items (closed l.opened l.ty (code got) rest)) → Running old low more new
 run_close old here new levels low l got more r n e h = record {
   going = λ c end b. closed_in l.opened l.ty l.before.items (Ahead (reverse low) c end) got more here new n h (shown_last levels low l c end (onto got) here e (r.going c end b));
 }
@@ -217,7 +238,8 @@ yes_no : true ≡ false → ⊥
 yes_no e = cc
 
 -- by what a call answered
-by_answer : (q : Result Bool BuildFault) (old new : Place) (levels : List Level) (body : Vec Instr Global) → IfOk q (λ ended. ended ≡ false) → OnOk q (Running old levels body.items new) → IfErr q (λ d. Builds view SpelledExpression (Err d) old new) → Turned q old levels body new
+by_answer : (q : Result Bool BuildFault) (old new : Place) (levels : List Level) (body : Vec Instr Global) → IfOk q (λ ended. ended ≡ false) → OnOk q (Running old levels body.items new)
+    → IfErr q (λ d. Builds view SpelledExpression (Err d) old new) → Turned q old levels body new
 by_answer (Ok true) old new levels body on ok err = absurd (yes_no on)
 by_answer (Ok false) old new levels body on ok err = ok
 by_answer (Err d) old new levels body on ok err = err
@@ -243,15 +265,18 @@ turned_memory q d y old new levels body e f g = subst (λ z. Turned z old levels
 -- the head of a construct
 pub turn_open : (opened : Opened) (ty : Option ValType) (next : Next) (q : Result Bool BuildFault) (levels new_levels : List Level) (body new_body : Vec Instr Global) → IfOk q (λ ended. ended ≡ false)
     → OnOk q (new_levels ≡ levels ++ (record { before = body; ty = ty; opened = opened }) ∷ []) → OnOk q (new_body.items ≡ []) → IfErr q (λ e. e ≡ Memory)
-    → ((old here new : Place) → Running old levels body.items here → BuildsNext (Ok next) here new → new_body.items ≡ [] → new_levels ≡ levels ++ (record { before = body; ty = ty; opened = opened }) ∷ [] → Running old new_levels new_body.items new)
+    → ((old here new : Place) → Running old levels body.items here → BuildsNext (Ok next) here new → new_body.items ≡ []
+    → new_levels ≡ levels ++ (record { before = body; ty = ty; opened = opened }) ∷ [] → Running old new_levels new_body.items new)
     → Turns next levels body q new_levels new_body
 turn_open opened ty next q levels new_levels body new_body on there none err run = λ old here new r n.
-    by_answer q old new new_levels new_body on (ok_both q (λ e f. run old here new r n f e) there none) (err_by q (λ e. e ≡ Memory) (λ d. Builds view SpelledExpression (Err d) old new) (λ d e. memory_is old new d e) err)
+    by_answer q old new new_levels new_body on (ok_both q (λ e f. run old here new r n f e) there none)
+    (err_by q (λ e. e ≡ Memory) (λ d. Builds view SpelledExpression (Err d) old new) (λ d e. memory_is old new d e) err)
 
 pub turn_instr : (levels : List Level) (body new_body : Vec Instr Global) (i : Instr) → new_body.items ≡ body.items ++ i ∷ [] → Turns (an_instr i) levels body (Ok false) levels new_body
 turn_instr levels body new_body i e = λ old here new r n. run_instr old here new levels body.items new_body.items i r n e
 
-pub turn_else : (q : Result Bool BuildFault) (levels low new_levels : List Level) (l : Level) (body new_body : Vec Instr Global) → levels ≡ low ++ l ∷ [] → IfOk q (λ ended. ended ≡ false) → OnOk q (IsTurned l low body new_levels) → OnOk q (new_body.items ≡ []) → IfErr q (IsLost l)
+pub turn_else : (q : Result Bool BuildFault) (levels low new_levels : List Level) (l : Level) (body new_body : Vec Instr Global) → levels ≡ low ++ l ∷ [] → IfOk q (λ ended. ended ≡ false)
+    → OnOk q (IsTurned l low body new_levels) → OnOk q (new_body.items ≡ []) → IfErr q (IsLost l)
     → Turns an_else levels body q new_levels new_body
 turn_else q levels low new_levels l body new_body e on there none err = λ old here new r n.
     by_answer q old new new_levels new_body on (ok_both q (λ t f. run_else old here new levels low new_levels l body new_body.items r n e t f) there none)
@@ -270,9 +295,11 @@ turn_close q levels low l body new_body e on there err = λ old here new r n.
     (err_by q (λ d. d ≡ Memory) (λ d. Builds view SpelledExpression (Err d) old new) (λ d e. memory_is old new d e) err)
 
 -- an exit with the fault of a turn
-pub turn_fails : {old last : Place} {d y : BuildFault} {q : Result (Vec Instr Global) BuildFault} → q ≡ Err y → y ≡ d → Builds view SpelledExpression (Err d) old last → Builds view SpelledExpression q old last
+pub turn_fails : {old last : Place} {d y : BuildFault} {q : Result (Vec Instr Global) BuildFault} → q ≡ Err y → y ≡ d → Builds view SpelledExpression (Err d) old last
+    → Builds view SpelledExpression q old last
 turn_fails e f n = record { built = λ c end b. fails view _ c _ end _ _ e f (n.built c end b) }
 
 -- a fault of what stands next
-pub turned_stop : {old here new : Place} {levels : List Level} {got : List Instr} (new_levels : List Level) (body : Vec Instr Global) (q : Result Bool BuildFault) (y : BuildFault) → q ≡ Err y → BuildsNext (Err y) here new → Running old levels got here → Turned q old new_levels body new
+pub turned_stop : {old here new : Place} {levels : List Level} {got : List Instr} (new_levels : List Level) (body : Vec Instr Global) (q : Result Bool BuildFault) (y : BuildFault)
+    → q ≡ Err y → BuildsNext (Err y) here new → Running old levels got here → Turned q old new_levels body new
 turned_stop {old = old} {new = new} new_levels body q y e n r = subst (λ z. Turned z old new_levels body new) (sym e) (next_stop r n refl refl)

@@ -1,10 +1,13 @@
 -- Where the bytes of a file stop being begun.
-use Rattle.std.proofs.Common.{◌≡◌, ℕ, suc, zero, ◌+◌, ◌-◌, ◌<◌, ◌≤◌, inl, inr, List, [], ◌∷◌, ◌++◌, Option, Some, None, refl, ap, sym, ◌∙◌, subst, arith, add-zero, append-nil, length, take, drop, length-take-le, length-drop, Bool, true, false, MatchBool, max}
+use Rattle.std.proofs.Common.{◌≡◌, ℕ, suc, zero, ◌+◌, ◌-◌, ◌<◌, ◌≤◌, inl, inr, List, [], ◌∷◌, ◌++◌, Option, Some, None, refl, ap, sym, ◌∙◌, subst, arith, add-zero, append-nil, length, take}
+use Rattle.std.proofs.Common.{drop, length-take-le, length-drop, Bool, true, false, MatchBool, max}
 use Rattle.std.proofs.Math.Seq.{take-add, take-append_seam}
 use Rattle.std.proofs.lemmas.List.{take_all, drop-drop}
 use Rattle.std.proofs.lemmas.Bool.{cases_lt, ne_eqb}
 use Rattle.std.specs.Option.{unwrap_or}
-use Rattle.wa_types.specs.Begun.{Goal, rest, entries, signed, Kind, some_types, some_imports, some_functions, some_tables, some_memories, some_globals, some_exports, some_elements, some_bodies, some_segments, some_value_types, some_runs, some_indices, some_bytes, first_of, wants, IsItem, IsPart, next, Steps, Leads, BegunFrom, part, then, Inside, settled, start, Begun}
+use Rattle.wa_types.specs.Begun.{Goal, rest, entries, signed, Kind, some_types, some_imports, some_functions, some_tables, some_memories, some_globals, some_exports, some_elements}
+use Rattle.wa_types.specs.Begun.{some_bodies, some_segments, some_value_types, some_runs, some_indices, some_bytes, first_of, wants, IsItem, IsPart, next, Steps, Leads, BegunFrom, part}
+use Rattle.wa_types.specs.Begun.{then, Inside, settled, start, Begun}
 use Rattle.file_laws.proofs.Items.{item_front, part_front, item_some, item_whole, one_item}
 use Rattle.file_laws.proofs.Runs.{leads_on, leads_only, leads_more, inside_less, begun_front}
 use Rattle.wasm_goals.proofs.ItemFronts.{byte_whole}
@@ -52,7 +55,8 @@ not_begun bytes at k hs h fits l never b =
     never (subst (λ n. BegunFrom n hs (between bytes at k)) (place_at bytes at (omega arith)) (leads_only 0 start (take at bytes) hs l (between bytes at k) (take k bytes) b (cut_at bytes at k h)))
 
 -- a first fault, from what stands before it
-fault : (bytes : List ℕ) (at k : ℕ) (g : Goal) (gs : List Goal) → at < k → k ≤ length bytes → Leads 0 start (take at bytes) (g ∷ gs) → IsPart (wants g) (between bytes at (k - 1)) → Inside (k - 1) (g ∷ gs) → (BegunFrom at (g ∷ gs) (between bytes at k) → ⊥) → StopsAt bytes k
+fault : (bytes : List ℕ) (at k : ℕ) (g : Goal) (gs : List Goal) → at < k → k ≤ length bytes → Leads 0 start (take at bytes) (g ∷ gs) → IsPart (wants g) (between bytes at (k - 1))
+    → Inside (k - 1) (g ∷ gs) → (BegunFrom at (g ∷ gs) (between bytes at k) → ⊥) → StopsAt bytes k
 fault bytes at k g gs h fits l short inside never =
     let place : k - 1 ≡ 0 + length (take at bytes) + length (between bytes at (k - 1)) =
     omega (arith, place_at bytes at (omega arith), length_between bytes at (k - 1) (omega arith) (omega arith)) in
@@ -132,7 +136,8 @@ end_room bytes at last end gs (Some x) s e reached =
       | inr ge ↦ absurd (reached.2 (inside_less gs x at ge s.inside))
     ]
 
-pub ready : {bounds : ModuleBounds} {m : Marks} (bytes : List ℕ) (at stop : ℕ) (all gs : List Goal) (g : Goal) (end : Option ℕ) → Stands bounds m bytes at all → all ≡ g ∷ gs → IsReached all (length bytes) end → stop ≡ unwrap_or end (length bytes) → Ready bounds m bytes at stop g gs
+pub ready : {bounds : ModuleBounds} {m : Marks} (bytes : List ℕ) (at stop : ℕ) (all gs : List Goal) (g : Goal) (end : Option ℕ) → Stands bounds m bytes at all → all ≡ g ∷ gs
+    → IsReached all (length bytes) end → stop ≡ unwrap_or end (length bytes) → Ready bounds m bytes at stop g gs
 ready {bounds = bounds} {m = m} bytes at stop all gs g None s e reached f = record {
   room = omega (arith, f, s.within);
   fits = omega (arith, f);
@@ -219,7 +224,8 @@ module _ {bounds : ModuleBounds} {m : Marks} (bytes : List ℕ) (at stop : ℕ) 
       (λ hs s. never hs (told_steps g gs told w.value (at + used) hs (sym (told_next g w.value told (at + used) w.is_told)) (subst (λ n. Steps g gs w.value n hs) (ap (λ n. at + n) long) s))))
 
   -- the item leads on
-  pub goes_on : (n : Marks) (told used : ℕ) (hs : List Goal) → IsWholeItem (wants g) (between bytes at stop) told used → Noted bounds (shown bounds g gs told at) m n → Steps g gs told (at + used) hs → Stands bounds n bytes (at + used) hs
+  pub goes_on : (n : Marks) (told used : ℕ) (hs : List Goal) → IsWholeItem (wants g) (between bytes at stop) told used → Noted bounds (shown bounds g gs told at) m n
+      → Steps g gs told (at + used) hs → Stands bounds n bytes (at + used) hs
   goes_on n told used hs w noted s =
       let fits = used_fits used w.within in
       let t = told_steps g gs w.value told (at + used) hs (told_next g w.value told (at + used) w.is_told) s in
@@ -254,10 +260,18 @@ a_first [] h = absurd (omega (arith, h))
 a_first (b ∷ bs) h = (b, bs, refl)
 
 -- any byte goes on with any bytes
-skip_one : {bounds : ModuleBounds} {m : Marks} (bytes : List ℕ) (at end : ℕ) (gs : List Goal) → Stands bounds m bytes at (rest end ∷ gs) → at + 1 ≤ length bytes → Inside (at + 1) (rest end ∷ gs) → Stands bounds m bytes (at + 1) (rest end ∷ gs)
+skip_one : {bounds : ModuleBounds} {m : Marks} (bytes : List ℕ) (at end : ℕ) (gs : List Goal) → Stands bounds m bytes at (rest end ∷ gs) → at + 1 ≤ length bytes
+    → Inside (at + 1) (rest end ∷ gs) → Stands bounds m bytes (at + 1) (rest end ∷ gs)
 unfolding next settled Inside
 skip_one {bounds = bounds} {m = m} bytes at end gs s fits inside =
-    let y : Ready bounds m bytes at (at + 1) (rest end) gs = record { room = omega arith; fits = fits; leads = s.leads; marked = s.marked; below = λ j h. inside_less (rest end ∷ gs) j (at + 1) (omega (arith, h)) inside } in
+    let y : Ready bounds m bytes at (at + 1) (rest end) gs = record {
+      room = omega arith;
+      fits = fits;
+      leads = s.leads;
+      marked = s.marked;
+      below = λ j h.
+          inside_less (rest end ∷ gs) j (at + 1) (omega (arith, h)) inside;
+    } in
     let long = length_between bytes at (at + 1) (omega arith) fits in
     let f = a_first (between bytes at (at + 1)) (omega (arith, long)) in
     let before : at + 1 < end = inside.0 in
@@ -269,7 +283,8 @@ skip_one {bounds = bounds} {m = m} bytes at end gs s fits inside =
     } in
     goes_on bytes at (at + 1) (rest end) gs y m f.0 1 (rest end ∷ gs) (byte_whole f.0 f.1 (between bytes at (at + 1)) f.2) (noted_none bounds m) steps
 
-skips : {bounds : ModuleBounds} {m : Marks} (bytes : List ℕ) (at n end : ℕ) (gs : List Goal) → Stands bounds m bytes at (rest end ∷ gs) → at + n ≤ length bytes → Inside (at + n) (rest end ∷ gs) → Stands bounds m bytes (at + n) (rest end ∷ gs)
+skips : {bounds : ModuleBounds} {m : Marks} (bytes : List ℕ) (at n end : ℕ) (gs : List Goal) → Stands bounds m bytes at (rest end ∷ gs) → at + n ≤ length bytes
+    → Inside (at + n) (rest end ∷ gs) → Stands bounds m bytes (at + n) (rest end ∷ gs)
 skips {bounds = bounds} {m = m} bytes at zero end gs s fits inside = subst (λ k. Stands bounds m bytes k (rest end ∷ gs)) (sym (add-zero at)) s
 skips {bounds = bounds} {m = m} bytes at (suc n) end gs s fits inside =
     let place : at + n + 1 ≡ at + suc n = omega arith in
@@ -277,7 +292,8 @@ skips {bounds = bounds} {m = m} bytes at (suc n) end gs s fits inside =
     subst (λ k. Stands bounds m bytes k (rest end ∷ gs)) place (skip_one bytes (at + n) end gs near (omega (arith, fits)) (subst (λ k. Inside k (rest end ∷ gs)) (sym place) inside))
 
 -- all but the last byte before a stop
-pub skips_to : {bounds : ModuleBounds} {m : Marks} (bytes : List ℕ) (at stop place end : ℕ) (g : Goal) (gs : List Goal) → g ≡ rest end → place ≡ max at (stop - 1) → Stands bounds m bytes at (g ∷ gs) → stop ≤ length bytes → ((j : ℕ) → j < stop → Inside j (g ∷ gs)) → Stands bounds m bytes place (g ∷ gs)
+pub skips_to : {bounds : ModuleBounds} {m : Marks} (bytes : List ℕ) (at stop place end : ℕ) (g : Goal) (gs : List Goal) → g ≡ rest end → place ≡ max at (stop - 1)
+    → Stands bounds m bytes at (g ∷ gs) → stop ≤ length bytes → ((j : ℕ) → j < stop → Inside j (g ∷ gs)) → Stands bounds m bytes place (g ∷ gs)
 skips_to {bounds = bounds} {m = m} bytes at stop place end g gs e f s fits below = elim (cases_lt at (stop - 1)) [
   | inl lt ↦
       let n : at + (place - at) ≡ place = omega (arith, f, lt) in
@@ -289,7 +305,9 @@ skips_to {bounds = bounds} {m = m} bytes at stop place end g gs e f s fits below
 ]
 
 -- what stands where reading goes on
-pub on_from : {bounds : ModuleBounds} {m : Marks} (bytes : List ℕ) (at from stop : ℕ) (all gs : List Goal) (g : Goal) (end : Option ℕ) → Stands bounds m bytes at all → all ≡ g ∷ gs → IsReached all (length bytes) end → stop ≡ unwrap_or end (length bytes) → (Stands bounds m bytes at (g ∷ gs) → stop ≤ length bytes → ((j : ℕ) → j < stop → Inside j (g ∷ gs)) → Stands bounds m bytes from (g ∷ gs)) → Stands bounds m bytes from all
+pub on_from : {bounds : ModuleBounds} {m : Marks} (bytes : List ℕ) (at from stop : ℕ) (all gs : List Goal) (g : Goal) (end : Option ℕ) → Stands bounds m bytes at all → all ≡ g ∷ gs
+    → IsReached all (length bytes) end → stop ≡ unwrap_or end (length bytes) → (Stands bounds m bytes at (g ∷ gs) → stop ≤ length bytes → ((j : ℕ) → j < stop → Inside j (g ∷ gs))
+    → Stands bounds m bytes from (g ∷ gs)) → Stands bounds m bytes from all
 on_from {bounds = bounds} {m = m} bytes at from stop all gs g end s e reached f on =
     let y = ready bytes at stop all gs g end s e reached f in
     subst (Stands bounds m bytes from) (sym e) (on (subst (Stands bounds m bytes at) e s) y.fits y.below)

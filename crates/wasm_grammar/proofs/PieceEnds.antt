@@ -1,5 +1,6 @@
 -- Between two pieces of a file, and at its end.
-use Rattle.std.proofs.Common.{◌≡◌, ℕ, ◌+◌, ◌-◌, ◌<◌, ◌≤◌, inl, inr, List, [], ◌∷◌, ◌++◌, refl, ap, sym, ◌∙◌, subst, arith, append-nil, length, take, drop, length-append, length-take-le, length-drop, true, false, eqb-true}
+use Rattle.std.proofs.Common.{◌≡◌, ℕ, ◌+◌, ◌-◌, ◌<◌, ◌≤◌, inl, inr, List, [], ◌∷◌, ◌++◌, refl, ap, sym, ◌∙◌, subst, arith, append-nil, length, take, drop, length-append, length-take-le}
+use Rattle.std.proofs.Common.{length-drop, true, false, eqb-true}
 use Rattle.std.proofs.lemmas.List.{take_all, take-append-drop, take-append-le, drop_all}
 use Rattle.std.proofs.Math.Seq.{take-add}
 use Rattle.wa_types.specs.Begun.{Goal, sections, wants, IsPart, Leads, arrived, item, BegunFrom, ends, part, Inside, start, Begun, IsWhole, FaultAt}
@@ -37,7 +38,8 @@ wait_fault bytes at gs w never = record {
 }
 
 -- what a whole file needs from a place on
-whole_from : {bounds : ModuleBounds} {m : Marks} (bytes : List ℕ) (at : ℕ) (gs : List Goal) → Stands bounds m bytes at gs → (w : IsWhole bytes) → Leads (0 + length (take at bytes)) gs (drop at bytes) (sections w.0 0 ∷ [])
+whole_from : {bounds : ModuleBounds} {m : Marks} (bytes : List ℕ) (at : ℕ) (gs : List Goal) → Stands bounds m bytes at gs → (w : IsWhole bytes)
+    → Leads (0 + length (take at bytes)) gs (drop at bytes) (sections w.0 0 ∷ [])
 whole_from bytes at gs s w = leads_through 0 start (take at bytes) gs s.leads (drop at bytes) bytes (sections w.0 0 ∷ []) w.1 (sym (take-append-drop at bytes))
 
 part_stands : (at : ℕ) (gs hs : List Goal) (bytes : List ℕ) → IsPartOf gs bytes → 0 < length bytes → Leads at gs bytes hs → ⊥
@@ -71,7 +73,8 @@ pub fault_wanting : {bounds : ModuleBounds} {m : Marks} (bytes : List ℕ) (at :
 fault_wanting bytes at gs w h no_end =
     wait_fault bytes at gs w (λ z.
     let same : gs ≡ sections z.0 0 ∷ [] =
-    lead_nothing (0 + length (take at bytes)) gs (sections z.0 0 ∷ []) (subst (λ b. Leads (0 + length (take at bytes)) gs b (sections z.0 0 ∷ [])) (none_left bytes at h) (whole_from bytes at gs w.stands z)) in
+    lead_nothing (0 + length (take at bytes)) gs (sections z.0 0 ∷ []) (subst (λ b. Leads (0 + length (take at bytes)) gs b (sections z.0 0 ∷ [])) (none_left bytes at h)
+    (whole_from bytes at gs w.stands z)) in
     let f : true ≡ false = sym (ap is_end same) ∙ no_end in
     absurd (cc))
 
@@ -118,7 +121,8 @@ first_stands bounds m bytes at gs d e f = record {
   within = omega (arith, e);
   leads = subst (λ n. Leads 0 start (take n bytes) gs) (sym e) (subst (Leads 0 start []) (sym f) arrived);
   inside = subst (Inside at) (sym f) (tt, (tt, (tt, (tt, (tt, (tt, (tt, (tt, (tt, tt)))))))));
-  marked = subst (λ n. MarksAlong bounds 0 start (take n bytes) gs m) (sym e) (subst (λ z. MarksAlong bounds 0 start [] z m) (sym f) (subst (MarksAlong bounds 0 start [] start) (sym d) (marks_begin bounds 0 start)));
+  marked = subst (λ n. MarksAlong bounds 0 start (take n bytes) gs m) (sym e) (subst (λ z. MarksAlong bounds 0 start [] z m) (sym f)
+      (subst (MarksAlong bounds 0 start [] start) (sym d) (marks_begin bounds 0 start)));
 }
 
 -- more bytes change nothing of what stands
@@ -131,7 +135,8 @@ stands_on {bounds = bounds} {m = m} bytes piece at gs s = record {
 }
 
 -- what is marked along a whole file
-pub marked_there : {bounds : ModuleBounds} {m : Marks} (bytes : List ℕ) (at : ℕ) (gs : List Goal) → Waits bounds m bytes at gs → length bytes ≤ at → is_end gs ≡ true → (last : ℕ) × MarksAlong bounds 0 start bytes (sections last 0 ∷ []) m
+pub marked_there : {bounds : ModuleBounds} {m : Marks} (bytes : List ℕ) (at : ℕ) (gs : List Goal) → Waits bounds m bytes at gs → length bytes ≤ at → is_end gs ≡ true
+    → (last : ℕ) × MarksAlong bounds 0 start bytes (sections last 0 ∷ []) m
 marked_there {bounds = bounds} {m = m} bytes at gs w h end =
     let e = end_is gs end in
     (e.0, subst (λ z. MarksAlong bounds 0 start bytes z m) e.1 (subst (λ b. MarksAlong bounds 0 start b gs m) (take_all at bytes h) w.stands.marked))

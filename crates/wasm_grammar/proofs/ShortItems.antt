@@ -1,5 +1,6 @@
 -- Short items, passed over at once.
-use Rattle.std.proofs.Common.{◌≡◌, ℕ, suc, zero, ◌+◌, ◌-◌, ◌*◌, ◌^◌, ◌<◌, ◌≤◌, inl, inr, List, [], ◌∷◌, ◌++◌, Option, Some, None, IfSome, Ok, refl, ap, sym, ◌∙◌, subst, arith, length, take, drop, get_or, Bool, true, false, nat_le}
+use Rattle.std.proofs.Common.{◌≡◌, ℕ, suc, zero, ◌+◌, ◌-◌, ◌*◌, ◌^◌, ◌<◌, ◌≤◌, inl, inr, List, [], ◌∷◌, ◌++◌, Option, Some, None, IfSome, Ok, refl, ap, sym, ◌∙◌, subst, arith, length, take}
+use Rattle.std.proofs.Common.{drop, get_or, Bool, true, false, nat_le}
 use Rattle.std.specs.Bool.{OnTrue}
 use Rattle.std.proofs.lemmas.List.{drop_more, append_assoc}
 use Rattle.std.proofs.lemmas.Bool.{le-ltb, cases_lt}
@@ -12,7 +13,8 @@ use Rattle.wasm_marks.specs.declared.marks.Marks.{Marks}
 use Rattle.wasm_marks.specs.Showing.{nothing_seen, floats_seen, opens_seen, levels, shown, Noted}
 use Rattle.wasm_marks.proofs.Noting.{noted_none}
 use Rattle.wasm_marks.proofs.TellingCode.{opens_none}
-use Rattle.wa_types.specs.Begun.{Goal, code, block_type, value_type, number, signed, entries, Kind, some_runs, Item, a_byte, an_unsigned, a_signed, a_name, a_constant_of, wants, IsItem, next, Inside, Steps, settled, operands, where_true, and_then, others}
+use Rattle.wa_types.specs.Begun.{Goal, code, block_type, value_type, number, signed, entries, Kind, some_runs, Item, a_byte, an_unsigned, a_signed, a_name, a_constant_of, wants, IsItem}
+use Rattle.wa_types.specs.Begun.{next, Inside, Steps, settled, operands, where_true, and_then, others}
 use Rattle.file_laws.proofs.CodeReads.{refuted, none_nest}
 use Rattle.wasm_cursor.proofs.LowNumbers.{low_signed}
 use Rattle.wasm_goals.specs.Items.{IsTold, IsWholeItem}
@@ -75,7 +77,9 @@ one_between bytes at end h e =
     ap (λ n. take n (drop at bytes)) one ∙ ap (take 1) (drop_more bytes at 0 h)
 
 -- an item leads on
-item_on : {bounds : ModuleBounds} {m : Marks} (n : Marks) (bytes : List ℕ) (at end stop : ℕ) (g : Goal) (gs new hs : List Goal) (v : ℕ) → at ≤ end → end < stop → stop ≤ length bytes → Below stop (g ∷ gs) → Stands bounds m bytes at (g ∷ gs) → IsItem (wants g) (between bytes at end) v → next g v end ≡ Some new → Noted bounds (shown bounds g gs v at) m n → settled end (new ++ gs) ≡ Some hs → Below stop hs → Stands bounds n bytes end hs
+item_on : {bounds : ModuleBounds} {m : Marks} (n : Marks) (bytes : List ℕ) (at end stop : ℕ) (g : Goal) (gs new hs : List Goal) (v : ℕ) → at ≤ end → end < stop → stop ≤ length bytes
+    → Below stop (g ∷ gs) → Stands bounds m bytes at (g ∷ gs) → IsItem (wants g) (between bytes at end) v → next g v end ≡ Some new → Noted bounds (shown bounds g gs v at) m n
+    → settled end (new ++ gs) ≡ Some hs → Below stop hs → Stands bounds n bytes end hs
 item_on {bounds = bounds} {m = m} n bytes at end stop g gs new hs v ahead room fits below s it e noted t inside =
     let y : Ready bounds m bytes at stop g gs = record { room = omega (arith, ahead, room); fits = fits; leads = s.leads; marked = s.marked; below = below } in
     let long = length_between bytes at stop (omega (arith, ahead, room)) fits in
@@ -93,7 +97,9 @@ item_on {bounds = bounds} {m = m} n bytes at end stop g gs new hs v ahead room f
     (goes_on bytes at stop g gs y n v (end - at) hs w noted (subst (λ k. Steps g gs v k hs) (sym place) steps))
 
 -- an item of one byte leads on
-one_on : {bounds : ModuleBounds} {m : Marks} (n : Marks) (bytes : List ℕ) (at stop : ℕ) (g : Goal) (gs new hs : List Goal) (v : ℕ) → at + 1 < stop → stop ≤ length bytes → Below stop (g ∷ gs) → Stands bounds m bytes at (g ∷ gs) → IsItem (wants g) (get_or bytes at 0 ∷ []) v → next g v (at + 1) ≡ Some new → Noted bounds (shown bounds g gs v at) m n → settled (at + 1) (new ++ gs) ≡ Some hs → Below stop hs → Stands bounds n bytes (at + 1) hs
+one_on : {bounds : ModuleBounds} {m : Marks} (n : Marks) (bytes : List ℕ) (at stop : ℕ) (g : Goal) (gs new hs : List Goal) (v : ℕ) → at + 1 < stop → stop ≤ length bytes
+    → Below stop (g ∷ gs) → Stands bounds m bytes at (g ∷ gs) → IsItem (wants g) (get_or bytes at 0 ∷ []) v → next g v (at + 1) ≡ Some new → Noted bounds (shown bounds g gs v at) m n
+    → settled (at + 1) (new ++ gs) ≡ Some hs → Below stop hs → Stands bounds n bytes (at + 1) hs
 one_on n bytes at stop g gs new hs v room fits below s it e noted t inside =
     item_on n bytes at (at + 1) stop g gs new hs v (omega arith) room fits below s
     (subst (λ z. IsItem (wants g) z v) (sym (one_between bytes at (at + 1) (omega (arith, room, fits)) refl)) it) e noted t inside
@@ -161,29 +167,35 @@ plain_shown : (bounds : ModuleBounds) (b : Bool) (gs : List Goal) (op at : ℕ) 
 plain_shown bounds b gs op at f e whole = rw (whole, opens_none op f e) refl
 
 -- a number behind an opcode
-number_on : {bounds : ModuleBounds} {m : Marks} (bytes : List ℕ) (at end stop : ℕ) (g : Goal) (gs : List Goal) → at < end → end < stop → stop ≤ length bytes → IsShort 4 (between bytes at end) → Below stop (g ∷ gs) → settled end (g ∷ gs) ≡ Some (g ∷ gs) → Stands bounds m bytes at (number ∷ g ∷ gs) → Stands bounds m bytes end (g ∷ gs)
+number_on : {bounds : ModuleBounds} {m : Marks} (bytes : List ℕ) (at end stop : ℕ) (g : Goal) (gs : List Goal) → at < end → end < stop → stop ≤ length bytes
+    → IsShort 4 (between bytes at end) → Below stop (g ∷ gs) → settled end (g ∷ gs) ≡ Some (g ∷ gs) → Stands bounds m bytes at (number ∷ g ∷ gs) → Stands bounds m bytes end (g ∷ gs)
 unfolding next
 number_on {bounds = bounds} {m = m} bytes at end stop g gs ahead room fits short below t s =
     let n = unsigned_by 4 32 (between bytes at end) (omega arith) short in
     item_on m bytes at end stop number (g ∷ gs) [] (g ∷ gs) n.0 (omega (arith, ahead)) room fits (below_number (g ∷ gs) stop below) s n.1 refl (noted_none bounds m) t below
 
 -- an opcode, and what its numbers have to lead to
-opcode_on : {bounds : ModuleBounds} {m : Marks} (bytes : List ℕ) (at stop : ℕ) (f : Follows) (b : Bool) (gs : List Goal) → at + 1 < stop → stop ≤ length bytes → Some f ≡ follows (get_or bytes at 0) → is_float_op (get_or bytes at 0) ≡ false → Below stop gs → settled (at + 1) (operands f ++ code b ∷ gs) ≡ Some (operands f ++ code b ∷ gs) → Below stop (operands f ++ code b ∷ gs) → Stands bounds m bytes at (code b ∷ gs) → Stands bounds m bytes (at + 1) (operands f ++ code b ∷ gs)
+opcode_on : {bounds : ModuleBounds} {m : Marks} (bytes : List ℕ) (at stop : ℕ) (f : Follows) (b : Bool) (gs : List Goal) → at + 1 < stop → stop ≤ length bytes
+    → Some f ≡ follows (get_or bytes at 0) → is_float_op (get_or bytes at 0) ≡ false → Below stop gs → settled (at + 1) (operands f ++ code b ∷ gs) ≡ Some (operands f ++ code b ∷ gs)
+    → Below stop (operands f ++ code b ∷ gs) → Stands bounds m bytes at (code b ∷ gs) → Stands bounds m bytes (at + 1) (operands f ++ code b ∷ gs)
 opcode_on {bounds = bounds} {m = m} bytes at stop f b gs room fits e whole below t inside s =
     one_on m bytes at stop (code b) gs (operands f ++ code b ∷ []) (operands f ++ code b ∷ gs) (get_or bytes at 0) room fits (below_code b gs stop below) s refl (plain_next b _ (at + 1) f (sym e))
     (subst (λ z. Noted bounds z m m) (sym (plain_shown bounds b gs _ at f (sym e) whole)) (noted_none bounds m)) (ap (settled (at + 1)) (append_assoc (operands f) (code b ∷ []) gs) ∙ t) inside
 
-pub passes_nothing : (bytes : List ℕ) (at stop : ℕ) → at + 1 < stop → stop ≤ length bytes → Some no_operand ≡ follows (get_or bytes at 0) → is_float_op (get_or bytes at 0) ≡ false → Passes bytes at (at + 1) stop
+pub passes_nothing : (bytes : List ℕ) (at stop : ℕ) → at + 1 < stop → stop ≤ length bytes → Some no_operand ≡ follows (get_or bytes at 0) → is_float_op (get_or bytes at 0) ≡ false
+    → Passes bytes at (at + 1) stop
 passes_nothing bytes at stop room fits e whole bounds m b gs below s =
     opcode_on bytes at stop no_operand b gs room fits e whole below (settled_code (at + 1) b gs) (below_code b gs stop below) s
 
-pub passes_index : (bytes : List ℕ) (at end stop : ℕ) → at + 1 < end → end < stop → stop ≤ length bytes → Some an_index ≡ follows (get_or bytes at 0) → is_float_op (get_or bytes at 0) ≡ false → IsShort 4 (between bytes (at + 1) end) → Passes bytes at end stop
+pub passes_index : (bytes : List ℕ) (at end stop : ℕ) → at + 1 < end → end < stop → stop ≤ length bytes → Some an_index ≡ follows (get_or bytes at 0)
+    → is_float_op (get_or bytes at 0) ≡ false → IsShort 4 (between bytes (at + 1) end) → Passes bytes at end stop
 passes_index bytes at end stop ahead room fits e whole short bounds m b gs below s =
     let inside = below_code b gs stop below in
     number_on bytes (at + 1) end stop (code b) gs ahead room fits short inside (settled_code end b gs)
     (opcode_on bytes at stop an_index b gs (omega (arith, ahead, room)) fits e whole below (settled_number (at + 1) (code b ∷ gs)) (below_number (code b ∷ gs) stop inside) s)
 
-pub passes_access : (bytes : List ℕ) (at end stop : ℕ) → end < stop → stop ≤ length bytes → Some an_access ≡ follows (get_or bytes at 0) → is_float_op (get_or bytes at 0) ≡ false → AreShort bytes (at + 1) end → Passes bytes at end stop
+pub passes_access : (bytes : List ℕ) (at end stop : ℕ) → end < stop → stop ≤ length bytes → Some an_access ≡ follows (get_or bytes at 0) → is_float_op (get_or bytes at 0) ≡ false
+    → AreShort bytes (at + 1) end → Passes bytes at end stop
 passes_access bytes at end stop room fits e whole short bounds m b gs below s =
     let inside = below_code b gs stop below in
     let one = below_number (code b ∷ gs) stop inside in
@@ -192,7 +204,8 @@ passes_access bytes at end stop room fits e whole short bounds m b gs below s =
     (number_on bytes (at + 1) short.second stop number (code b ∷ gs) short.ahead (omega (arith, short.more, room)) fits short.first_short one (settled_number short.second (code b ∷ gs))
     (opcode_on bytes at stop an_access b gs room_before fits e whole below (settled_number (at + 1) (number ∷ code b ∷ gs)) (below_number (number ∷ code b ∷ gs) stop one) s))
 
-pub passes_constant : (bits : ℕ) (bytes : List ℕ) (at end stop : ℕ) → 28 < bits → at + 1 < end → end < stop → stop ≤ length bytes → Some (a_constant bits) ≡ follows (get_or bytes at 0) → is_float_op (get_or bytes at 0) ≡ false → IsShort 4 (between bytes (at + 1) end) → Passes bytes at end stop
+pub passes_constant : (bits : ℕ) (bytes : List ℕ) (at end stop : ℕ) → 28 < bits → at + 1 < end → end < stop → stop ≤ length bytes → Some (a_constant bits) ≡ follows (get_or bytes at 0)
+    → is_float_op (get_or bytes at 0) ≡ false → IsShort 4 (between bytes (at + 1) end) → Passes bytes at end stop
 unfolding next
 passes_constant bits bytes at end stop many ahead room fits e whole short bounds m b gs below s =
     let inside = below_code b gs stop below in
@@ -202,32 +215,40 @@ passes_constant bits bytes at end stop many ahead room fits e whole short bounds
     n.1 refl (noted_none bounds m) (settled_code end b gs) inside
 
 -- the head of a construct
-opens_level : (bytes : List ℕ) (at stop : ℕ) (inner : Bool) → at + 2 < stop → stop ≤ length bytes → ((b : Bool) → next (code b) (get_or bytes at 0) (at + 1) ≡ Some (block_type ∷ code inner ∷ code b ∷ []))
+opens_level : (bytes : List ℕ) (at stop : ℕ) (inner : Bool) → at + 2 < stop → stop ≤ length bytes
+    → ((b : Bool) → next (code b) (get_or bytes at 0) (at + 1) ≡ Some (block_type ∷ code inner ∷ code b ∷ []))
     → ((bounds : ModuleBounds) (b : Bool) (gs : List Goal) → shown bounds (code b) gs (get_or bytes at 0) at ≡ opens_seen (place_if (nat_le bounds.nesting (levels gs)) at))
     → is_block_type (get_or bytes (at + 1) 0) ≡ true → is_float_type (get_or bytes (at + 1) 0) ≡ false → Opens bytes at inner stop
 unfolding next
 opens_level bytes at stop inner room fits e level typed whole bounds m n b gs below noted s =
     let inside = below_code inner (code b ∷ gs) stop (below_code b gs stop below) in
     let one : Stands bounds n bytes (at + 1) (block_type ∷ code inner ∷ code b ∷ gs) =
-    one_on n bytes at stop (code b) gs (block_type ∷ code inner ∷ code b ∷ []) (block_type ∷ code inner ∷ code b ∷ gs) (get_or bytes at 0) (omega (arith, room)) fits (below_code b gs stop below) s refl (e b) (subst (λ z. Noted bounds z m n) (sym (level bounds b gs)) noted) (settled_type (at + 1) (code inner ∷ code b ∷ gs)) (below_type (code inner ∷ code b ∷ gs) stop inside) in
+    one_on n bytes at stop (code b) gs (block_type ∷ code inner ∷ code b ∷ []) (block_type ∷ code inner ∷ code b ∷ gs) (get_or bytes at 0) (omega (arith, room)) fits
+    (below_code b gs stop below) s refl (e b) (subst (λ z. Noted bounds z m n) (sym (level bounds b gs)) noted) (settled_type (at + 1) (code inner ∷ code b ∷ gs))
+    (below_type (code inner ∷ code b ∷ gs) stop inside) in
     let place : at + 1 + 1 ≡ at + 2 = omega arith in
     subst (λ k. Stands bounds n bytes k (code inner ∷ code b ∷ gs)) place
-    (one_on n bytes (at + 1) stop block_type (code inner ∷ code b ∷ gs) [] (code inner ∷ code b ∷ gs) (get_or bytes (at + 1) 0) (omega (arith, room)) fits (below_type (code inner ∷ code b ∷ gs) stop inside) one refl (ap (λ t. where_true t []) typed) (subst (λ z. Noted bounds (floats_seen (place_if z (at + 1))) n n) (sym whole) (noted_none bounds n)) (settled_code (at + 1 + 1) inner (code b ∷ gs)) inside)
+    (one_on n bytes (at + 1) stop block_type (code inner ∷ code b ∷ gs) [] (code inner ∷ code b ∷ gs) (get_or bytes (at + 1) 0) (omega (arith, room)) fits
+    (below_type (code inner ∷ code b ∷ gs) stop inside) one refl (ap (λ t. where_true t []) typed)
+    (subst (λ z. Noted bounds (floats_seen (place_if z (at + 1))) n n) (sym whole) (noted_none bounds n)) (settled_code (at + 1 + 1) inner (code b ∷ gs)) inside)
 
 level_of : (op k at : ℕ) (inner b : Bool) → op ≡ k → next (code b) k at ≡ Some (block_type ∷ code inner ∷ code b ∷ []) → next (code b) op at ≡ Some (block_type ∷ code inner ∷ code b ∷ [])
 level_of op k at inner b e h = ap (λ z. next (code b) z at) e ∙ h
 
-pub opens_block : (bytes : List ℕ) (at stop : ℕ) → at + 2 < stop → stop ≤ length bytes → get_or bytes at 0 ≡ 0x02 → is_block_type (get_or bytes (at + 1) 0) ≡ true → is_float_type (get_or bytes (at + 1) 0) ≡ false → Opens bytes at false stop
+pub opens_block : (bytes : List ℕ) (at stop : ℕ) → at + 2 < stop → stop ≤ length bytes → get_or bytes at 0 ≡ 0x02 → is_block_type (get_or bytes (at + 1) 0) ≡ true
+    → is_float_type (get_or bytes (at + 1) 0) ≡ false → Opens bytes at false stop
 unfolding next
 opens_block bytes at stop room fits e typed whole =
     opens_level bytes at stop false room fits (λ b. level_of _ 0x02 (at + 1) false b e refl) (λ bounds b gs. ap (λ z. shown bounds (code b) gs z at) e) typed whole
 
-pub opens_loop : (bytes : List ℕ) (at stop : ℕ) → at + 2 < stop → stop ≤ length bytes → get_or bytes at 0 ≡ 0x03 → is_block_type (get_or bytes (at + 1) 0) ≡ true → is_float_type (get_or bytes (at + 1) 0) ≡ false → Opens bytes at false stop
+pub opens_loop : (bytes : List ℕ) (at stop : ℕ) → at + 2 < stop → stop ≤ length bytes → get_or bytes at 0 ≡ 0x03 → is_block_type (get_or bytes (at + 1) 0) ≡ true
+    → is_float_type (get_or bytes (at + 1) 0) ≡ false → Opens bytes at false stop
 unfolding next
 opens_loop bytes at stop room fits e typed whole =
     opens_level bytes at stop false room fits (λ b. level_of _ 0x03 (at + 1) false b e refl) (λ bounds b gs. ap (λ z. shown bounds (code b) gs z at) e) typed whole
 
-pub opens_if : (bytes : List ℕ) (at stop : ℕ) → at + 2 < stop → stop ≤ length bytes → get_or bytes at 0 ≡ 0x04 → is_block_type (get_or bytes (at + 1) 0) ≡ true → is_float_type (get_or bytes (at + 1) 0) ≡ false → Opens bytes at true stop
+pub opens_if : (bytes : List ℕ) (at stop : ℕ) → at + 2 < stop → stop ≤ length bytes → get_or bytes at 0 ≡ 0x04 → is_block_type (get_or bytes (at + 1) 0) ≡ true
+    → is_float_type (get_or bytes (at + 1) 0) ≡ false → Opens bytes at true stop
 unfolding next
 opens_if bytes at stop room fits e typed whole =
     opens_level bytes at stop true room fits (λ b. level_of _ 0x04 (at + 1) true b e refl) (λ bounds b gs. ap (λ z. shown bounds (code b) gs z at) e) typed whole
@@ -253,7 +274,8 @@ past a b h = grind (arith)
 more_left : (k : Kind) (m : ℕ) → 1 < m → others k m ≡ entries k (m - 1) ∷ []
 more_left k m h = rw (past m 1 h) refl
 
-pub passes_more : (bytes : List ℕ) (k : Kind) (n at i stop : ℕ) → at + i + 1 < stop → stop ≤ length bytes → i + 1 < n → IsAlone k (get_or bytes (at + i) 0) → PassesEntries bytes k n at i stop → PassesEntries bytes k n at (i + 1) stop
+pub passes_more : (bytes : List ℕ) (k : Kind) (n at i stop : ℕ) → at + i + 1 < stop → stop ≤ length bytes → i + 1 < n → IsAlone k (get_or bytes (at + i) 0)
+    → PassesEntries bytes k n at i stop → PassesEntries bytes k n at (i + 1) stop
 unfolding next
 passes_more bytes k n at i stop room fits more a before bounds m gs below s =
     let e : next (entries k (n - i)) (get_or bytes (at + i) 0) (at + i + 1) ≡ Some (entries k (n - i - 1) ∷ []) =
@@ -261,7 +283,9 @@ passes_more bytes k n at i stop room fits more a before bounds m gs below s =
     let place : at + i + 1 ≡ at + (i + 1) = omega arith in
     let left : n - i - 1 ≡ n - (i + 1) = omega arith in
     let there : Stands bounds m bytes (at + i + 1) (entries k (n - i - 1) ∷ gs) =
-    one_on m bytes (at + i) stop (entries k (n - i)) gs (entries k (n - i - 1) ∷ []) (entries k (n - i - 1) ∷ gs) (get_or bytes (at + i) 0) room fits (below_entries k (n - i) gs stop below) (before bounds m gs below s) a.is_item e (subst (λ z. Noted bounds z m m) (sym (a.shows_none (at + i))) (noted_none bounds m)) (settled_entries (at + i + 1) k (n - i - 1) gs) (below_entries k (n - i - 1) gs stop below) in
+    one_on m bytes (at + i) stop (entries k (n - i)) gs (entries k (n - i - 1) ∷ []) (entries k (n - i - 1) ∷ gs) (get_or bytes (at + i) 0) room fits (below_entries k (n - i) gs stop below)
+    (before bounds m gs below s) a.is_item e (subst (λ z. Noted bounds z m m) (sym (a.shows_none (at + i))) (noted_none bounds m)) (settled_entries (at + i + 1) k (n - i - 1) gs)
+    (below_entries k (n - i - 1) gs stop below) in
     subst (λ z. Stands bounds m bytes (at + (i + 1)) (entries k z ∷ gs)) left (subst (λ z. Stands bounds m bytes z (entries k (n - i - 1) ∷ gs)) place there)
 
 -- runs of two bytes
@@ -297,7 +321,9 @@ passes_one_run bytes n at i stop room fits more run before bounds m gs below s =
     subst (λ z. Stands bounds m bytes (at + 2 * (i + 1)) (entries some_runs z ∷ gs)) fewer (subst (λ z. Stands bounds m bytes z left) place two)
 
 -- the machine's goals
-pub entries_on : {bounds : ModuleBounds} {m : Marks} (bytes : List ℕ) (all popped new : List Goal) (g : Goal) (k : Kind) (n at passed stop : ℕ) → all ≡ g ∷ drop 1 all → g ≡ entries k n → popped ≡ drop 1 all → new ≡ entries k (n - passed) ∷ popped → Stands bounds m bytes at all → Below stop all → PassesEntries bytes k n at passed stop → Stands bounds m bytes (at + passed) new
+pub entries_on : {bounds : ModuleBounds} {m : Marks} (bytes : List ℕ) (all popped new : List Goal) (g : Goal) (k : Kind) (n at passed stop : ℕ) → all ≡ g ∷ drop 1 all → g ≡ entries k n
+    → popped ≡ drop 1 all → new ≡ entries k (n - passed) ∷ popped → Stands bounds m bytes at all → Below stop all → PassesEntries bytes k n at passed stop
+    → Stands bounds m bytes (at + passed) new
 entries_on {bounds = bounds} {m = m} bytes all popped new g k n at passed stop top is less more s below on =
     let whole : all ≡ entries k n ∷ drop 1 all = top ∙ ap (λ z. z ∷ drop 1 all) is in
     subst (Stands bounds m bytes (at + passed)) (sym (more ∙ ap (λ z. entries k (n - passed) ∷ z) less))
@@ -313,7 +339,8 @@ runs_on {bounds = bounds} {m = m} bytes all popped new n at passed stop top less
     subst (Stands bounds m bytes (at + 2 * passed)) (sym (more ∙ ap (λ z. entries some_runs (n - passed) ∷ z) less))
     (on bounds m (drop 1 all) (below_more (entries some_runs n) (drop 1 all) stop (subst (Below stop) top below)) (subst (Stands bounds m bytes at) top s))
 
-module _ {bounds : ModuleBounds} {m : Marks} (bytes : List ℕ) (all : List Goal) (g : Goal) (at end stop : ℕ) (top : all ≡ g ∷ drop 1 all) (is : (first_arm : Bool) × (g ≡ code first_arm)) (s : Stands bounds m bytes at all) (below : Below stop all) (on : Passes bytes at end stop) where
+module _ {bounds : ModuleBounds} {m : Marks} (bytes : List ℕ) (all : List Goal) (g : Goal) (at end stop : ℕ) (top : all ≡ g ∷ drop 1 all) (is : (first_arm : Bool) × (g ≡ code first_arm))
+    (s : Stands bounds m bytes at all) (below : Below stop all) (on : Passes bytes at end stop) where
   whole_is : all ≡ code is.0 ∷ drop 1 all
   whole_is = top ∙ ap (λ z. z ∷ drop 1 all) is.1
 
@@ -326,11 +353,14 @@ module _ {bounds : ModuleBounds} {m : Marks} (bytes : List ℕ) (all : List Goal
   pub code_on : Stands bounds m bytes end all
   code_on = subst (Stands bounds m bytes end) (sym whole_is) far
 
-  pub level_on : (n : Marks) (level : ℕ) (inner : Bool) (new : List Goal) → new ≡ code inner ∷ all → level ≡ levels (drop 1 all) → Noted bounds (opens_seen (place_if (nat_le bounds.nesting level) end)) m n → Opens bytes end inner stop → Stands bounds n bytes (end + 2) new
+  pub level_on : (n : Marks) (level : ℕ) (inner : Bool) (new : List Goal) → new ≡ code inner ∷ all → level ≡ levels (drop 1 all)
+      → Noted bounds (opens_seen (place_if (nat_le bounds.nesting level) end)) m n → Opens bytes end inner stop → Stands bounds n bytes (end + 2) new
   level_on n level inner new e deep noted opens =
-      subst (Stands bounds n bytes (end + 2)) (sym (e ∙ ap (λ z. code inner ∷ z) whole_is)) (opens bounds m n is.0 (drop 1 all) rest_below (subst (λ z. Noted bounds (opens_seen (place_if (nat_le bounds.nesting z) end)) m n) deep noted) far)
+      subst (Stands bounds n bytes (end + 2)) (sym (e ∙ ap (λ z. code inner ∷ z) whole_is))
+      (opens bounds m n is.0 (drop 1 all) rest_below (subst (λ z. Noted bounds (opens_seen (place_if (nat_le bounds.nesting z) end)) m n) deep noted) far)
 
-  pub closed_on : (h : Goal) (new : List Goal) → drop 1 all ≡ h ∷ drop 2 all → (first_arm : Bool) × (h ≡ code first_arm) → new ≡ drop 1 all → Closes bytes end stop → Stands bounds m bytes (end + 1) new
+  pub closed_on : (h : Goal) (new : List Goal) → drop 1 all ≡ h ∷ drop 2 all → (first_arm : Bool) × (h ≡ code first_arm) → new ≡ drop 1 all → Closes bytes end stop
+      → Stands bounds m bytes (end + 1) new
   closed_on h new e f less closes =
       let outer : drop 1 all ≡ code f.0 ∷ drop 2 all = e ∙ ap (λ z. z ∷ drop 2 all) f.1 in
       subst (Stands bounds m bytes (end + 1)) (sym (less ∙ outer))

@@ -45,7 +45,8 @@ Opens bytes at inner stop =
 -- an end
 abbrev pub Closes : List ℕ → (at stop : ℕ) → Type 0
 Closes bytes at stop =
-    (bounds : ModuleBounds) (m : Marks) (inner first_arm : Bool) (gs : List Goal) → Below stop gs → Stands bounds m bytes at (code inner ∷ code first_arm ∷ gs) → Stands bounds m bytes (at + 1) (code first_arm ∷ gs)
+    (bounds : ModuleBounds) (m : Marks) (inner first_arm : Bool) (gs : List Goal) → Below stop gs → Stands bounds m bytes at (code inner ∷ code first_arm ∷ gs)
+    → Stands bounds m bytes (at + 1) (code first_arm ∷ gs)
 
 -- so many of n entries
 abbrev pub PassesEntries : List ℕ → Kind → (n at passed stop : ℕ) → Type 0
@@ -61,7 +62,8 @@ pub record IsAlone (k : Kind) (byte : ℕ) : Type 0 where
 -- so many of n runs, of two bytes each
 abbrev pub PassesRuns : List ℕ → (n at passed stop : ℕ) → Type 0
 PassesRuns bytes n at passed stop =
-    (bounds : ModuleBounds) (m : Marks) (gs : List Goal) → Below stop gs → Stands bounds m bytes at (entries some_runs n ∷ gs) → Stands bounds m bytes (at + 2 * passed) (entries some_runs (n - passed) ∷ gs)
+    (bounds : ModuleBounds) (m : Marks) (gs : List Goal) → Below stop gs → Stands bounds m bytes at (entries some_runs n ∷ gs)
+    → Stands bounds m bytes (at + 2 * passed) (entries some_runs (n - passed) ∷ gs)
 
 -- a run is these two bytes, of no float
 pub record IsShortRun (count ty : ℕ) : Type 0 where

@@ -4,10 +4,12 @@ use Rattle.std.specs.List.{All, flat_map}
 use Rattle.std.proofs.lemmas.List.Concat.{flat_map_single}
 use Rattle.std.proofs.lemmas.List.Elements.{All-nil, All-cons}
 use Rattle.wa_types.specs.Begun.{sections, start as start_goals}
-use Rattle.wa_types.specs.Binary.{RawType, RawKind, raw_func, raw_table, raw_memory, raw_global, RawImport, RawGlobal, RawElem, RawBody, RawSegment, Section, types, imports, functions, globals, elements, bodies, segments}
+use Rattle.wa_types.specs.Binary.{RawType, RawKind, raw_func, raw_table, raw_memory, raw_global, RawImport, RawGlobal, RawElem, RawBody, RawSegment, Section, types, imports, functions}
+use Rattle.wa_types.specs.Binary.{globals, elements, bodies, segments}
 use Rattle.wa_types.specs.Spells.{Spells, sorts_in, bodies_in}
 use Rattle.wa_types.specs.Reading.{types_in, imports_in}
-use Rattle.wa_types.specs.Marks.{float_type, code_floats, type_floats, kind_floats, body_floats, kind_sorts, code_opens, section_floats, section_opens, floats, opens, imported_sorts, function_count, parameter_counts, body_sizes, first_above}
+use Rattle.wa_types.specs.Marks.{float_type, code_floats, type_floats, kind_floats, body_floats, kind_sorts, code_opens, section_floats, section_opens, floats, opens, imported_sorts}
+use Rattle.wa_types.specs.Marks.{function_count, parameter_counts, body_sizes, first_above}
 use Rattle.wa_types.specs.ModuleBounds.{ModuleBounds}
 use Rattle.wasm_marks.specs.declared.marks.Marks.{Marks}
 use Rattle.wasm_marks.specs.Showing.{Seen, nothing_seen, both, first_of, total, Noted, no_marks, MarksAlong}
@@ -167,7 +169,8 @@ parameters_of b _ = refl
 parameters_all : (b : ModuleBounds) (ss : List Section) → (seen_in (seen_section b) ss).params ≡ parameter_counts ss
 parameters_all b [] = refl
 parameters_all b (s ∷ ss) =
-    ap (λ z. z ++ (seen_in (seen_section b) ss).params) (parameters_of b s) ∙ ap (λ z. map params_of (types_in s) ++ z) (parameters_all b ss) ∙ sym (map_both params_of (types_in s) (flat_map types_in ss))
+    ap (λ z. z ++ (seen_in (seen_section b) ss).params) (parameters_of b s) ∙ ap (λ z. map params_of (types_in s) ++ z) (parameters_all b ss)
+    ∙ sym (map_both params_of (types_in s) (flat_map types_in ss))
 
 abbrev size_of : RawBody → ℕ
 size_of x = x.size
@@ -194,7 +197,8 @@ first_in : (o : Option ℕ) (ks js : List ℕ) (high : ℕ) → o ≡ first_of N
 first_in o ks js high e f h = subst (λ z. IsFirst z js) (sym e) (subst (λ z. IsFirst (first_of None ks) z) f (first_is_least ks 0 high h))
 
 noted_of : (b : ModuleBounds) (bytes : List ℕ) (ss : List Section) (m : Marks) → (fin : ℕ) → Noted b (seen_in (seen_section b) ss) no_marks m → length bytes < 2 ^ 32
-    → Within 0 (0 + length bytes) (seen_in (seen_section b) ss).floats_at → Within 0 (0 + length bytes) (seen_in (seen_section b) ss).opens_at → total (seen_in (seen_section b) ss).counts < 2 ^ 64 → MarksOf b ss m
+    → Within 0 (0 + length bytes) (seen_in (seen_section b) ss).floats_at → Within 0 (0 + length bytes) (seen_in (seen_section b) ss).opens_at
+    → total (seen_in (seen_section b) ss).counts < 2 ^ 64 → MarksOf b ss m
 noted_of b bytes ss m fin noted short floats_rise opens_rise few = record {
   float = first_in m.float (seen_in (seen_section b) ss).floats_at (floats ss) (0 + length bytes) noted.float (floats_in (seen_section b) section_floats (floats_of b) ss) floats_rise;
   functions = let f = noted.functions (omega (arith, few)) in omega (arith, f, counts_all b ss);
@@ -204,7 +208,8 @@ noted_of b bytes ss m fin noted short floats_rise opens_rise few = record {
 }
 
 -- What is marked along all items of a file is what its sections are judged by.
-pub judged : (b : ModuleBounds) (bytes : List ℕ) (last : ℕ) (m : Marks) (ss : List Section) → MarksAlong b 0 start_goals bytes (sections last 0 ∷ []) m → length bytes < 2 ^ 32 → Spells bytes ss → MarksOf b ss m
+pub judged : (b : ModuleBounds) (bytes : List ℕ) (last : ℕ) (m : Marks) (ss : List Section) → MarksAlong b 0 start_goals bytes (sections last 0 ∷ []) m → length bytes < 2 ^ 32
+    → Spells bytes ss → MarksOf b ss m
 judged b bytes last m ss a short s =
     let f = file_shows b bytes ss s in
     let same = one_showing b 0 start_goals bytes (sections last 0 ∷ []) (sections f.0 0 ∷ []) a.0 (seen_in (seen_section b) ss) a.1 f.1 in

@@ -1,5 +1,6 @@
 -- Items that show something: one more, that bytes show one thing, and that offsets rise.
-use Rattle.std.proofs.Common.{◌≡◌, ℕ, ◌+◌, ◌*◌, ◌^◌, ◌<◌, ◌≤◌, List, [], ◌∷◌, ◌++◌, Bool, true, false, cond, ◌&&◌, nat_le, nat_eq, refl, ap, sym, ◌∙◌, subst, arith, add-zero, append_assoc, append-nil, length, length-append}
+use Rattle.std.proofs.Common.{◌≡◌, ℕ, ◌+◌, ◌*◌, ◌^◌, ◌<◌, ◌≤◌, List, [], ◌∷◌, ◌++◌, Bool, true, false, cond, ◌&&◌, nat_le, nat_eq, refl, ap, sym, ◌∙◌, subst, arith, add-zero, append_assoc}
+use Rattle.std.proofs.Common.{append-nil, length, length-append}
 use Rattle.wa_types.specs.Opcodes.{is_float_type, is_float_op}
 use Rattle.wa_types.specs.Begun.{Goal, head, entries, count, value_type, block_type, import_kind, code, Kind, some_globals, some_bodies, some_value_types, IsItem, wants, Steps}
 use Rattle.wa_types.specs.Marks.{place_if}
@@ -8,7 +9,8 @@ use Rattle.file_laws.proofs.Items.{item_some, one_item, same_cut, place_of}
 use Rattle.file_laws.proofs.Runs.{one_step}
 use Rattle.file_laws.proofs.SpelledFits.{unsigned_fits}
 use Rattle.wasm_marks.specs.declared.marks.Marks.{Marks}
-use Rattle.wasm_marks.specs.Showing.{Seen, nothing_seen, functions_seen, both, total, shown, entry_shown, count_shown, await_results, levels, opens_level, Shows, shows_none, shows_item, Noted, no_marks, MarksAlong}
+use Rattle.wasm_marks.specs.Showing.{Seen, nothing_seen, functions_seen, both, total, shown, entry_shown, count_shown, await_results, levels, opens_level, Shows, shows_none, shows_item}
+use Rattle.wasm_marks.specs.Showing.{Noted, no_marks, MarksAlong}
 use Rattle.wasm_marks.proofs.Noting.{noted_none, noted_both, both_none, both_assoc, total_both}
 
 -- one more item
@@ -20,7 +22,8 @@ shows_more b at gs [] g hs ks s (shows_none e) c v i t =
 shows_more b at (f ∷ gs) a g hs ks s (shows_item p q w js u e i t l o) c v j r =
     shows_item p (q ++ c) w js (both u (shown b g hs v (at + length p + length q))) (ap (λ z. z ++ c) e ∙ append_assoc p q c) i t
     (shows_more b (at + length p) js q g hs ks u l c v j (subst (λ n. Steps g hs v (n + length c) ks) (place_of at a p q e) r))
-    (ap (λ z. both z (shown b g hs v (at + length a))) o ∙ both_assoc (shown b f gs w at) u (shown b g hs v (at + length a)) ∙ ap (λ n. both (shown b f gs w at) (both u (shown b g hs v n))) (place_of at a p q e))
+    (ap (λ z. both z (shown b g hs v (at + length a))) o ∙ both_assoc (shown b f gs w at) u (shown b g hs v (at + length a))
+    ∙ ap (λ n. both (shown b f gs w at) (both u (shown b g hs v n))) (place_of at a p q e))
 
 -- bytes that lead to one end show one thing
 pub one_showing : (b : ModuleBounds) (at : ℕ) (gs : List Goal) (bytes : List ℕ) (hs ks : List Goal) (s t : Seen) → Shows b at gs bytes hs s → Shows b at gs bytes ks t → s ≡ t
@@ -120,7 +123,8 @@ held_along b at gs [] hs s (shows_none e) = subst (λ z. Held z at (at + 0)) (sy
 held_along b at (g ∷ gs) bytes hs s (shows_item p q v js u c i z l o) =
     let here = held_shown b g gs p v at i (omega (arith, item_some (wants g) p v i)) in
     let more = held_along b (at + length p) js q hs u l in
-    subst (λ t. Held t at (at + length bytes)) (sym o) (held_both (shown b g gs v at) u at (at + length p) (at + length bytes) here (subst (Held u (at + length p)) (sym (place_of at bytes p q c)) more))
+    subst (λ t. Held t at (at + length bytes)) (sym o) (held_both (shown b g gs v at) u at (at + length p) (at + length bytes) here
+    (subst (Held u (at + length p)) (sym (place_of at bytes p q c)) more))
 
 -- Marks along items.
 

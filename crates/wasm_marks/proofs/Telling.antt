@@ -1,12 +1,14 @@
 -- From goals on, bytes lead to the end of a file and show something. What is spelled in front of that shows its own part.
-use Rattle.std.proofs.Common.{◌≡◌, ℕ, suc, zero, ◌+◌, ◌-◌, List, [], ◌∷◌, ◌++◌, Option, Some, None, refl, ap, sym, ◌∙◌, subst, arith, append_assoc, append-nil, length, length-append, Bool, true, false, nat_eq, nat_le, IsTrue, IsUtf8}
+use Rattle.std.proofs.Common.{◌≡◌, ℕ, suc, zero, ◌+◌, ◌-◌, List, [], ◌∷◌, ◌++◌, Option, Some, None, refl, ap, sym, ◌∙◌, subst, arith, append_assoc, append-nil, length, length-append, Bool}
+use Rattle.std.proofs.Common.{true, false, nat_eq, nat_le, IsTrue, IsUtf8}
 use Rattle.wa_types.specs.declared.syntax.Space.{Space}
 use Rattle.wa_types.specs.declared.syntax.Space.TheVariants.{Func as a_func, Table as a_table, Memory as a_memory, Global as a_global}
 use Rattle.wa_types.specs.declared.syntax.Limits.{Limits}
 use Rattle.wa_types.specs.Encoding.{space_byte, mutable_byte}
 use Rattle.wa_types.specs.Opcodes.{is_float_type}
 use Rattle.wa_types.specs.Binary.{Placed, RawKind, raw_func, raw_table, raw_memory, raw_global}
-use Rattle.wa_types.specs.Begun.{Goal, exact, sections, number, name, value_type, block_type, mutable, import_kind, space, limits, signed, name_bytes, until, count, entries, Kind, a_byte, first_of, IsItem, wants, next, entry, others, and_then, some_of, name_of, where_true, closing, open_ended, settled, Inside, Steps, some_indices}
+use Rattle.wa_types.specs.Begun.{Goal, exact, sections, number, name, value_type, block_type, mutable, import_kind, space, limits, signed, name_bytes, until, count, entries, Kind, a_byte}
+use Rattle.wa_types.specs.Begun.{first_of, IsItem, wants, next, entry, others, and_then, some_of, name_of, where_true, closing, open_ended, settled, Inside, Steps, some_indices}
 use Rattle.wa_types.specs.Marks.{place_if, float_type}
 use Rattle.wa_types.specs.ModuleBounds.{ModuleBounds}
 use Rattle.wa_types.specs.Spells.{◌▸◌, Exactly, Number, SignedNumber, Items, Vector, TextBytes, Text, ValueType, BlockType, Maximum, LimitsOf, TableType, GlobalType, ImportKindOf}
@@ -74,7 +76,8 @@ silent_entries (x ∷ xs) = silent_entries xs
 
 module _ (b : ModuleBounds) (last : ℕ) where
   -- an item of the first goal, and what goes on behind it
-  pub give_settled : (g : Goal) (more new : List Goal) (at v : ℕ) (front back : List ℕ) (t : Seen) → settled at (g ∷ more) ≡ Some (g ∷ more) → IsItem (wants g) front v → next g v (at + length front) ≡ Some new
+  pub give_settled : (g : Goal) (more new : List Goal) (at v : ℕ) (front back : List ℕ) (t : Seen) → settled at (g ∷ more) ≡ Some (g ∷ more) → IsItem (wants g) front v
+      → next g v (at + length front) ≡ Some new
       → Tells b last (new ++ more) (at + length front) back t → Tells b last (g ∷ more) at (front ++ back) (both (shown b g more v at) t)
   give_settled g more new at v front back t c i p h =
       let s : Steps g more v (at + length front) h.left = record { new = new; pushed = p; settles = h.settles; inside = h.inside } in
@@ -158,7 +161,8 @@ module _ (b : ModuleBounds) (last : ℕ) where
   gives_space more s at a c t h k = give_byte space more [] at (space_byte s) a c t refl refl h (ap (λ z. where_true z []) (space_small s)) k
 
   -- limits, from a goal or an entry that begins with their flag
-  pub gives_maximum : (from to : List Goal) (low : ℕ) (high : Option ℕ) → Gives from (number ∷ to) (Exactly (0x00 ∷ [])) nothing_seen → Gives from (number ∷ number ∷ to) (Exactly (0x01 ∷ [])) nothing_seen
+  pub gives_maximum : (from to : List Goal) (low : ℕ) (high : Option ℕ) → Gives from (number ∷ to) (Exactly (0x00 ∷ [])) nothing_seen
+      → Gives from (number ∷ number ∷ to) (Exactly (0x01 ∷ [])) nothing_seen
       → Gives from to (Maximum low high) nothing_seen
   gives_maximum from to low None none some = gives_then from (number ∷ to) to (Exactly (0x00 ∷ [])) (Number low) nothing_seen nothing_seen none (gives_number to low)
   gives_maximum from to low (Some high) none some =
@@ -192,27 +196,36 @@ module _ (b : ModuleBounds) (last : ℕ) where
   -- a global's type, what is imported
   pub gives_global_type : (more : List Goal) (x : Placed) (m : Bool) → Gives (value_type ∷ mutable ∷ more) more (GlobalType x m) (seen_placed x)
   gives_global_type more x m =
-      gives_same (value_type ∷ mutable ∷ more) more (GlobalType x m) (both (seen_placed x) nothing_seen) (seen_placed x) (λ i. record { floats_at = append-nil (float_type x) i; opens_at = []; counts = []; params = []; sizes = [] })
-      (gives_then (value_type ∷ mutable ∷ more) (mutable ∷ more) more (ValueType x) (Exactly (mutable_byte m ∷ [])) (seen_placed x) nothing_seen (gives_value_type (mutable ∷ more) x) (gives_mutable more m))
+      gives_same (value_type ∷ mutable ∷ more) more (GlobalType x m) (both (seen_placed x) nothing_seen) (seen_placed x)
+      (λ i. record { floats_at = append-nil (float_type x) i; opens_at = []; counts = []; params = []; sizes = [] })
+      (gives_then (value_type ∷ mutable ∷ more) (mutable ∷ more) more (ValueType x) (Exactly (mutable_byte m ∷ [])) (seen_placed x) nothing_seen (gives_value_type (mutable ∷ more) x)
+      (gives_mutable more m))
 
   pub gives_table : (more : List Goal) (l : Limits) → Gives (exact 0x70 ∷ limits ∷ more) more (TableType l) nothing_seen
-  gives_table more l = gives_then (exact 0x70 ∷ limits ∷ more) (limits ∷ more) more (Exactly (0x70 ∷ [])) (LimitsOf l) nothing_seen nothing_seen (gives_exact (limits ∷ more) 0x70) (gives_limits more l)
+  gives_table more l = gives_then (exact 0x70 ∷ limits ∷ more) (limits ∷ more) more (Exactly (0x70 ∷ [])) (LimitsOf l) nothing_seen nothing_seen (gives_exact (limits ∷ more) 0x70)
+      (gives_limits more l)
 
-  kind_byte : (x : ℕ) (n : Seen) (more new : List Goal) → next import_kind x 0 ≡ Some new → ((at : ℕ) → next import_kind x at ≡ next import_kind x 0) → shown b import_kind more x 0 ≡ n → Gives (import_kind ∷ more) (new ++ more) (Exactly (x ∷ [])) n
+  kind_byte : (x : ℕ) (n : Seen) (more new : List Goal) → next import_kind x 0 ≡ Some new → ((at : ℕ) → next import_kind x at ≡ next import_kind x 0) → shown b import_kind more x 0 ≡ n
+      → Gives (import_kind ∷ more) (new ++ more) (Exactly (x ∷ [])) n
   kind_byte x n more new e same f at a c t h k =
       subst (λ z. Tells b last (import_kind ∷ more) at (a ++ c) (both z t)) f (give_byte import_kind more new at x a c t refl refl h (same (at + 1) ∙ e) k)
 
   pub gives_kind : (more : List Goal) (k : RawKind) → Gives (import_kind ∷ more) more (ImportKindOf k) (seen_kind k)
   unfolding next
-  gives_kind more (raw_func sort) = gives_then (import_kind ∷ more) (number ∷ more) more (Exactly (0x00 ∷ [])) (Number sort) (functions_seen 1) nothing_seen (kind_byte 0x00 (functions_seen 1) more (number ∷ []) refl (λ at. refl) refl) (gives_number more sort)
+  gives_kind more (raw_func sort) = gives_then (import_kind ∷ more) (number ∷ more) more (Exactly (0x00 ∷ [])) (Number sort) (functions_seen 1) nothing_seen
+      (kind_byte 0x00 (functions_seen 1) more (number ∷ []) refl (λ at. refl) refl) (gives_number more sort)
   gives_kind more (raw_table l) =
-      gives_then (import_kind ∷ more) (exact 0x70 ∷ limits ∷ more) more (Exactly (0x01 ∷ [])) (TableType l) nothing_seen nothing_seen (kind_byte 0x01 nothing_seen more (exact 0x70 ∷ limits ∷ []) refl (λ at. refl) refl) (gives_table more l)
-  gives_kind more (raw_memory l) = gives_then (import_kind ∷ more) (limits ∷ more) more (Exactly (0x02 ∷ [])) (LimitsOf l) nothing_seen nothing_seen (kind_byte 0x02 nothing_seen more (limits ∷ []) refl (λ at. refl) refl) (gives_limits more l)
+      gives_then (import_kind ∷ more) (exact 0x70 ∷ limits ∷ more) more (Exactly (0x01 ∷ [])) (TableType l) nothing_seen nothing_seen
+      (kind_byte 0x01 nothing_seen more (exact 0x70 ∷ limits ∷ []) refl (λ at. refl) refl) (gives_table more l)
+  gives_kind more (raw_memory l) = gives_then (import_kind ∷ more) (limits ∷ more) more (Exactly (0x02 ∷ [])) (LimitsOf l) nothing_seen nothing_seen
+      (kind_byte 0x02 nothing_seen more (limits ∷ []) refl (λ at. refl) refl) (gives_limits more l)
   gives_kind more (raw_global x m) =
-      gives_then (import_kind ∷ more) (value_type ∷ mutable ∷ more) more (Exactly (0x03 ∷ [])) (GlobalType x m) nothing_seen (seen_placed x) (kind_byte 0x03 nothing_seen more (value_type ∷ mutable ∷ []) refl (λ at. refl) refl) (gives_global_type more x m)
+      gives_then (import_kind ∷ more) (value_type ∷ mutable ∷ more) more (Exactly (0x03 ∷ [])) (GlobalType x m) nothing_seen (seen_placed x)
+      (kind_byte 0x03 nothing_seen more (value_type ∷ mutable ∷ []) refl (λ at. refl) refl) (gives_global_type more x m)
 
   -- the first item of an entry
-  pub gives_entry : (k : Kind) (n : ℕ) (more es : List Goal) (F : ℕ → List ℕ → Type 0) (v : ℕ) (s : Seen) → ((at : ℕ) (a : List ℕ) → F at a → IsItem (first_of k) a v) → ((at end : ℕ) (a : List ℕ) → F at a → entry k v end ≡ Some es)
+  pub gives_entry : (k : Kind) (n : ℕ) (more es : List Goal) (F : ℕ → List ℕ → Type 0) (v : ℕ) (s : Seen) → ((at : ℕ) (a : List ℕ) → F at a → IsItem (first_of k) a v)
+      → ((at end : ℕ) (a : List ℕ) → F at a → entry k v end ≡ Some es)
       → ((at : ℕ) (a : List ℕ) → F at a → entry_shown k v at ≡ s) → Gives (entries k n ∷ more) (es ++ (others k n ++ more)) F s
   gives_entry k n more es F v s item pushed see at a c t h w =
       subst (λ z. Tells b last (entries k n ∷ more) at (a ++ c) (both z t)) (see at a h)
@@ -226,9 +239,11 @@ module _ (b : ModuleBounds) (last : ℕ) where
   gives_entries k F see more one (x ∷ xs) =
       gives_from (entries k (suc (length xs)) ∷ more) (some_of k (suc (length xs)) ++ more) more (Items F (x ∷ xs)) (seen_in see (x ∷ xs)) (ap (λ z. z ++ more) (sym (some_more k (length xs))))
       (gives_then (entries k (suc (length xs)) ∷ more) (others k (suc (length xs)) ++ more) more (F x) (Items F xs) (see x) (seen_in see xs) (one (suc (length xs)) x)
-      (gives_from (some_of k (length xs) ++ more) (others k (suc (length xs)) ++ more) more (Items F xs) (seen_in see xs) (ap (λ z. z ++ more) (sym (others_some k (length xs)))) (gives_entries k F see more one xs)))
+      (gives_from (some_of k (length xs) ++ more) (others k (suc (length xs)) ++ more) more (Items F xs) (seen_in see xs) (ap (λ z. z ++ more) (sym (others_some k (length xs))))
+      (gives_entries k F see more one xs)))
 
-  pub gives_count : {X : Type 0} (k : Kind) (F : X → ℕ → List ℕ → Type 0) (see : X → Seen) (more : List Goal) (shows : Seen) (xs : List X) → ((n : ℕ) (x : X) → Gives (entries k n ∷ more) (others k n ++ more) (F x) (see x))
+  pub gives_count : {X : Type 0} (k : Kind) (F : X → ℕ → List ℕ → Type 0) (see : X → Seen) (more : List Goal) (shows : Seen) (xs : List X)
+      → ((n : ℕ) (x : X) → Gives (entries k n ∷ more) (others k n ++ more) (F x) (see x))
       → count_shown k more (length xs) ≡ shows → Gives (count k ∷ more) more (Vector F xs) (both shows (seen_in see xs))
   unfolding next
   gives_count k F see more shows xs one e =

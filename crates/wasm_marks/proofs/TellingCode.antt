@@ -1,5 +1,6 @@
 -- What code shows.
-use Rattle.std.proofs.Common.{◌≡◌, ℕ, ◌+◌, ◌<◌, List, [], ◌∷◌, ◌++◌, Option, Some, None, refl, ap, sym, ◌∙◌, subst, arith, append_assoc, length, Bool, true, false, inl, inr, cond, nat_eq, nat_le, IsTrue, ◌&&◌}
+use Rattle.std.proofs.Common.{◌≡◌, ℕ, ◌+◌, ◌<◌, List, [], ◌∷◌, ◌++◌, Option, Some, None, refl, ap, sym, ◌∙◌, subst, arith, append_assoc, length, Bool, true, false, inl, inr, cond, nat_eq}
+use Rattle.std.proofs.Common.{nat_le, IsTrue, ◌&&◌}
 use Rattle.wa_types.specs.Opcodes.{Follows, no_operand, a_zero, an_index, an_index_and_zero, an_access, some_labels, a_constant, a_float, follows, shape, within, is_nest, is_float_op}
 use Rattle.wa_types.specs.Binary.{Placed, Operands, nothing, zero_byte, index, index_and_zero, access, labels, constant, float, RawCode, ended, otherwise, instr, nested, branched}
 use Rattle.wa_types.specs.Begun.{Goal, code, exact, number, block_type, count, some_indices, float_bytes, next, where_true, operands, behind_opcode}
@@ -8,7 +9,8 @@ use Rattle.wa_types.specs.ModuleBounds.{ModuleBounds}
 use Rattle.wa_types.specs.Spells.{◌▸◌, Exactly, Number, Vector, Byte, BlockType, OperandsOf, CodeOf}
 use Rattle.file_laws.proofs.CodeReads.{nest_range, refuted, none_nest}
 use Rattle.wasm_marks.specs.Showing.{Seen, nothing_seen, opens_seen, both, shown, levels, opens_level}
-use Rattle.wasm_marks.proofs.Telling.{Tells, Gives, give, give_byte, gives_none, gives_then, gives_as, gives_same, gives_number, gives_numbers, gives_signed, gives_exact, gives_block_type, seen_placed}
+use Rattle.wasm_marks.proofs.Telling.{Tells, Gives, give, give_byte, gives_none, gives_then, gives_as, gives_same, gives_number, gives_numbers, gives_signed, gives_exact, gives_block_type}
+use Rattle.wasm_marks.proofs.Telling.{seen_placed}
 
 -- the table's floats have bytes
 HasBytes : Follows → Type 0
@@ -124,15 +126,19 @@ module _ (b : ModuleBounds) (last : ℕ) where
   gives_operands zero_byte op more e = gives_exact b last more 0x00
   gives_operands (index x) op more e = gives_number b last more x
   gives_operands (index_and_zero x) op more e =
-      gives_then b last (number ∷ exact 0x00 ∷ more) (exact 0x00 ∷ more) more (Number x) (Exactly (0x00 ∷ [])) nothing_seen nothing_seen (gives_number b last (exact 0x00 ∷ more) x) (gives_exact b last more 0x00)
+      gives_then b last (number ∷ exact 0x00 ∷ more) (exact 0x00 ∷ more) more (Number x) (Exactly (0x00 ∷ [])) nothing_seen nothing_seen (gives_number b last (exact 0x00 ∷ more) x)
+      (gives_exact b last more 0x00)
   gives_operands (access align offset) op more e =
-      gives_then b last (number ∷ number ∷ more) (number ∷ more) more (Number align) (Number offset) nothing_seen nothing_seen (gives_number b last (number ∷ more) align) (gives_number b last more offset)
+      gives_then b last (number ∷ number ∷ more) (number ∷ more) more (Number align) (Number offset) nothing_seen nothing_seen (gives_number b last (number ∷ more) align)
+      (gives_number b last more offset)
   gives_operands (labels targets other) op more e =
-      gives_then b last (count some_indices ∷ number ∷ more) (number ∷ more) more (Vector Number targets) (Number other) nothing_seen nothing_seen (gives_numbers b last (number ∷ more) targets) (gives_number b last more other)
+      gives_then b last (count some_indices ∷ number ∷ more) (number ∷ more) more (Vector Number targets) (Number other) nothing_seen nothing_seen
+      (gives_numbers b last (number ∷ more) targets) (gives_number b last more other)
   gives_operands (constant bits n) op more e = gives_signed b last bits more n
   gives_operands (float bytes) op more e = gives_float more bytes (float_some op (length bytes) e)
 
-  gives_level : (c body rest : RawCode) (first_arm inner : Bool) (more : List Goal) (op result : Placed) → behind_opcode first_arm op.byte ≡ Some (block_type ∷ code inner ∷ code first_arm ∷ []) → is_float_op op.byte ≡ false → opens_level op.byte ≡ true
+  gives_level : (c body rest : RawCode) (first_arm inner : Bool) (more : List Goal) (op result : Placed)
+      → behind_opcode first_arm op.byte ≡ Some (block_type ∷ code inner ∷ code first_arm ∷ []) → is_float_op op.byte ≡ false → opens_level op.byte ≡ true
       → code_floats c ≡ float_type result ++ code_floats body ++ code_floats rest
       → code_opens b.nesting (levels more) c ≡ place_if (nat_le b.nesting (levels more)) op.place ++ code_opens b.nesting (levels more + 1) body ++ code_opens b.nesting (levels more) rest
       → Gives b last (code inner ∷ code first_arm ∷ more) (code first_arm ∷ more) (CodeOf inner body) (seen_code b (levels (code first_arm ∷ more)) body)
@@ -155,7 +161,8 @@ module _ (b : ModuleBounds) (last : ℕ) where
 
   pub gives_code : (c : RawCode) (first_arm : Bool) (more : List Goal) → Gives b last (code first_arm ∷ more) more (CodeOf first_arm c) (seen_code b (levels more) c)
   gives_code (ended k) first_arm more at a c t h w =
-      gives_as b last (code first_arm ∷ more) more (Byte (record { place = k; byte = 0x0B })) (CodeOf first_arm (ended k)) nothing_seen (λ at a h. h) (gives_op first_arm more [] (record { place = k; byte = 0x0B }) false false refl refl refl) at a c t h w
+      gives_as b last (code first_arm ∷ more) more (Byte (record { place = k; byte = 0x0B })) (CodeOf first_arm (ended k)) nothing_seen (λ at a h. h)
+      (gives_op first_arm more [] (record { place = k; byte = 0x0B }) false false refl refl refl) at a c t h w
   gives_code (otherwise k arm) first_arm more at a c t h w =
       let op : Placed = record { place = k; byte = 0x05 } in
       gives_then b last (code first_arm ∷ more) (code false ∷ more) more (Byte op) (CodeOf false arm) nothing_seen (seen_code b (levels more) arm)
@@ -164,10 +171,12 @@ module _ (b : ModuleBounds) (last : ℕ) where
       let goals = operands (shape o) ++ (code first_arm ∷ more) in
       let here = op_seen op (is_float_op op.byte) false in
       let same : (operands (shape o) ++ code first_arm ∷ []) ++ more ≡ goals = append_assoc (operands (shape o)) (code first_arm ∷ []) more in
-      let first = gives_op first_arm more (operands (shape o) ++ code first_arm ∷ []) op (is_float_op op.byte) false (instr_next first_arm op.byte (shape o) h.0) refl (opens_none op.byte (shape o) h.0) in
+      let first = gives_op first_arm more (operands (shape o) ++ code first_arm ∷ []) op (is_float_op op.byte) false (instr_next first_arm op.byte (shape o) h.0) refl
+      (opens_none op.byte (shape o) h.0) in
       gives_then b last (code first_arm ∷ more) goals more (Byte op) (OperandsOf o ▸ CodeOf first_arm rest) here (seen_code b (levels more) rest)
       (subst (λ z. Gives b last (code first_arm ∷ more) z (Byte op) here) same first)
-      (gives_then b last goals (code first_arm ∷ more) more (OperandsOf o) (CodeOf first_arm rest) nothing_seen (seen_code b (levels more) rest) (gives_operands o op.byte (code first_arm ∷ more) h.0) (gives_code rest first_arm more))
+      (gives_then b last goals (code first_arm ∷ more) more (OperandsOf o) (CodeOf first_arm rest) nothing_seen (seen_code b (levels more) rest)
+      (gives_operands o op.byte (code first_arm ∷ more) h.0) (gives_code rest first_arm more))
       at a c t h.1 w
   gives_code (nested op result body rest) first_arm more at a c t h w =
       let n = nest_shown op.byte h.0 in

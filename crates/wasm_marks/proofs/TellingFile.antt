@@ -1,19 +1,24 @@
 -- What sections show, and whole files.
-use Rattle.std.proofs.Common.{◌≡◌, ℕ, suc, zero, ◌+◌, ◌<◌, ◌≤◌, List, [], ◌∷◌, ◌++◌, map, Some, refl, ap, sym, ◌∙◌, subst, arith, add-zero, append_assoc, append-nil, length, length-append, true, cond, nat_eq, nat_lt, ◌&&◌}
+use Rattle.std.proofs.Common.{◌≡◌, ℕ, suc, zero, ◌+◌, ◌<◌, ◌≤◌, List, [], ◌∷◌, ◌++◌, map, Some, refl, ap, sym, ◌∙◌, subst, arith, add-zero, append_assoc, append-nil, length, length-append}
+use Rattle.std.proofs.Common.{true, cond, nat_eq, nat_lt, ◌&&◌}
 use Rattle.std.specs.List.{flat_map}
 use Rattle.std.proofs.lemmas.Bool.{lt-ltb, ne_eqb}
 use Rattle.wa_types.specs.Encoding.{preamble}
 use Rattle.wa_types.specs.Binary.{Section, custom, types, imports, functions, tables, memories, globals, exports, start, elements, bodies, segments}
-use Rattle.wa_types.specs.Begun.{Goal, exact, sections, size, head, until, rest, Kind, some_types, some_imports, some_functions, some_tables, some_memories, some_globals, some_exports, some_elements, some_bodies, some_segments, next, Inside, settled, where_true, some_of, others, entries, name_of, may_follow, content, start as start_goals}
+use Rattle.wa_types.specs.Begun.{Goal, exact, sections, size, head, until, rest, Kind, some_types, some_imports, some_functions, some_tables, some_memories, some_globals, some_exports}
+use Rattle.wa_types.specs.Begun.{some_elements, some_bodies, some_segments, next, Inside, settled, where_true, some_of, others, entries, name_of, may_follow, content, start as start_goals}
 use Rattle.wa_types.specs.ModuleBounds.{ModuleBounds}
-use Rattle.wa_types.specs.Spells.{◌▸◌, Exactly, Number, Items, Vector, Sized, TextBytes, Text, FunctionType, LimitsOf, TableType, ImportOf, GlobalOf, ExportOf, ElementOf, BodyOf, SegmentOf, SectionOf, Rising, Spells, sorts_in, bodies_in}
+use Rattle.wa_types.specs.Spells.{◌▸◌, Exactly, Number, Items, Vector, Sized, TextBytes, Text, FunctionType, LimitsOf, TableType, ImportOf, GlobalOf, ExportOf, ElementOf, BodyOf, SegmentOf}
+use Rattle.wa_types.specs.Spells.{SectionOf, Rising, Spells, sorts_in, bodies_in}
 use Rattle.file_laws.proofs.GoalReads.{to_right}
 use Rattle.file_laws.proofs.Runs.{some_same}
 use Rattle.file_laws.proofs.SectionReads.{Balanced}
 use Rattle.wasm_marks.specs.Showing.{Seen, nothing_seen, functions_seen, both, levels, Shows, shows_none}
 use Rattle.wasm_marks.proofs.Noting.{both_none, both_assoc}
-use Rattle.wasm_marks.proofs.Telling.{Tells, Gives, give, give_byte, give_settled, tells_until, same_number, gives_none, gives_then, gives_as, gives_same, gives_exact, gives_name_bytes, gives_entries, seen_in}
-use Rattle.wasm_marks.proofs.TellingEntries.{Calm, type_entry, import_entry, function_entry, table_entry, memory_entry, global_entry, export_entry, element_entry, body_entry, segment_entry, seen_type, seen_import, seen_global, seen_element, seen_body, seen_segment}
+use Rattle.wasm_marks.proofs.Telling.{Tells, Gives, give, give_byte, give_settled, tells_until, same_number, gives_none, gives_then, gives_as, gives_same, gives_exact, gives_name_bytes}
+use Rattle.wasm_marks.proofs.Telling.{gives_entries, seen_in}
+use Rattle.wasm_marks.proofs.TellingEntries.{Calm, type_entry, import_entry, function_entry, table_entry, memory_entry, global_entry, export_entry, element_entry, body_entry, segment_entry}
+use Rattle.wasm_marks.proofs.TellingEntries.{seen_type, seen_import, seen_global, seen_element, seen_body, seen_segment}
 
 abbrev pub seen_section : ModuleBounds → Section → Seen
 seen_section b (types ts) = seen_in seen_type ts
@@ -83,11 +88,13 @@ module _ (b : ModuleBounds) (last : ℕ) where
       let held : Tells b last (new end) inner (x ++ c) (both s t) = fills end inner x c t full f.1.4 (subst (λ y. Tells b last to y c t) place k) in
       let first : Tells b last (head id end lst owed ∷ []) there (r ++ (x ++ c)) (both u (both s t)) =
       subst (λ y. Tells b last (head id end lst owed ∷ []) there (r ++ (x ++ c)) (both y (both s t))) head_shows
-      (give b last (head id end lst owed) [] (new end) there v r (x ++ c) (both s t) refl f.1.3 (head_next id end lst owed v inner ∙ pushed end) (subst (λ y. Tells b last y inner (x ++ c) (both s t)) (sym (append-nil (new end))) held)) in
+      (give b last (head id end lst owed) [] (new end) there v r (x ++ c) (both s t) refl f.1.3 (head_next id end lst owed v inner ∙ pushed end)
+      (subst (λ y. Tells b last y inner (x ++ c) (both s t)) (sym (append-nil (new end))) held)) in
       let sized : Tells b last (size id lst owed ∷ []) from (q ++ (r ++ (x ++ c))) (both u (both s t)) =
       give b last (size id lst owed) [] (head id end lst owed ∷ []) from n q (r ++ (x ++ c)) (both u (both s t)) refl z.1.3 (size_next id lst owed n there) first in
       let whole : Tells b last (sections lst owed ∷ []) at (p ++ (q ++ (r ++ (x ++ c)))) (both u (both s t)) =
-      give_byte b last (sections lst owed) [] (size id lst owed ∷ []) at id p (q ++ (r ++ (x ++ c))) (both u (both s t)) refl refl h.3 (sections_next lst owed id (at + 1) ∙ ap (λ y. where_true y (size id lst owed ∷ [])) follows) sized in
+      give_byte b last (sections lst owed) [] (size id lst owed ∷ []) at id p (q ++ (r ++ (x ++ c))) (both u (both s t)) refl refl h.3 (sections_next lst owed id (at + 1)
+      ∙ ap (λ y. where_true y (size id lst owed ∷ [])) follows) sized in
       let bytes : p ++ (q ++ (r ++ (x ++ c))) ≡ a ++ c =
       ap (λ y. p ++ y) (ap (λ y. q ++ y) (sym (append_assoc r x c)) ∙ sym (append_assoc q (r ++ x) c) ∙ ap (λ y. y ++ c) (sym body)) ∙ sym (append_assoc p h.1 c) ∙ ap (λ y. y ++ c) (sym h.2) in
       subst (λ y. Tells b last (sections lst owed ∷ []) at y (both (both u s) t)) bytes (subst (Tells b last (sections lst owed ∷ []) at (p ++ (q ++ (r ++ (x ++ c))))) (sym (both_assoc u s t)) whole)
@@ -109,7 +116,8 @@ module _ (b : ModuleBounds) (last : ℕ) where
       → ((n : ℕ) (more : List Goal) (x : X) → Gives b last (entries k n ∷ more) (others k n ++ more) (F x) nothing_seen)
       → Gives b last (sections lst owed ∷ []) (sections id to_owed ∷ []) (Exactly (id ∷ []) ▸ Sized (Vector F xs)) u
   quiet k F id lst owed to_owed xs u follows pushed shows one =
-      gives_same b last (sections lst owed ∷ []) (sections id to_owed ∷ []) (Exactly (id ∷ []) ▸ Sized (Vector F xs)) (both u (seen_in (λ x. nothing_seen) xs)) u (ap (both u) (silent xs) ∙ both_none u)
+      gives_same b last (sections lst owed ∷ []) (sections id to_owed ∷ []) (Exactly (id ∷ []) ▸ Sized (Vector F xs)) (both u (seen_in (λ x. nothing_seen) xs)) u (ap (both u) (silent xs)
+      ∙ both_none u)
       (vector k F (λ x. nothing_seen) id lst owed to_owed xs u follows pushed shows (λ n more calm x. one n more x))
 
   begin_at : (lst owed x : ℕ) → may_follow 8 lst owed ≡ true → Gives b last (sections lst owed ∷ []) (sections 8 owed ∷ []) (Exactly (8 ∷ []) ▸ Sized (Number x)) nothing_seen
@@ -120,7 +128,8 @@ module _ (b : ModuleBounds) (last : ℕ) where
       (λ end at a c t e h w. gives_none b last (until end ∷ sections 8 owed ∷ []) at a c t h (tells_until b last end (sections 8 owed ∷ []) (at + length a) c t e w)))
 
   -- any bytes up to an end
-  rest_tells : (xs : List ℕ) (end : ℕ) (more : List Goal) (at : ℕ) (c : List ℕ) (t : Seen) → at + length xs ≡ end → Tells b last more (at + length xs) c t → Tells b last (rest end ∷ more) at (xs ++ c) t
+  rest_tells : (xs : List ℕ) (end : ℕ) (more : List Goal) (at : ℕ) (c : List ℕ) (t : Seen) → at + length xs ≡ end → Tells b last more (at + length xs) c t
+      → Tells b last (rest end ∷ more) at (xs ++ c) t
   rest_tells [] end more at c t e w =
       let h : Tells b last more at c t = subst (λ z. Tells b last more z c t) (add-zero at) w in
       record { left = h.left; settles = rest_here at end more (sym (add-zero at) ∙ e) ∙ h.settles; inside = h.inside; shows = h.shows }
@@ -132,8 +141,15 @@ module _ (b : ModuleBounds) (last : ℕ) where
   named : (lst owed : ℕ) (name text : List ℕ) → Gives b last (sections lst owed ∷ []) (sections lst owed ∷ []) (Exactly (0 ∷ []) ▸ Sized (Text name ▸ Exactly text)) nothing_seen
   named lst owed name text =
       let n = length name in
-      gives_as b last (sections lst owed ∷ []) (sections lst owed ∷ []) (Exactly (0 ∷ []) ▸ Sized (Number n ▸ (TextBytes name ▸ Exactly text))) (Exactly (0 ∷ []) ▸ Sized (Text name ▸ Exactly text)) nothing_seen
-      (λ at a h. (h.0, h.1, h.2, h.3, (h.4.0, (h.4.1.0, h.4.1.1, h.4.1.2, h.4.1.3, (h.4.1.4.0, to_right (Number n) (TextBytes name) (Exactly text) (at + length h.0 + length h.4.1.0) h.4.1.1 h.4.1.4.1)))))
+      gives_as b last (sections lst owed ∷ []) (sections lst owed ∷ []) (Exactly (0 ∷ []) ▸ Sized (Number n ▸ (TextBytes name ▸ Exactly text))) (Exactly (0 ∷ [])
+      ▸ Sized (Text name ▸ Exactly text)) nothing_seen
+      (λ at a h. (
+        h.0,
+        h.1,
+        h.2,
+        h.3,
+        (h.4.0, (h.4.1.0, h.4.1.1, h.4.1.2, h.4.1.3, (h.4.1.4.0, to_right (Number n) (TextBytes name) (Exactly text) (at + length h.0 + length h.4.1.0) h.4.1.1 h.4.1.4.1))),
+      ))
       (opened 0 lst owed n (sections lst owed ∷ []) (λ end. name_of n ++ rest end ∷ sections lst owed ∷ []) (TextBytes name ▸ Exactly text) nothing_seen nothing_seen refl (λ end. refl) refl
       (λ end at a c t e h w.
       let place : at + length a ≡ at + length h.0 + length h.1 = omega (arith, ap length h.2, length-append h.0 h.1) in
@@ -146,7 +162,8 @@ module _ (b : ModuleBounds) (last : ℕ) where
   gives_bytes [] more = gives_none b last more
   gives_bytes (x ∷ xs) more =
       gives_as b last (exact x ∷ (map exact xs ++ more)) more (Exactly (x ∷ []) ▸ Exactly xs) (Exactly (x ∷ xs)) nothing_seen (λ at a h. (x ∷ [], xs, h, refl, refl))
-      (gives_then b last (exact x ∷ (map exact xs ++ more)) (map exact xs ++ more) more (Exactly (x ∷ [])) (Exactly xs) nothing_seen nothing_seen (gives_exact b last (map exact xs ++ more) x) (gives_bytes xs more))
+      (gives_then b last (exact x ∷ (map exact xs ++ more)) (map exact xs ++ more) more (Exactly (x ∷ [])) (Exactly xs) nothing_seen nothing_seen
+      (gives_exact b last (map exact xs ++ more) x) (gives_bytes xs more))
 
 rises : (last id : ℕ) → last < id → (nat_lt last id && true && true) ≡ true
 rises last id h = rw (lt-ltb last id h) refl
@@ -192,20 +209,34 @@ step b (elements xs) ss last owed at a c t h r o more =
     let g = more 9 owed r.1 o in
     (g.0, vector b g.0 some_elements ElementOf (seen_element b) 9 last owed owed xs nothing_seen (rises last 9 r.0) (λ end. refl) refl (λ n gs calm x. element_entry b g.0 n gs calm x) at a c t h g.1)
 step b (bodies xs) ss last owed at a c t h r o more =
-    let g = more 10 0 r.1 o.1 in
-    (g.0, vector b g.0 some_bodies BodyOf (seen_body b) 10 last owed 0 xs nothing_seen (rises last 10 r.0) (λ end. ap (λ z. where_true z (some_of some_bodies (length xs) ++ until end ∷ sections 10 0 ∷ [])) (same_number (length xs) owed o.0)) refl (λ n gs calm x. body_entry b g.0 n gs calm x) at a c t h g.1)
+    let g = more 10 0 r.1 o.1 in (
+      g.0,
+      vector b g.0 some_bodies BodyOf (seen_body b) 10 last owed 0 xs nothing_seen (rises last 10 r.0)
+          (λ end. ap (λ z. where_true z (some_of some_bodies (length xs) ++ until end ∷ sections 10 0 ∷ [])) (same_number (length xs) owed o.0)) refl
+          (λ n gs calm x. body_entry b g.0 n gs calm x) at a c t h g.1,
+    )
 step b (segments xs) ss last owed at a c t h r o more =
-    let g = more 11 owed r.1 o.1 in
-    (g.0, vector b g.0 some_segments SegmentOf (seen_segment b) 11 last owed owed xs nothing_seen (free_rises last owed r.0 o.0) (λ end. refl) refl (λ n gs calm x. segment_entry b g.0 n gs calm x) at a c t h g.1)
+    let g = more 11 owed r.1 o.1 in (
+      g.0,
+      vector b g.0 some_segments SegmentOf (seen_segment b) 11 last owed owed xs nothing_seen (free_rises last owed r.0 o.0) (λ end. refl) refl
+          (λ n gs calm x. segment_entry b g.0 n gs calm x) at a c t h g.1,
+    )
 step b (custom name text) ss last owed at a c t h r o more =
     let g = more last owed r o in
     (g.0, named b g.0 last owed name text at a c t h g.1)
 
 file_end : (b : ModuleBounds) (last at : ℕ) (bytes : List ℕ) → bytes ≡ [] → Tells b last (sections last 0 ∷ []) at bytes nothing_seen
 unfolding settled Inside
-file_end b last at bytes e = record { left = sections last 0 ∷ []; settles = refl; inside = (tt, tt); shows = subst (λ z. Shows b at (sections last 0 ∷ []) z (sections last 0 ∷ []) nothing_seen) (sym e) (shows_none refl) }
+file_end b last at bytes e = record {
+  left = sections last 0 ∷ [];
+  settles = refl;
+  inside = (tt, tt);
+  shows =
+      subst (λ z. Shows b at (sections last 0 ∷ []) z (sections last 0 ∷ []) nothing_seen) (sym e) (shows_none refl);
+}
 
-sections_tell : (b : ModuleBounds) (ss : List Section) (last owed at : ℕ) (bytes : List ℕ) → Items SectionOf ss at bytes → Rising last ss → Balanced owed ss → Tell b last owed at bytes (seen_in (seen_section b) ss)
+sections_tell : (b : ModuleBounds) (ss : List Section) (last owed at : ℕ) (bytes : List ℕ) → Items SectionOf ss at bytes → Rising last ss → Balanced owed ss
+    → Tell b last owed at bytes (seen_in (seen_section b) ss)
 sections_tell b [] last owed at bytes h r o = (last, subst (λ z. Tells b last (sections last z ∷ []) at bytes nothing_seen) (sym o) (file_end b last at bytes h))
 sections_tell b (s ∷ ss) last owed at bytes h r o =
     let g = step b s ss last owed at h.0 h.1 (seen_in (seen_section b) ss) h.3 r o (λ k w u v. sections_tell b ss k w (at + length h.0) h.1 h.4 u v) in

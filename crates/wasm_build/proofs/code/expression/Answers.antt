@@ -19,5 +19,6 @@ returns-then-branch-clause-built c =
 pub loop-body-preserved : goal.loop-body-preserved
 loop-body-preserved c = record {
   left = (let h = c.loop-body.invariant.left in let k = c.in_ok-go_on.ensures.left in omega (arith, h, k));
-  running = subst (λ b. Turned (Ok b) c.args.input.now c.go_on.new.levels.items c.go_on.new.body c.go_on.new.input) c.if-branch.false (c.in_ok-go_on.ensures.on c.args.input.now c.loop-body.invariant.running);
+  running = subst (λ b. Turned (Ok b) c.args.input.now c.go_on.new.levels.items c.go_on.new.body c.go_on.new.input) c.if-branch.false
+      (c.in_ok-go_on.ensures.on c.args.input.now c.loop-body.invariant.running);
 }

@@ -2,7 +2,8 @@ use Rattle.wasm_build.proofs.OpenLevels.{turn_else, turn_no_else, no_level}
 use Rattle.wasm_build.proofs.levels.turn.Goals as goal
 
 pub returns-in-None : goal.returns-in-None
-returns-in-None c = turn_no_else c.args.levels.now.items c.pop.new.self.items c.args.body.now c.args.body.now (no_level c.args.levels.now.items c.args.levels.now.len c.args.levels.now.ok.0 c.in-None.ensures.cases.0)
+returns-in-None c = turn_no_else c.args.levels.now.items c.pop.new.self.items c.args.body.now c.args.body.now
+    (no_level c.args.levels.now.items c.args.levels.now.len c.args.levels.now.ok.0 c.in-None.ensures.cases.0)
 
 pub returns-in-Some : goal.returns-in-Some
 returns-in-Some c =

@@ -16,11 +16,13 @@ returns-in-Count c =
 
 pub returns-in-ValueType : goal.returns-in-ValueType
 returns-in-ValueType c =
-    subst (λ g. Noted c.args.bounds.now (shown c.args.bounds.now (goal_of g) (drop 1 c.args.goals.now) c.args.value c.args.at) c.args.marks.now c.note_type.new.self) (sym c.in-ValueType.is) (c.note_type.ensures c.args.bounds.now)
+    subst (λ g. Noted c.args.bounds.now (shown c.args.bounds.now (goal_of g) (drop 1 c.args.goals.now) c.args.value c.args.at) c.args.marks.now c.note_type.new.self) (sym c.in-ValueType.is)
+    (c.note_type.ensures c.args.bounds.now)
 
 pub returns-in-BlockType : goal.returns-in-BlockType
 returns-in-BlockType c =
-    subst (λ g. Noted c.args.bounds.now (shown c.args.bounds.now (goal_of g) (drop 1 c.args.goals.now) c.args.value c.args.at) c.args.marks.now c.note_type-in-BlockType.new.self) (sym c.in-BlockType.is)
+    subst (λ g. Noted c.args.bounds.now (shown c.args.bounds.now (goal_of g) (drop 1 c.args.goals.now) c.args.value c.args.at) c.args.marks.now c.note_type-in-BlockType.new.self)
+    (sym c.in-BlockType.is)
     (c.note_type-in-BlockType.ensures c.args.bounds.now)
 
 pub returns-in-ImportKind : goal.returns-in-ImportKind
@@ -35,4 +37,5 @@ returns-in-Head c =
 
 pub returns-in-Entries : goal.returns-in-Entries
 returns-in-Entries c =
-    subst (λ g. Noted c.args.bounds.now (shown c.args.bounds.now (goal_of g) (drop 1 c.args.goals.now) c.args.value c.args.at) c.args.marks.now c.note_entry.new.marks) (sym c.in-Entries.is) c.note_entry.ensures
+    subst (λ g. Noted c.args.bounds.now (shown c.args.bounds.now (goal_of g) (drop 1 c.args.goals.now) c.args.value c.args.at) c.args.marks.now c.note_entry.new.marks)
+    (sym c.in-Entries.is) c.note_entry.ensures

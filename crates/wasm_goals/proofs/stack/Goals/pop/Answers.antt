@@ -15,7 +15,8 @@ pub invariant_of-self : goal.invariant_of-self
 invariant_of-self c =
     let some = with_end (end_of (goal_of c.in-Some.goal)) c.end_of.result c.end_of.ensures (sym c.is_some.ensures ∙ c.if-is_some.true) in
     let split = ap stack_of c.in-Some.ensures.items ∙ stack_push c.pop.new.self.items c.in-Some.goal in (
-      end_popped (stack_of c.pop.new.self.items) (goal_of c.in-Some.goal) some.0 c.self.inside.ends.items c.pop-then-is_some.new.self.items _ some.1 (ap least_ends (sym split) ∙ c.self.invariant.0) c.self.inside.ends.ok.0 c.pop-then-is_some.ensures.rest,
+      end_popped (stack_of c.pop.new.self.items) (goal_of c.in-Some.goal) some.0 c.self.inside.ends.items c.pop-then-is_some.new.self.items _ some.1 (ap least_ends (sym split)
+          ∙ c.self.invariant.0) c.self.inside.ends.ok.0 c.pop-then-is_some.ensures.rest,
       (level_popped (goal_of c.in-Some.goal) (stack_of c.pop.new.self.items) c.self.inside.codes c.level_of.result (c.self.invariant.1 ∙ ap levels split) c.level_of.ensures).1,
     )
 

@@ -16,8 +16,10 @@ pub invariant_of-self-in-Ok : goal.invariant_of-self-in-Ok
 invariant_of-self-in-Ok c =
     let joined = ap stack_of c.in-Ok.ensures.items ∙ stack_push c.self.inside.stack.items c.args.goal in (
       ap least_ends joined
-          ∙ end_pushed (stack_of c.self.inside.stack.items) (goal_of c.args.goal) c.in-Some.end c.least_with-least.result c.self.inside.ends.items c.push-2.new.self.items (sym c.end_of.ensures ∙ c.in-Some.is) c.self.invariant.0
-          (ap (λ s. lowered (Some c.in-Some.end) (reverse s)) (sym c.deref.ensures.value) ∙ c.least_with-least.ensures ∙ ap (λ s. c.least_with-least.result ∷ reverse s) c.deref.ensures.value) c.in_ok-push-2.ensures.items,
+          ∙ end_pushed (stack_of c.self.inside.stack.items) (goal_of c.args.goal) c.in-Some.end c.least_with-least.result c.self.inside.ends.items c.push-2.new.self.items
+          (sym c.end_of.ensures ∙ c.in-Some.is) c.self.invariant.0
+          (ap (λ s. lowered (Some c.in-Some.end) (reverse s)) (sym c.deref.ensures.value) ∙ c.least_with-least.ensures
+          ∙ ap (λ s. c.least_with-least.result ∷ reverse s) c.deref.ensures.value) c.in_ok-push-2.ensures.items,
       end_pushed_flat (goal_of c.args.goal) (stack_of c.self.inside.stack.items) c.self.inside.codes c.in-Some.end c.self.invariant.1 (sym c.end_of.ensures ∙ c.in-Some.is) ∙ ap levels (sym joined),
     )
 
