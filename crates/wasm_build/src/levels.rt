@@ -34,6 +34,7 @@ pub(crate) struct Level {
 }
 
 /// Opens a construct of this kind and result behind the instructions of a body, and begins its own.
+#[inline(always)]
 pub(crate) fn open(
     alloc: Global,
     levels: &mut Vec<Level>,
@@ -99,6 +100,7 @@ fn turn_level(
 }
 
 /// An end: that of the innermost construct, or of the expression, which the body then is.
+#[inline(always)]
 pub(crate) fn end(
     alloc: Global,
     levels: &mut Vec<Level>,
@@ -113,6 +115,7 @@ pub(crate) fn end(
 }
 
 // Ends a construct whose body this is: it stands behind the instructions before it.
+#[inline(always)]
 fn close(alloc: Global, body: &mut Vec<Instr>, level: Level) -> Result<bool, BuildFault>
     ensures on { IfOk result (λ ended. ended ≡ false) }
     ensures body { OnOk result ((rest : Code) → onto body.new.items rest ≡ onto level.before.items (closed level.opened level.ty (code body.old.items) rest)) }
@@ -125,6 +128,7 @@ fn close(alloc: Global, body: &mut Vec<Instr>, level: Level) -> Result<bool, Bui
 }
 
 // The construct with this body.
+#[inline(always)]
 fn construct(alloc: Global, ty: Option<ValType>, opened: Opened, inner: Vec<Instr>) -> Instr
     ensures { (rest : Code) → in_front result rest ≡ closed opened ty (code inner.items) rest }
 {

@@ -1,13 +1,12 @@
 // Runs of short items, taken at once. They stop before the end of a content.
 ghost use Rattle.std.specs.Prelude.{ℕ, true, false, ◌≡◌, ◌+◌, ◌-◌, ◌*◌, ◌<◌, ◌≤◌, length, take, drop, get_or, IfSome};
 ghost use Rattle.std.specs.Bool.{OnTrue};
-ghost use Rattle.wa_types.specs.Opcodes.{is_block_type, is_float_type, is_value_type};
+ghost use Rattle.wa_types.specs.Opcodes.{is_block_type, is_float_op, is_float_type, is_value_type};
 ghost use Rattle.wasm_goals.specs.Goals.{kind_of};
 ghost use Rattle.wasm_grammar.specs.Passing.{IsShort, AreShort, Passes, Opens, Closes, PassesEntries, IsAlone, PassesRuns, IsShortRun};
 
 use wasm_cursor::{Shape, operand_shape};
 use wasm_goals::Kind;
-use wasm_marks::is_float_op;
 
 // The place behind a number of at most four bytes, which isn't judged: all of its bits are within its width.
 #[inline(always)]
@@ -51,6 +50,21 @@ fn behind_numbers(bytes: &[u8], at: usize, stop: usize) -> Option<usize>
     behind_number(bytes, second, stop)
 }
 
+// Whether this opcode is of no floats. Some rare ones that aren't either are told as if they were, and go item by item.
+#[inline(always)]
+fn is_integer_op(op: u8) -> bool
+    ensures { OnTrue result (is_float_op op ≡ false) }
+{
+    match op {
+        0x00..=0x29 => true,
+        0x2C..=0x37 => true,
+        0x3A..=0x42 => true,
+        0x45..=0x5A => true,
+        0x67..=0x8A => true,
+        _ => false,
+    }
+}
+
 // Where the instruction that begins here ends, if it holds no other and is of no floats, and each of its numbers is short.
 #[inline(always)]
 fn short_end(bytes: &[u8], at: usize, stop: usize) -> Option<usize>
@@ -62,7 +76,7 @@ fn short_end(bytes: &[u8], at: usize, stop: usize) -> Option<usize>
         return None;
     }
     let op = bytes[at];
-    if is_float_op(op as u32) {
+    if !is_integer_op(op) {
         return None;
     }
     match operand_shape(op)? {
